@@ -1,0 +1,71 @@
+-- How an answer is judged: from a check that fails or holds to the answer, and back.
+-- Assumes nothing.
+use Prim.Native.Nat.{ℕ}
+use mathlib.Core.Logic.{_⊎_, inl, inr}
+use mathlib.Core.Path.{_≡_, refl, ap}
+use Rattle.theory.proofs.Terms.{conflict}
+use Rattle.formats.specs.Refusal.{Outcome, accepted, refused, Checks, done, check, Holds, judged, Judged}
+
+module _ {A : Type 0} {Kept : Type 0} {Good : A → Type 0} where
+  -- the first check does not hold
+  pub refuse : {k : ℕ} {P : Type 0} {rest : Checks} → (P → ⊥) → Kept → Judged Kept Good (check k P rest) (refused k)
+  unfolding judged
+  refuse f kept = record { verdict = inl (f, refl, kept) }
+
+  -- it holds, and the others are asked
+  pub pass : {k : ℕ} {P : Type 0} {rest : Checks} {r : Outcome A} → P → Judged Kept Good rest r → Judged Kept Good (check k P rest) r
+  unfolding judged
+  pass p j = record { verdict = inr (p, j .verdict) }
+
+  -- all hold
+  pub accept : {a : A} → Good a → Judged Kept Good done (accepted a)
+  unfolding judged
+  accept g = record { verdict = g }
+
+module _ {A : Type 0} (Kept : Type 0) (Good : A → Type 0) where
+  holds : (checks : Checks) (r : Outcome A) (a : A) → r ≡ accepted a → judged Kept Good checks r → Holds checks × Good a
+  unfolding judged Holds
+  holds done (accepted b) a e j = (tt, let q : b ≡ a = cc in rw (← q) j)
+  holds done (refused k) a e j = absurd j
+  holds (check k P rest) r a e (inl (f, q, kept)) = conflict (cc)
+  holds (check k P rest) r a e (inr (p, j)) = let w = holds rest r a e j in ((p, w .0), w .1)
+
+  fails : (checks : Checks) (r : Outcome A) (k : ℕ) → r ≡ refused k → judged Kept Good checks r → (Holds checks → ⊥) × Kept
+  unfolding judged Holds
+  fails done (accepted b) k e j = conflict (cc)
+  fails done (refused m) k e j = absurd j
+  fails (check m P rest) r k e (inl (f, q, kept)) = ((λ h. f (h .0)), kept)
+  fails (check m P rest) r k e (inr (p, j)) = let w = fails rest r k e j in ((λ h. w .0 (h .1)), w .1)
+
+module _ {A : Type 0} {Kept : Type 0} {Good : A → Type 0} {checks : Checks} where
+  -- what an acceptance says, and what a refusal does
+  pub accepted-holds : {a : A} → Judged Kept Good checks (accepted a) → Holds checks × Good a
+  accepted-holds {a} j = holds Kept Good checks (accepted a) a refl (j .verdict)
+
+  pub refused-fails : {k : ℕ} → Judged {A = A} Kept Good checks (refused k) → (Holds checks → ⊥) × Kept
+  refused-fails {k} j = fails Kept Good checks (refused k) k refl (j .verdict)
+
+-- where all checks hold, the answer is an acceptance
+all-hold : {A : Type 0} (Kept : Type 0) (Good : A → Type 0) (checks : Checks) (r : Outcome A) → Holds checks → judged Kept Good checks r → (a : A) × ((r ≡ accepted a) × Good a)
+unfolding judged Holds
+all-hold Kept Good done (accepted a) h j = (a, (refl, j))
+all-hold Kept Good done (refused k) h j = absurd j
+all-hold Kept Good (check k P rest) r h (inl (f, q, kept)) = absurd (f (h .0))
+all-hold Kept Good (check k P rest) r h (inr (p, j)) = all-hold Kept Good rest r (h .1) j
+
+pub must-accept : {A Kept : Type 0} {Good : A → Type 0} {checks : Checks} {r : Outcome A} → Holds checks → Judged Kept Good checks r → (a : A) × ((r ≡ accepted a) × Good a)
+must-accept {Kept} {Good} {checks} {r} h j = all-hold Kept Good checks r h (j .verdict)
+
+-- a refusal is one whatever the values would be, and whatever it leaves as it was
+module _ {A B : Type 0} (Kept Kept′ : Type 0) (Good : A → Type 0) (Good′ : B → Type 0) (kept : Kept′) (k : ℕ) where
+  same-verdict : (checks : Checks) → judged Kept Good checks (refused k) → judged Kept′ Good′ checks (refused k)
+  unfolding judged
+  same-verdict done j = absurd j
+  same-verdict (check m P rest) (inl (f, q, u)) = inl (f, ap (λ m. refused m) (same-number q), kept)
+    where
+      same-number : {m : ℕ} → _≡_ {A = Outcome A} (refused k) (refused m) → k ≡ m
+      same-number e = cc
+  same-verdict (check m P rest) (inr (p, j)) = inr (p, same-verdict rest j)
+
+pub refused-also : {A B Kept Kept′ : Type 0} {Good : A → Type 0} {Good′ : B → Type 0} {checks : Checks} {k : ℕ} → Kept′ → Judged {A = A} Kept Good checks (refused k) → Judged {A = B} Kept′ Good′ checks (refused k)
+refused-also {A} {B} {Kept} {Kept′} {Good} {Good′} {checks} {k} kept j = record { verdict = same-verdict Kept Kept′ Good Good′ kept k checks (j .verdict) }

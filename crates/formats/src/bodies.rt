@@ -1,0 +1,128 @@
+// The counts and the bodies of a transducer's file: whether they are right, and where each body starts.
+ghost use mathlib.Core.Path.{_≡_};
+ghost use Prim.Native.Nat.{ℕ, _+_, _*_, _≤_, _<_};
+ghost use lib.ListN.{length, getD};
+ghost use Rattle.formats.specs.Inner.Decode.{forest, Whole};
+ghost use Rattle.formats.specs.Inner.Layout.{offset, markOf, Summed, Right, Starts, Laid, Wholes};
+ghost use Rattle.formats.specs.Inner.Marked.{ended, part, Decides};
+use crate::bytes::{number, wide};
+
+// Whether the counts of `bodies` bodies are right, and the marks as many as they say.
+pub fn counts_right(counts: &[u8], bodies: usize, marks: &[u8]) -> bool
+    requires { ⌜ length (now counts) ≡ 2 * bodies ⌝ }
+    ensures { λ b. ⌜ Decides (Summed (now (counts .entry)) (now (marks .entry)) bodies) b ⌝ }
+{
+    let mut sum: usize = 0;
+    let mut j = 0;
+    while j < bodies {
+        let c = 256 * wide(counts[2 * j]) + wide(counts[2 * j + 1]);
+        if c == 0 {
+            return false;
+        }
+        if c > 64 {
+            return false;
+        }
+        sum += c;
+        if sum > 8192 {
+            return false;
+        }
+        j += 1;
+    }
+    marks.len() == 2 * sum
+}
+
+// Notes where each body starts, counted in marks; and where the last one ends.
+pub fn fill_starts(counts: &[u8], bodies: usize, starts: &mut [u16])
+    requires { ⌜ (2 * bodies ≤ length (now counts)) × (bodies < length (now starts)) × (offset (now counts) bodies < 65536) ⌝ }
+    ensures { λ _. ⌜ Starts (now (counts .entry)) (now (starts .exit)) bodies ⌝ }
+{
+    let mut sum: usize = 0;
+    let mut j = 0;
+    starts[0] = 0;
+    while j < bodies {
+        sum += 256 * wide(counts[2 * j]) + wide(counts[2 * j + 1]);
+        j += 1;
+        starts[j] = sum as u16;
+    }
+}
+
+// Where a tree of marks ends, or that there is none.
+pub enum End {
+    At(usize),
+    Bad,
+}
+
+// Reads the tree of marks that begins with mark number `at`, in a body that ends at `to`: `n` states, and calls on `r` children.
+pub fn mark_end(outs: &[u8], n: usize, r: usize, marks: &[u8], at: usize, to: usize) -> End
+    requires { ⌜ 2 * to ≤ length (now marks) ⌝ }
+    ensures { λ e. ⌜ e ≡ ended at (forest (markOf (now (outs .entry)) n r) (part (now (marks .entry)) at to)) ⌝ }
+{
+    if at >= to {
+        return End::Bad;
+    }
+    let i = wide(marks[2 * at]);
+    let x = wide(marks[2 * at + 1]);
+    if i > 0 {
+        if i > r {
+            return End::Bad;
+        }
+        if x >= n {
+            return End::Bad;
+        }
+        return End::At(at + 1);
+    }
+    if x >= outs.len() {
+        return End::Bad;
+    }
+    let mut left = wide(outs[x]);
+    let mut p = at + 1;
+    while left > 0 {
+        match mark_end(outs, n, r, marks, p, to) {
+            End::At(e) => {
+                p = e;
+                left -= 1;
+            }
+            End::Bad => {
+                return End::Bad;
+            }
+        }
+    }
+    End::At(p)
+}
+
+// Whether the marks number `from` up to `to` are one tree.
+fn one_body(outs: &[u8], n: usize, r: usize, marks: &[u8], from: usize, to: usize) -> bool
+    requires { ⌜ (from ≤ to) × (2 * to ≤ length (now marks)) ⌝ }
+    ensures { λ b. ⌜ Decides (Whole (markOf (now (outs .entry)) n r) (part (now (marks .entry)) from to)) b ⌝ }
+{
+    match mark_end(outs, n, r, marks, from, to) {
+        End::At(e) => e == to,
+        End::Bad => false,
+    }
+}
+
+// Whether every body is one tree of known marks.
+pub fn bodies_whole(ins: &[u8], outs: &[u8], n: usize, starts: &[u16], marks: &[u8]) -> bool
+    requires { ⌜ Laid (now ins) n (now starts) (now marks) ⌝ }
+    ensures { λ b. ⌜ Decides (Wholes (now (ins .entry)) (now (outs .entry)) n (λ j. getD (now (starts .entry)) j 0) (now (marks .entry))) b ⌝ }
+{
+    let first = number(starts[1]);
+    if !one_body(outs, n, 1, marks, number(starts[0]), first) {
+        return false;
+    }
+    let mut q = 0;
+    while q < n {
+        let mut a = 0;
+        while a < ins.len() {
+            let b = 1 + q * ins.len() + a;
+            let from = number(starts[b]);
+            let to = number(starts[b + 1]);
+            if !one_body(outs, n, wide(ins[a]), marks, from, to) {
+                return false;
+            }
+            a += 1;
+        }
+        q += 1;
+    }
+    true
+}
