@@ -13,7 +13,7 @@ use borrow.Author.Count.{below-more}
 use borrow.Author.Tests.{eqb-true, eq-eqb}
 use Rattle.theory.proofs.Terms.{conflict}
 use Rattle.formats.specs.Inner.Layout.{offset, body, bodyNumber, bodyCount, countAt, Summed, Right, Starts, Laid, Wholes}
-use Rattle.formats.specs.Inner.Marked.{Decides}
+use Rattle.formats.specs.Refusal.{Decides}
 use Rattle.formats.proofs.Offsets.{offset-grows, offset-next, offset-most}
 use Rattle.formats.proofs.Pairs.{number-less}
 

@@ -4,7 +4,7 @@ use mathlib.Core.Bool.{Bool, true, false, not}
 use mathlib.Core.Path.{_≡_, refl}
 use borrow.Author.Tests.{not-true, not-false}
 use Rattle.theory.proofs.Terms.{conflict}
-use Rattle.formats.specs.Inner.Marked.{Decides}
+use Rattle.formats.specs.Refusal.{Decides}
 
 -- what does not hold, what holds, and what holds exactly if something decided does
 pub decides-no : {P : Type 0} → (P → ⊥) → Decides P false

@@ -15,7 +15,8 @@ use Rattle.theory.specs.Term.{Terms, none, more, count}
 use Rattle.theory.proofs.Terms.{conflict}
 use Rattle.formats.specs.Inner.Decode.{letters, lettersAll, Letter, call, symbol, unknown, firsts, grown, put, forest, Whole}
 use Rattle.formats.specs.Inner.Layout.{symbolOf, markOf, pairs, body, bodyNumber, bodyCount, Laid}
-use Rattle.formats.specs.Inner.Marked.{ended, part, Decides}
+use Rattle.formats.specs.Inner.Marked.{ended, part}
+use Rattle.formats.specs.Refusal.{Decides}
 use Rattle.formats.specs.declared.bodies.End.{End}
 use Rattle.formats.specs.declared.bodies.End.the-variants.{At, Bad}
 use Rattle.formats.proofs.Forest.{first-tree, letters-pos}

@@ -1,19 +1,20 @@
 -- The file of a transducer: from its parts to the bytes and back. An accepted file is the code of one transducer.
 -- Assumes nothing.
 use Prim.Native.Nat.{ℕ, _+_, _*_, _≤_, _<_}
+use native.Mathlib.Nat.{mul-le-mul}
 use native.Mathlib.Numerals.{one-add}
 use native.Mathlib.Omega.{arith}
 use mathlib.Core.Logic.{_↔_}
 use mathlib.Core.List.{List, []}
 use mathlib.Core.Path.{_≡_, refl, sym, ap, _∙_}
-use lib.ListN.{length, getD, take, drop}
+use lib.ListN.{length, getD, take, drop, length-append}
 use lib.Seq.{take-at, drop-at}
 use Rattle.theory.specs.Term.{Term}
 use Rattle.theory.specs.Transducer.{Transducer}
 use Rattle.formats.specs.Code.{Ranked, Mark, marks, Call}
 use Rattle.formats.specs.Inner.Decode.{forest, first, Whole}
 use Rattle.formats.specs.Inner.Layout.{pairs, offset, countAt, markOf, body, bodyNumber, bodyCount, transducer, Right, Wholes}
-use Rattle.formats.specs.Sheet.{countBytes, bodyBytes, Contents, Counted, OverAlphabets, bodiesOf, terms, Encodes, file, Sheet}
+use Rattle.formats.specs.Sheet.{longest, countBytes, bodyBytes, Contents, Counted, OverAlphabets, bodiesOf, terms, Encodes, file, Sheet}
 use Rattle.formats.proofs.Codes.{reads-back, unique, exactly}
 use Rattle.formats.proofs.Letters.{faithful-marks, over-term, ranked-term}
 use Rattle.formats.proofs.Pairs.{number-less}
@@ -44,6 +45,12 @@ contents-right ins n bs h C =
 -- the counts and marks of some bodies are right
 pub counted-right : (ins : List ℕ) (n : ℕ) (counts bytes : List ℕ) → length ins ≤ 16 → Counted (length ins) n counts bytes → Right ins n counts bytes
 counted-right ins n counts bytes h C = rw (← C .counts-coded, ← C .marks-coded) (contents-right ins n (C .parts) h (C .contents))
+
+-- a file within the limits is at most 20,483 bytes long
+pub file-short : (ins : List ℕ) (n : ℕ) (counts bytes : List ℕ) → length ins ≤ 16 → Counted (length ins) n counts bytes → length (file n counts bytes) ≤ longest
+file-short ins n counts bytes h C =
+    let R = counted-right ins n counts bytes h C in
+    omega (arith, length-append counts bytes, R .long, R .sums .all, R .sums .few, mul-le-mul (R .states) h)
 
 -- right counts and marks are those of some bodies: the marks, cut by the counts
 pub right-counted : (ins : List ℕ) (n : ℕ) (counts bytes : List ℕ) → Right ins n counts bytes → Counted (length ins) n counts bytes

@@ -22,7 +22,7 @@ use Rattle.formats.specs.declared.file.FileWritten.the-variants.{Bytes}
 use Rattle.formats.specs.declared.refusal.Refusal.{Refusal}
 use Rattle.formats.specs.declared.refusal.Refusal.the-variants.{BadContents, BadBody}
 use Rattle.formats.proofs.Judging.{refuse, pass, accept, accepted-holds, refused-fails, refused-also}
-use Rattle.formats.proofs.Sheets.{counted-right, right-counted, encodes-wholes, wholes-encodes, encodes-counted, parts-at}
+use Rattle.formats.proofs.Sheets.{counted-right, right-counted, encodes-wholes, file-short, wholes-encodes, encodes-counted, parts-at}
 
 -- ---- N, counts and marks
 -- ins and outs are the ranks in the stock
@@ -171,8 +171,8 @@ module _ (stock : List ℕ) (n : ℕ) (counts bytes : List ℕ) (A : Alphabets s
     pub file-fits : (m ≤ 255) × (1 + length counts + length bytes ≤ longest)
     file-fits =
         let w = judged-parts .1 in
-        let R = counted-right (inputs stock) n counts bytes (A .ins .few) (encodes-counted (inputs stock) (outputs stock) n counts bytes (w .1 .0) (w .1 .1)) in
-        (omega (arith, w .0, R .states), omega (arith, R .long, R .sums .all, R .sums .few, few-bodies A refl (R .states)))
+        let C = encodes-counted (inputs stock) (outputs stock) n counts bytes (w .1 .0) (w .1 .1) in
+        (omega (arith, w .0, C .contents .states), omega (arith, file-short (inputs stock) n counts bytes (A .ins .few) C, length-append counts bytes))
 
     pub file-written : {before after : List ℕ} {k : ℕ} → longest ≤ length before → Put (file m counts bytes) before after k → WritesFile stock n counts bytes before after (Bytes k)
     unfolding Holds

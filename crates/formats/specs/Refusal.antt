@@ -1,5 +1,6 @@
 -- How an entry point answers: the first of its checks that does not hold refuses, by that check's number in document 01's table.
 use Prim.Native.Nat.{ℕ}
+use mathlib.Core.Bool.{Bool, true}
 use mathlib.Core.List.{List, []}
 use mathlib.Core.Logic.{_⊎_}
 use mathlib.Core.Path.{_≡_}
@@ -46,3 +47,8 @@ pub record Judged {A : Type 0} (Kept : Type 0) (Good : A → Type 0) (checks : C
 -- a part that is handed out: where all checks hold, one that is Good; else an empty one
 abbrev pub Handed : (List ℕ → Type 0) → Checks → List ℕ → Type 0
 Handed Good checks part = (Holds checks × Good part) ⊎ ((Holds checks → ⊥) × (part ≡ []))
+
+-- the answer of a yes-or-no question: b says whether P holds
+pub record Decides (P : Type 0) (b : Bool) : Type 0 where
+  pub sound : b ≡ true → P
+  pub complete : P → b ≡ true

@@ -4,7 +4,7 @@ ghost use Prim.Native.Nat.{ℕ, _<_, _≤_};
 ghost use lib.ListN.{length, getD};
 ghost use Rattle.formats.specs.Alphabets.{Ranks, Leaf, Alphabets, inputs, outputs};
 ghost use Rattle.formats.specs.Answers.{ReadsAlphabets};
-ghost use Rattle.formats.specs.Inner.Marked.{Decides};
+ghost use Rattle.formats.specs.Refusal.{Decides};
 use crate::bytes::wide;
 use crate::refusal::Refusal;
 

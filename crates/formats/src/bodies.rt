@@ -4,7 +4,8 @@ ghost use Prim.Native.Nat.{ℕ, _+_, _*_, _≤_, _<_};
 ghost use lib.ListN.{length, getD};
 ghost use Rattle.formats.specs.Inner.Decode.{forest, Whole};
 ghost use Rattle.formats.specs.Inner.Layout.{offset, markOf, Summed, Right, Starts, Laid, Wholes};
-ghost use Rattle.formats.specs.Inner.Marked.{ended, part, Decides};
+ghost use Rattle.formats.specs.Inner.Marked.{ended, part};
+ghost use Rattle.formats.specs.Refusal.{Decides};
 use crate::bytes::{number, wide};
 
 // Whether the counts of `bodies` bodies are right, and the marks as many as they say.

@@ -1,8 +1,6 @@
 -- Reading the marks of a body: where a tree of marks ends, counted in marks, and whether a body is one tree.
 use Prim.Native.Nat.{ℕ, _+_}
-use mathlib.Core.Bool.{Bool, true}
 use mathlib.Core.List.{List}
-use mathlib.Core.Path.{_≡_}
 use lib.Seq.{slice}
 use Rattle.theory.specs.Term.{Terms, none, more}
 use Rattle.formats.specs.Inner.Decode.{letters}
@@ -18,8 +16,3 @@ ended at (more t ts) = At (at + letters t)
 -- the marks number from up to to
 abbrev pub part : List ℕ → ℕ → ℕ → List (ℕ × ℕ)
 part bytes from to = slice from to (pairs bytes)
-
--- b says whether P holds
-pub record Decides (P : Type 0) (b : Bool) : Type 0 where
-  pub sound : b ≡ true → P
-  pub complete : P → b ≡ true

@@ -1,0 +1,2 @@
+// What is done with one transducer: the linear test, translation, and the symbol at an address of the output.
+pub mod linear;

@@ -1,0 +1,79 @@
+// Whether a transducer is linear (01: a single sheet).
+ghost use mathlib.Core.Path.{_≡_};
+ghost use Prim.Native.Nat.{ℕ, _+_, _*_, _<_, _≤_};
+ghost use lib.ListN.{length, getD};
+ghost use Rattle.formats.specs.Inner.Marked.{part};
+ghost use Rattle.formats.specs.Refusal.{Decides};
+ghost use Rattle.formats.specs.Inner.Layout.{Laid};
+ghost use Rattle.transducer.specs.Answers.{TestsLinear};
+ghost use Rattle.transducer.specs.Inner.Uses.{Once, AllOnce, Low};
+use formats::alphabet::input_ranks;
+use formats::bodies::fill_starts;
+use formats::bytes::{number, wide};
+use formats::file::{read_transducer, transducer_counts, transducer_marks, FileRead};
+use formats::refusal::Refusal;
+
+// Whether the transducer is linear, or the refusal.
+pub enum LinearTest {
+    Linear,
+    NotLinear,
+    Refused(Refusal),
+}
+
+// Whether no child is called twice in the marks number `from` up to `to`.
+fn calls_once(marks: &[u8], from: usize, to: usize) -> bool
+    requires { ⌜ (from ≤ to) × (2 * to ≤ length (now marks)) × Low (part (now marks) from to) ⌝ }
+    ensures { λ b. ⌜ Decides (Once (part (now (marks .entry)) from to)) b ⌝ }
+{
+    let mut seen = [false; 5];
+    let mut j = from;
+    while j < to {
+        let i = wide(marks[2 * j]);
+        if i > 0 {
+            if seen[i] {
+                return false;
+            }
+            seen[i] = true;
+        }
+        j += 1;
+    }
+    true
+}
+
+// Whether that holds of every body.
+fn all_once(bodies: usize, starts: &[u16], marks: &[u8]) -> bool
+    requires { ⌜ bodies < length (now starts) ⌝ }
+    ensures { λ b. ⌜ Decides (AllOnce bodies (λ j. getD (now (starts .entry)) j 0) (now (marks .entry))) b ⌝ }
+{
+    let mut j = 0;
+    while j < bodies {
+        let from = number(starts[j]);
+        let to = number(starts[j + 1]);
+        if !calls_once(marks, from, to) {
+            return false;
+        }
+        j += 1;
+    }
+    true
+}
+
+// Tests the transducer of the file, as it is read: the states that are not reached count too.
+pub fn is_linear(stock: &[u8], sheet: &[u8]) -> LinearTest
+    ensures { λ r. ⌜ TestsLinear (now (stock .entry)) (now (sheet .entry)) r ⌝ }
+{
+    match read_transducer(stock, sheet) {
+        FileRead::States(n) => {
+            let counts = transducer_counts(stock, sheet);
+            let marks = transducer_marks(stock, sheet);
+            let bodies = 1 + n * input_ranks(stock).len();
+            let mut starts = [0u16; 2050];
+            fill_starts(counts, bodies, &mut starts);
+            if all_once(bodies, &starts, marks) {
+                LinearTest::Linear
+            } else {
+                LinearTest::NotLinear
+            }
+        }
+        FileRead::Refused(r) => LinearTest::Refused(r),
+    }
+}
