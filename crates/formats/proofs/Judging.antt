@@ -56,16 +56,21 @@ all-hold Kept Good (check k P rest) r h (inr (p, j)) = all-hold Kept Good rest r
 pub must-accept : {A Kept : Type 0} {Good : A → Type 0} {checks : Checks} {r : Outcome A} → Holds checks → Judged Kept Good checks r → (a : A) × ((r ≡ accepted a) × Good a)
 must-accept {Kept} {Good} {checks} {r} h j = all-hold Kept Good checks r h (j .verdict)
 
--- a refusal is one whatever the values would be, and whatever it leaves as it was
-module _ {A B : Type 0} (Kept Kept′ : Type 0) (Good : A → Type 0) (Good′ : B → Type 0) (kept : Kept′) (k : ℕ) where
-  same-verdict : (checks : Checks) → judged Kept Good checks (refused k) → judged Kept′ Good′ checks (refused k)
+-- checks, and others behind them
+abbrev pub behind : Checks → Checks → Checks
+behind done rest = rest
+behind (check k P checks) rest = check k P (behind checks rest)
+
+-- a refusal is one whatever the values would be, whatever it leaves as it was, and whatever would have been asked behind
+module _ {A B : Type 0} (Kept Kept′ : Type 0) (Good : A → Type 0) (Good′ : B → Type 0) (kept : Kept′) (k : ℕ) (rest : Checks) where
+  same-verdict : (checks : Checks) → judged Kept Good checks (refused k) → judged Kept′ Good′ (behind checks rest) (refused k)
   unfolding judged
   same-verdict done j = absurd j
-  same-verdict (check m P rest) (inl (f, q, u)) = inl (f, ap (λ m. refused m) (same-number q), kept)
+  same-verdict (check m P checks) (inl (f, q, u)) = inl (f, ap (λ m. refused m) (same-number q), kept)
     where
       same-number : {m : ℕ} → _≡_ {A = Outcome A} (refused k) (refused m) → k ≡ m
       same-number e = cc
-  same-verdict (check m P rest) (inr (p, j)) = inr (p, same-verdict rest j)
+  same-verdict (check m P checks) (inr (p, j)) = inr (p, same-verdict checks j)
 
-pub refused-also : {A B Kept Kept′ : Type 0} {Good : A → Type 0} {Good′ : B → Type 0} {checks : Checks} {k : ℕ} → Kept′ → Judged {A = A} Kept Good checks (refused k) → Judged {A = B} Kept′ Good′ checks (refused k)
-refused-also {A} {B} {Kept} {Kept′} {Good} {Good′} {checks} {k} kept j = record { verdict = same-verdict Kept Kept′ Good Good′ kept k checks (j .verdict) }
+pub refused-early : {A B Kept Kept′ : Type 0} {Good : A → Type 0} {Good′ : B → Type 0} (checks rest : Checks) {k : ℕ} → Kept′ → Judged {A = A} Kept Good checks (refused k) → Judged {A = B} Kept′ Good′ (behind checks rest) (refused k)
+refused-early {Kept} {Kept′} {Good} {Good′} checks rest {k} kept j = record { verdict = same-verdict Kept Kept′ Good Good′ kept k rest checks (j .verdict) }

@@ -21,7 +21,7 @@ use Rattle.formats.specs.declared.file.FileWritten.the-variants as writi
 use Rattle.formats.specs.declared.file.FileWritten.the-variants.{Bytes}
 use Rattle.formats.specs.declared.refusal.Refusal.{Refusal}
 use Rattle.formats.specs.declared.refusal.Refusal.the-variants.{BadContents, BadBody}
-use Rattle.formats.proofs.Judging.{refuse, pass, accept, accepted-holds, refused-fails, refused-also}
+use Rattle.formats.proofs.Judging.{refuse, pass, accept, accepted-holds, refused-fails, refused-early}
 use Rattle.formats.proofs.Sheets.{counted-right, right-counted, encodes-wholes, file-short, wholes-encodes, encodes-counted, parts-at}
 
 -- ---- N, counts and marks
@@ -181,4 +181,4 @@ module _ (stock : List ℕ) (n : ℕ) (counts bytes : List ℕ) (A : Alphabets s
         pass h (pass A (pass (w .0 .0) (pass (w .0 .1 .0) (accept (P .size, P .wrote ∙ ap (λ k. sets before 0 (file k counts bytes)) (w .1 .0))))))
 
   pub not-written : {before : List ℕ} (x : Refusal) → r ≡ Refused x → longest ≤ length before → WritesFile stock n counts bytes before before (writing.Refused x)
-  not-written x e h = pass h (pass A (refused-also refl (rw e at J)))
+  not-written x e h = pass h (pass A (refused-early (partsCheck stock n counts bytes done) done refl (rw e at J)))

@@ -26,7 +26,7 @@ pub enum FileWritten {
 }
 
 // Where the counts end in a file with n states.
-fn counts_end(stock: &[u8], n: usize) -> usize
+pub fn counts_end(stock: &[u8], n: usize) -> usize
     requires { ⌜ Alphabets (now stock) × (n ≤ 255) ⌝ }
     ensures { λ r. ⌜ r ≡ 1 + 2 * bodyCount (inputs (now (stock .entry))) n ⌝ }
 {

@@ -1,2 +1,4 @@
 // What is done with one transducer: the linear test, translation, and the symbol at an address of the output.
+pub mod address;
 pub mod linear;
+pub mod translate;

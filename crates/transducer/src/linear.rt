@@ -1,12 +1,10 @@
 // Whether a transducer is linear (01: a single sheet).
-ghost use mathlib.Core.Path.{_≡_};
-ghost use Prim.Native.Nat.{ℕ, _+_, _*_, _<_, _≤_};
+ghost use Prim.Native.Nat.{_*_, _≤_};
 ghost use lib.ListN.{length, getD};
 ghost use Rattle.formats.specs.Inner.Marked.{part};
 ghost use Rattle.formats.specs.Refusal.{Decides};
-ghost use Rattle.formats.specs.Inner.Layout.{Laid};
 ghost use Rattle.transducer.specs.Answers.{TestsLinear};
-ghost use Rattle.transducer.specs.Inner.Uses.{Once, AllOnce, Low};
+ghost use Rattle.transducer.specs.Inner.Uses.{Once, Low, AllOnce, LowBodies};
 use formats::alphabet::input_ranks;
 use formats::bodies::fill_starts;
 use formats::bytes::{number, wide};
@@ -22,7 +20,7 @@ pub enum LinearTest {
 
 // Whether no child is called twice in the marks number `from` up to `to`.
 fn calls_once(marks: &[u8], from: usize, to: usize) -> bool
-    requires { ⌜ (from ≤ to) × (2 * to ≤ length (now marks)) × Low (part (now marks) from to) ⌝ }
+    requires { ⌜ (2 * to ≤ length (now marks)) × Low (part (now marks) from to) ⌝ }
     ensures { λ b. ⌜ Decides (Once (part (now (marks .entry)) from to)) b ⌝ }
 {
     let mut seen = [false; 5];
@@ -42,7 +40,7 @@ fn calls_once(marks: &[u8], from: usize, to: usize) -> bool
 
 // Whether that holds of every body.
 fn all_once(bodies: usize, starts: &[u16], marks: &[u8]) -> bool
-    requires { ⌜ bodies < length (now starts) ⌝ }
+    requires { ⌜ LowBodies bodies (now starts) (now marks) ⌝ }
     ensures { λ b. ⌜ Decides (AllOnce bodies (λ j. getD (now (starts .entry)) j 0) (now (marks .entry))) b ⌝ }
 {
     let mut j = 0;

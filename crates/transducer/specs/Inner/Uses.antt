@@ -1,5 +1,5 @@
 -- The children that are called in a list of marks.
-use Prim.Native.Nat.{ℕ, suc, _+_, _<_, _≤_}
+use Prim.Native.Nat.{ℕ, _+_, _*_, _<_, _≤_}
 use mathlib.Core.List.{List, [], _∷_}
 use lib.Dec.{eqb}
 use lib.ListN.{length, getD}
@@ -17,9 +17,16 @@ abbrev pub Once : List Mark → Type 0
 Once ms = (i : ℕ) → 1 ≤ i → uses i ms ≤ 1
 
 -- children are numbered to 4
-abbrev pub Low : List Mark → Type 0
-Low ms = (j : ℕ) → j < length ms → getD ms j (0, 0) .0 ≤ 4
+unfoldable pub Low : List Mark → Type 0
+Low [] = Unit {0}
+Low (m ∷ ms) = (m .0 ≤ 4) × Low ms
 
--- that holds of each body below m
+-- each of m bodies calls no child twice
 abbrev pub AllOnce : ℕ → (ℕ → ℕ) → List ℕ → Type 0
 AllOnce m start bytes = (j : ℕ) → j < m → Once (body start bytes j)
+
+-- m bodies lie where the table of starts says, and their calls are on children to 4
+pub record LowBodies (m : ℕ) (starts bytes : List ℕ) : Type 0 where
+  pub long : m < length starts
+  pub inside : (j : ℕ) → j ≤ m → 2 * getD starts j 0 ≤ length bytes
+  pub low : (j : ℕ) → j < m → Low (body (λ j. getD starts j 0) bytes j)

@@ -1,0 +1,59 @@
+-- `samples::trees::fill_comb` is safe and ends. The invariant says nothing: the test keeps j below 455. The measure is what is left of the turns.
+-- Assumes nothing.
+use Prim.Native.Nat.{_-_}
+use borrow.Author.Needs.{needs}
+use Rattle.samples.proofs.trees.fill_comb.Statement.{statement}
+use Rattle.samples.proofs.trees.fill_comb.Tie as tie
+
+abbrev Inv-loop : tie.InvT-loop
+Inv-loop s₀ j₀ s j = Unit
+
+abbrev μ-loop : tie.MeasureT-loop
+μ-loop s₀ j₀ s j = 455 - j
+
+loop-holds : tie.Need-loop-holds Inv-loop μ-loop
+loop-holds c = search needs
+
+mul-s : tie.Need-mul-s Inv-loop μ-loop
+mul-s c = search needs
+
+element-write-s : tie.Need-element-write-s Inv-loop μ-loop
+element-write-s c = search needs
+
+mul-s-2 : tie.Need-mul-s-2 Inv-loop μ-loop
+mul-s-2 c = search needs
+
+add-s : tie.Need-add-s Inv-loop μ-loop
+add-s c = search needs
+
+element-write-s-2 : tie.Need-element-write-s-2 Inv-loop μ-loop
+element-write-s-2 c = search needs
+
+add-j : tie.Need-add-j Inv-loop μ-loop
+add-j c = search needs
+
+loop-less : tie.Need-loop-less Inv-loop μ-loop
+loop-less c = search needs
+
+loop-again : tie.Need-loop-again Inv-loop μ-loop
+loop-again c = search needs
+
+returns : tie.Need-returns Inv-loop μ-loop
+returns c = search needs
+
+pub fill-comb-spec : {M : Type 1} → statement M
+fill-comb-spec =
+    tie.close
+    (tie.spec
+    Inv-loop
+    μ-loop
+    loop-holds
+    mul-s
+    element-write-s
+    mul-s-2
+    add-s
+    element-write-s-2
+    add-j
+    loop-less
+    loop-again
+    returns)

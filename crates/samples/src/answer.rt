@@ -1,0 +1,121 @@
+// One answer, printed as a line: the sample's name, then what the library said.
+ghost use mathlib.Core.Path.{_≡_};
+ghost use Rattle.formats.specs.Refusal as refusals;
+use formats::alphabet::AlphabetsRead;
+use formats::bytes::wide;
+use formats::file::FileRead;
+use formats::file::FileWritten;
+use formats::refusal::Refusal;
+use formats::tree::TreeRead;
+use libc::STDOUT_FILENO;
+
+// The number of a refusal in document 01's table.
+fn number_of(r: Refusal) -> u64
+    ensures { λ n. ⌜ n ≡ refusals.number r ⌝ }
+{
+    match r {
+        Refusal::ShortArea => 1,
+        Refusal::BadAlphabets => 2,
+        Refusal::BadTree => 3,
+        Refusal::BadContents => 4,
+        Refusal::BadBody => 5,
+        Refusal::LongOutput => 6,
+        Refusal::OverLimits => 7,
+        Refusal::FullRegistry => 8,
+        Refusal::BadRegistry => 9,
+    }
+}
+
+fn text(s: &[u8]) {
+    io::write_all(STDOUT_FILENO, s);
+}
+
+fn number(n: usize) {
+    io::print_decimal(STDOUT_FILENO, n as u64);
+}
+
+// The end of a line that gives two numbers, each after its name.
+fn two(first: &[u8], m: usize, second: &[u8], n: usize) {
+    text(first);
+    number(m);
+    text(second);
+    number(n);
+    text(b"\n");
+}
+
+fn one(name: &[u8], n: usize) {
+    text(name);
+    number(n);
+    text(b"\n");
+}
+
+fn refused(r: Refusal) {
+    text(b"refused ");
+    io::print_decimal(STDOUT_FILENO, number_of(r));
+    text(b"\n");
+}
+
+// What reading two alphabets answered.
+pub(crate) fn alphabets(name: &[u8], a: AlphabetsRead) {
+    text(name);
+    match a {
+        AlphabetsRead::Symbols(ins, outs) => two(b"part kinds ", ins, b", block kinds ", outs),
+        AlphabetsRead::Refused(r) => refused(r),
+    }
+}
+
+// What reading an input tree answered.
+pub(crate) fn tree(name: &[u8], a: TreeRead) {
+    text(name);
+    match a {
+        TreeRead::Tree(nodes, levels) => two(b"parts ", nodes, b", levels ", levels),
+        TreeRead::Refused(r) => refused(r),
+    }
+}
+
+// What reading a transducer answered.
+pub(crate) fn transducer(name: &[u8], a: FileRead) {
+    text(name);
+    match a {
+        FileRead::States(n) => one(b"passes ", n),
+        FileRead::Refused(r) => refused(r),
+    }
+}
+
+// What writing a transducer answered.
+pub(crate) fn written(name: &[u8], a: FileWritten) {
+    text(name);
+    match a {
+        FileWritten::Bytes(n) => one(b"bytes ", n),
+        FileWritten::Refused(r) => refused(r),
+    }
+}
+
+// Bytes in decimal, each after a space.
+pub(crate) fn bytes(name: &[u8], s: &[u8]) {
+    text(name);
+    let mut k = 0;
+    while k < s.len() {
+        text(b" ");
+        number(wide(s[k]));
+        k += 1;
+    }
+    text(b"\n");
+}
+
+// The first n of these bytes, or all where there are fewer.
+pub(crate) fn start(name: &[u8], s: &[u8], n: usize) {
+    if n < s.len() {
+        bytes(name, &s[0..n]);
+    } else {
+        bytes(name, s);
+    }
+}
+
+// A part that was handed out: its length, and its bytes.
+pub(crate) fn part(name: &[u8], s: &[u8]) {
+    text(name);
+    text(b"bytes ");
+    number(s.len());
+    bytes(b":", s);
+}

@@ -1,0 +1,138 @@
+-- From the parts of a file to what the translation asks, and to what it answers.
+-- Assumes nothing.
+use Prim.Native.Nat.{ℕ, _+_, _-_, _*_, _≤_, _<_}
+use native.Mathlib.Nat.{zero-add}
+use native.Mathlib.Omega.{arith}
+use mathlib.Core.List.{List}
+use mathlib.Core.Logic.{inl, inr}
+use mathlib.Core.Path.{_≡_, refl, sym, ap, ap₂, _∙_}
+use lib.ListN.{length, getD}
+use lib.Seq.{sets, slice, length-slice}
+use Rattle.theory.specs.Size.{size}
+use Rattle.theory.specs.Term.{Tree}
+use Rattle.theory.specs.Transducer.{translate}
+use Rattle.formats.specs.Alphabets.{inputs, outputs}
+use Rattle.formats.specs.Code.{code}
+use Rattle.formats.specs.Inner.Layout.{trees, tree, IsTree, pairs, markAt, offset, body, bodyCount, transducer, Right, Starts, Wholes}
+use Rattle.formats.specs.Inner.Measured.{Ends, WholeTree, MeasuredAll}
+use Rattle.formats.specs.Refusal.{done as no-more, check, judged, Judged, Holds}
+use Rattle.formats.specs.Tree.{InputTree, treeCheck}
+use Rattle.formats.specs.declared.refusal.Refusal.the-variants.{BadTree, LongOutput}
+use Rattle.formats.specs.declared.tree.Extent.{Extent}
+use Rattle.formats.specs.declared.tree.Extent.the-variants as extent
+use Rattle.formats.proofs.Counts.{few-bodies, laid}
+use Rattle.formats.proofs.Judging.{refuse, pass, accept}
+use Rattle.formats.proofs.Offsets.{offset-most}
+use Rattle.formats.proofs.Pairs.{pairs-length, getD-slice}
+use Rattle.formats.proofs.Sheets.{counted-right, encodes-counted, encodes-wholes, wholes-encodes}
+use Rattle.formats.proofs.Trees.{whole-input, measured-none}
+use Rattle.transducer.specs.Answers.{translated, roomCheck, Translates}
+use Rattle.transducer.specs.Output.{Output}
+use Rattle.transducer.specs.Inner.Machine.{Machine, OutputBy, TranslatesBy}
+use Rattle.transducer.specs.Inner.Written.{walked, Callable, Input, Walkable, Emitted}
+use Rattle.transducer.specs.declared.translate.Translation.{Translation}
+use Rattle.transducer.specs.declared.translate.Translation.the-variants.{Symbols, Refused}
+use Rattle.transducer.proofs.Meaning.{Bodies, body-read, table, translate-walked}
+use Rattle.transducer.proofs.Opening.{Opened, opened-sheet}
+use Rattle.transducer.proofs.Outputs.{output-unique, from-parts, to-parts, code-size}
+
+-- ---- the initial term over the whole input tree
+module _ {ins outs : List ℕ} {n : ℕ} {counts bytes : List ℕ} (starts : List ℕ) (R : Right ins n counts bytes) (W : Wholes ins outs n (offset counts) bytes) (S : Starts counts starts (bodyCount ins n)) (long : length starts ≡ 2050) where
+  pub bodies : Bodies ins outs n counts bytes
+  bodies = record { wholes = W; inside = omega (arith, R .sums .all) }
+
+  callable-initial : (j : ℕ) → j < offset counts 1 → Callable n 1 (markAt bytes j)
+  unfolding body offset
+  callable-initial j h =
+      let t = offset counts 1 in
+      let inside = pairs-length bytes t (omega (arith, R .sums .all, offset-most counts 1 (bodyCount ins n) (omega arith))) in
+      let less : j < length (slice 0 t (pairs bytes)) = omega (arith, length-slice 0 t (pairs bytes) inside) in
+      let d = getD-slice 0 t j (pairs bytes) inside less in
+      let c : Callable n 1 (getD (slice 0 t (pairs bytes)) j (0, 0)) = body-read outs n 1 (body (offset counts) bytes 0) (W .initial) .callable j less in
+      rw (← zero-add j, ← d .1) c
+
+  -- it can be walked, and gives the code of the translation
+  pub walkable : (s ends : List ℕ) (to : ℕ) → to ≡ getD starts 1 0 → IsTree ins s → Input ins s ends → Walkable ins starts bytes s ends 0 to 0
+  unfolding body trees offset table
+  walkable s ends to e T I =
+      let L = laid starts R S long in
+      let y = S 1 (omega arith) in
+      record {
+        table = table ins outs n counts bytes starts bodies (L .long) S;
+        input = I;
+        ordered = omega arith;
+        inside = omega (arith, L .inside 1 (omega arith));
+        callable = λ j h k. rw (T .one) (callable-initial j (omega arith));
+      }
+
+  pub gives : (s : List ℕ) (to : ℕ) → to ≡ getD starts 1 0 → IsTree ins s → walked ins starts bytes s 0 0 to ≡ code (translate (transducer ins outs n (offset counts) bytes) (tree ins s))
+  unfolding offset
+  gives s to e T = sym (translate-walked ins outs n counts bytes starts bodies (laid starts R S long .long) S s T ∙ ap₂ (walked ins starts bytes s 0) (S 0 (omega arith)) (sym e))
+
+-- ---- the parts of a file; ins are the ranks in the stock
+module _ {stock : List ℕ} {n : ℕ} {counts bytes : List ℕ} (X : Machine stock n counts bytes) where
+  pub machine-right : Right (inputs stock) n counts bytes
+  machine-right = counted-right (inputs stock) n counts bytes (X .alphabets .ins .few) (encodes-counted (inputs stock) (outputs stock) n counts bytes (X .machine) (X .encodes))
+
+  machine-wholes : Wholes (inputs stock) (outputs stock) n (offset counts) bytes
+  machine-wholes = encodes-wholes (inputs stock) (outputs stock) n counts bytes (X .machine) (X .encodes)
+
+  -- what it takes to find the starts of the bodies
+  pub starts-fit : {ins : List ℕ} → ins ≡ inputs stock → (2 * bodyCount ins n ≤ length counts) × (bodyCount ins n < 2050) × (offset counts (bodyCount ins n) < 65536)
+  starts-fit e = let R = machine-right in rw e (omega (arith, R .long), few-bodies R, omega (arith, R .sums .few))
+
+  -- the output, by the transducer that is read from the parts
+  pub output-read : (s : List ℕ) → WholeTree (inputs stock) s → OutputBy stock n counts bytes s (translate (transducer (inputs stock) (outputs stock) n (offset counts) bytes) (tree (inputs stock) s))
+  output-read s T = record { machine = transducer (inputs stock) (outputs stock) n (offset counts) bytes; input = tree (inputs stock) s; encodes = wholes-encodes (inputs stock) (outputs stock) n counts bytes machine-right machine-wholes; is-tree = whole-input T; given = refl }
+
+  module _ {ins : List ℕ} (e : ins ≡ inputs stock) {s ends : List ℕ} {r : Extent} (M : MeasuredAll ins s ends r) where
+    pub not-tree : {before : List ℕ} → r ≡ extent.Bad → TranslatesBy stock n counts bytes s before before (Refused BadTree)
+    not-tree q = refuse (measured-none (rw e at M) q) refl
+
+    module _ {d l : ℕ} (q : r ≡ extent.Tree d l) where
+      pub read-whole : WholeTree (inputs stock) s
+      read-whole = rw e at (M .whole d l q .0)
+
+      pub read-input : length ends ≡ 4096 → Input (inputs stock) s ends
+      unfolding trees
+      read-input h = record { whole = read-whole .one .all; long = omega (arith, read-whole .small); right = rw e at (M .ends d l q) }
+
+      module _ (starts : List ℕ) (S : Starts counts starts (bodyCount ins n)) (long : length starts ≡ 2050) (to : ℕ) (f : to ≡ getD starts 1 0) where
+        pub can-walk : length ends ≡ 4096 → Walkable ins starts bytes s ends 0 to 0
+        can-walk h = rw e (walkable starts machine-right machine-wholes (rw e at S) long s ends to f (read-whole .one) (read-input h))
+
+        given-code : walked ins starts bytes s 0 0 to ≡ code (translate (transducer (inputs stock) (outputs stock) n (offset counts) bytes) (tree (inputs stock) s))
+        given-code = ap (λ i. walked i starts bytes s 0 0 to) e ∙ gives starts machine-right machine-wholes (rw e at S) long s to f (read-whole .one)
+
+        module _ {before after : List ℕ} {k : ℕ} (E : Emitted (walked ins starts bytes s 0 0 to) before after k) where
+          tree-there : (d : Tree) × InputTree (inputs stock) s d
+          tree-there = (tree (inputs stock) s, whole-input read-whole)
+
+          output-long : length (walked ins starts bytes s 0 0 to) ≡ size (translate (transducer (inputs stock) (outputs stock) n (offset counts) bytes) (tree (inputs stock) s))
+          output-long = ap length given-code ∙ code-size _
+
+          pub too-long : length before < k → TranslatesBy stock n counts bytes s before after (Refused LongOutput)
+          too-long h =
+              let l : length before < length (walked ins starts bytes s 0 0 to) = omega (arith, E .size) in
+              pass tree-there (refuse (λ w. omega (arith, output-long, w .1 .1, ap size (output-unique (w .1 .0) (output-read s read-whole)))) (E .full l))
+
+          pub all-written : k ≤ length before → TranslatesBy stock n counts bytes s before after (Symbols k)
+          all-written h =
+              let l : length (walked ins starts bytes s 0 0 to) ≤ length before = omega (arith, E .size) in
+              let O = output-read s read-whole in
+              pass tree-there (pass (_, (O, omega (arith, output-long))) (accept (_, (O, omega (arith, output-long, E .size), E .fits l ∙ ap (sets before 0) given-code))))
+
+-- ---- the file: what is answered of its parts is answered of it
+module _ {stock sheet ins counts bytes design : List ℕ} {n : ℕ} (O : Opened stock sheet n ins counts bytes) where
+  pub file-translates : {before after : List ℕ} (r : Translation) → TranslatesBy stock n counts bytes design before after r → Translates stock sheet design before after r
+  unfolding judged Holds
+  file-translates {before} {after} r J = go r (J .verdict)
+    where
+      start : (r : Translation) → Judged (after ≡ before) (λ k. (t : Tree) × (Output stock sheet design t × (k ≡ size t) × (after ≡ sets before 0 (code t)))) (treeCheck stock design (roomCheck stock sheet design before no-more)) (translated r) → Translates stock sheet design before after r
+      start r j = let w = O .holds in pass (w .0) (pass (w .1 .0) (pass (w .1 .1 .0) j))
+
+      go : (r : Translation) → judged (after ≡ before) (λ k. (t : Tree) × (OutputBy stock n counts bytes design t × (k ≡ size t) × (after ≡ sets before 0 (code t)))) (treeCheck stock design (check 6 ((t : Tree) × (OutputBy stock n counts bytes design t × (size t ≤ length before))) no-more)) (translated r) → Translates stock sheet design before after r
+      go r (inl (h, q, kept)) = start r (rw q (refuse h kept))
+      go r (inr (T, inl (h, q, kept))) = start r (rw q (pass T (refuse (λ w. h (w .0, (to-parts (opened-sheet O) (w .1 .0), w .1 .1))) kept)))
+      go (Symbols k) (inr (T, inr (R, (t, (P, z, a))))) = start (Symbols k) (pass T (pass (R .0, (from-parts (opened-sheet O) (R .1 .0), R .1 .1)) (accept (t, (from-parts (opened-sheet O) P, z, a)))))
+      go (Refused x) (inr (T, inr (R, u))) = absurd u

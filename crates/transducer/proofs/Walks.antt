@@ -1,0 +1,220 @@
+-- Laws of what is written, by position: one mark after the other, and one state applied to one node.
+-- Assumes nothing.
+use Prim.Native.Nat.{ℕ, suc, _+_, _-_, _*_, _≤_, _<_}
+use native.Mathlib.Numerals.{add-one}
+use native.Mathlib.Omega.{arith}
+use mathlib.Core.Bool.{Bool, true, false}
+use mathlib.Core.Path.{_≡_, refl, sym, ap, ap₂, _∙_}
+use mathlib.Core.List.{List, [], _∷_, _++_}
+use lib.Dec.{leb, ltb}
+use lib.ListN.{length, getD, drop, length-drop}
+use lib.Seq.{drop-cons, slice, slice-cons, slice-empty}
+use borrow.Author.Tests.{ltb-true, leb-true}
+use Rattle.theory.specs.Term.{node, Terms, none, more, count, Tree}
+use Rattle.theory.specs.Size.{size}
+use Rattle.formats.specs.Code.{Mark}
+use Rattle.formats.specs.Inner.Decode.{letters, lettersAll, firsts, rests, grown, put, forest, first}
+use Rattle.formats.specs.Inner.Layout.{symbolOf, symbolIf, trees, tree, pairs, markAt, bodyNumber, bodyCount}
+use Rattle.transducer.specs.Inner.Written.{spell, written, called, bodyAt, applied, walked, Callable, Table, Input, hop, Ready, Walkable}
+use Rattle.formats.proofs.Forest.{first-tree, letters-pos, count-rests, all-drop}
+use Rattle.formats.proofs.Extents.{letters-size}
+use Rattle.formats.proofs.Pairs.{pairs-length, pairs-at, number-less, getD-slice}
+
+-- ---- every position of an input has a tree
+-- the node at position p, with as many of the trees behind it as its rank says
+pub record NodeAt (ins s : List ℕ) (p : ℕ) : Type 0 where
+  pub known : getD s p 0 < length ins
+  pub enough : getD ins (getD s p 0) 0 ≤ count (trees ins (drop (p + 1) s))
+  pub there : trees ins (drop p s) ≡ more (node (getD s p 0) (firsts (getD ins (getD s p 0) 0) (trees ins (drop (p + 1) s)))) (rests (getD ins (getD s p 0) 0) (trees ins (drop (p + 1) s)))
+
+node-read : (ins : List ℕ) (a : ℕ) (G : Terms ⊥) → 0 < lettersAll (put (symbolOf ins a) G) → (a < length ins) × (getD ins a 0 ≤ count G) × (put (symbolOf ins a) G ≡ more (node a (firsts (getD ins a 0) G)) (rests (getD ins a 0) G))
+unfolding put symbolOf lettersAll
+node-read ins a G h = go (ltb a (length ins)) refl h
+  where
+    deep : (b : Bool) → leb (getD ins a 0) (count G) ≡ b → 0 < lettersAll (grown b a (getD ins a 0) G) → (getD ins a 0 ≤ count G) × (grown b a (getD ins a 0) G ≡ more (node a (firsts (getD ins a 0) G)) (rests (getD ins a 0) G))
+    deep true e h = (leb-true _ _ e, refl)
+    deep false e h = absurd (omega arith)
+
+    go : (b : Bool) → ltb a (length ins) ≡ b → 0 < lettersAll (put (symbolIf b a (getD ins a 0)) G) → (a < length ins) × (getD ins a 0 ≤ count G) × (put (symbolIf b a (getD ins a 0)) G ≡ more (node a (firsts (getD ins a 0) G)) (rests (getD ins a 0) G))
+    go true e h = let d = deep (leb (getD ins a 0) (count G)) refl h in (ltb-true _ _ e, d .0, d .1)
+    go false e h = absurd (omega arith)
+
+pub node-at : (ins s : List ℕ) (p : ℕ) → lettersAll (trees ins s) ≡ length s → p < length s → NodeAt ins s p
+unfolding trees forest
+node-at ins s p w h =
+    let e : drop p s ≡ getD s p 0 ∷ drop (p + 1) s = rw add-one (drop-cons s p 0 h) in
+    let a : lettersAll (trees ins (drop p s)) ≡ length (drop p s) = all-drop (symbolOf ins) s p w in
+    let b : 0 < lettersAll (trees ins (getD s p 0 ∷ drop (p + 1) s)) = omega (arith, ap (λ l. lettersAll (trees ins l)) e, length-drop p s) in
+    let n = node-read ins (getD s p 0) (trees ins (drop (p + 1) s)) b in
+    record { known = n .0; enough = n .1; there = ap (trees ins) e ∙ n .2 }
+
+-- ---- from child to child
+some-tree : (F : Terms ⊥) → 0 < count F → (t : Tree) × (ts : Terms ⊥) × (F ≡ more t ts)
+unfolding count
+some-tree none h = absurd (omega arith)
+some-tree (more t ts) h = (t, ts, refl)
+
+-- the k-th tree from position p on
+pub record Place (ins s ends : List ℕ) (k p : ℕ) : Type 0 where
+  pub after : p ≤ hop ends k p
+  pub trees-there : trees ins (drop (hop ends k p) s) ≡ rests k (trees ins (drop p s))
+
+pub place : (ins s ends : List ℕ) → Input ins s ends → (k p : ℕ) → k ≤ count (trees ins (drop p s)) → Place ins s ends k p
+unfolding hop rests count trees tree first
+place ins s ends I ℕ.zero p h = record { after = omega arith; trees-there = refl }
+place ins s ends I (suc k) p h =
+    let (t, ts, e) = some-tree (trees ins (drop p s)) (omega arith) in
+    let w = first-tree (symbolOf ins) 0 s p e in
+    let z = letters-size t in
+    let pos = letters-pos t in
+    let r : getD ends p 0 ≡ p + letters t = I .right p (omega arith) (omega arith) ∙ ap (λ F. p + size (first F)) e ∙ omega arith in
+    let b : ts ≡ trees ins (drop (getD ends p 0) s) = w .0 ∙ ap (λ k. trees ins (drop k s)) (sym r) in
+    let c : count (trees ins (drop p s)) ≡ suc (count ts) = ap count e in
+    let i = place ins s ends I k (getD ends p 0) (omega (arith, ap count b)) in
+    record { after = omega (arith, i .after); trees-there = i .trees-there ∙ ap (rests k) (sym b) ∙ ap (rests (suc k)) (sym e) }
+
+pub in-list : (ins s : List ℕ) (p : ℕ) → 0 < count (trees ins (drop p s)) → p < length s
+unfolding trees
+in-list ins s p h =
+    let (t, ts, e) = some-tree (trees ins (drop p s)) h in
+    omega (arith, first-tree (symbolOf ins) 0 s p e .1, letters-pos t)
+
+called-rests : (body : ℕ → ℕ → List Mark) (F : Terms ⊥) (k q : ℕ) → k < count F → called body F (suc k) q ≡ written body (first (rests k F)) q
+unfolding called count rests first
+called-rests body none k q h = absurd (omega arith)
+called-rests body (more d ds) ℕ.zero q h = refl
+called-rests body (more d ds) (suc k) q h = called-rests body ds k q (omega arith)
+
+-- a call is made on one of the first n trees, where it is on one of n
+called-firsts : (body : ℕ → ℕ → List Mark) (F : Terms ⊥) (n i q : ℕ) → i ≤ n → n ≤ count F → called body (firsts n F) i q ≡ called body F i q
+unfolding called count firsts
+called-firsts body none ℕ.zero i q h g = refl
+called-firsts body none (suc n) i q h g = absurd (omega arith)
+called-firsts body (more d ds) ℕ.zero ℕ.zero q h g = refl
+called-firsts body (more d ds) ℕ.zero (suc i) q h g = absurd (omega arith)
+called-firsts body (more d ds) (suc n) ℕ.zero q h g = refl
+called-firsts body (more d ds) (suc n) (suc ℕ.zero) q h g = refl
+called-firsts body (more d ds) (suc n) (suc (suc i)) q h g = called-firsts body ds n (suc i) q (omega arith) (omega arith)
+
+-- two ways to make calls that agree on the calls that can be made
+pub spell-same : (g g′ : ℕ → ℕ → List ℕ) (n r : ℕ) (ms : List Mark) → ((j : ℕ) → j < length ms → Callable n r (getD ms j (0, 0))) → ((i q : ℕ) → 0 < i → i ≤ r → q < n → g i q ≡ g′ i q) → spell g ms ≡ spell g′ ms
+unfolding spell
+spell-same g g′ n r [] k e = refl
+spell-same g g′ n r ((ℕ.zero, b) ∷ ms) k e = ap (_∷_ b) (spell-same g g′ n r ms (λ j h. k (suc j) (omega arith)) e)
+spell-same g g′ n r ((suc i, q) ∷ ms) k e =
+    let c = k 0 (omega arith) (omega arith) in
+    ap₂ _++_ (e (suc i) q (omega arith) (c .0) (c .1)) (spell-same g g′ n r ms (λ j h. k (suc j) (omega arith)) e)
+
+-- ---- a state on a node
+pub apply-walk : (ins starts bytes s : List ℕ) (T : Table ins starts bytes) → lettersAll (trees ins s) ≡ length s → (q p : ℕ) → q < T .states → p < length s
+    → applied ins starts bytes s q p ≡ walked ins starts bytes s (p + 1) (getD starts (bodyNumber ins q (getD s p 0)) 0) (getD starts (bodyNumber ins q (getD s p 0) + 1) 0)
+unfolding written bodyAt tree first
+apply-walk ins starts bytes s T w q p h g =
+    let N = node-at ins s p w g in
+    let a = getD s p 0 in
+    let F = trees ins (drop (p + 1) s) in
+    let B = bodyAt ins starts bytes in
+    let less = number-less ins q (T .states) a h (N .known) in
+    let long = pairs-length bytes (getD starts (bodyNumber ins q a + 1) 0) (T .inside (bodyNumber ins q a + 1) (omega arith)) in
+    ap (λ G. written B (first G) q) (N .there) ∙
+    spell-same (λ i r. called B (firsts (getD ins a 0) F) i r) (λ i r. called B F i r) (T .states) (getD ins a 0) (B q a)
+    (λ j l. let d = getD-slice (getD starts (bodyNumber ins q a) 0) (getD starts (bodyNumber ins q a + 1) 0) j (pairs bytes) long l in
+    rw (d .1) (T .callable q a (getD starts (bodyNumber ins q a) 0 + j) h (N .known) (omega arith) (d .0)))
+    (λ i r l m o. called-firsts B F (getD ins a 0) i r m (N .enough))
+
+-- ---- one mark
+module _ (ins starts bytes s : List ℕ) (below j to : ℕ) (less : j < to) (inside : 2 * to ≤ length bytes) where
+  one-mark : slice j to (pairs bytes) ≡ (getD bytes (2 * j) 0, getD bytes (2 * j + 1) 0) ∷ slice (j + 1) to (pairs bytes)
+  one-mark = slice-cons j to (pairs bytes) (0, 0) less (pairs-length bytes to inside) ∙ ap₂ _∷_ (pairs-at bytes j (omega arith)) (ap (λ k. slice k to (pairs bytes)) (sym (add-one j)))
+
+  pub walk-symbol : getD bytes (2 * j) 0 ≡ 0 → walked ins starts bytes s below j to ≡ getD bytes (2 * j + 1) 0 ∷ walked ins starts bytes s below (j + 1) to
+  unfolding spell
+  walk-symbol e = rw (one-mark, e)
+
+  pub walk-call : (i : ℕ) → getD bytes (2 * j) 0 ≡ suc i → walked ins starts bytes s below j to ≡ called (bodyAt ins starts bytes) (trees ins (drop below s)) (suc i) (getD bytes (2 * j + 1) 0) ++ walked ins starts bytes s below (j + 1) to
+  unfolding spell
+  walk-call i e = rw (one-mark, e)
+
+-- the call at mark j, over the trees from position below on: the child's place, and what the call writes
+pub record CallAt (ins starts bytes s ends : List ℕ) (n below j to : ℕ) : Type 0 where
+  pub state : getD bytes (2 * j + 1) 0 < n
+  pub hops : (k : ℕ) → k < getD bytes (2 * j) 0 - 1 → hop ends k below < length ends
+  pub after : below ≤ hop ends (getD bytes (2 * j) 0 - 1) below
+  pub inside : hop ends (getD bytes (2 * j) 0 - 1) below < length s
+  pub writes : walked ins starts bytes s below j to ≡ applied ins starts bytes s (getD bytes (2 * j + 1) 0) (hop ends (getD bytes (2 * j) 0 - 1) below) ++ walked ins starts bytes s below (j + 1) to
+
+pub call-at : (ins starts bytes s ends : List ℕ) (n below j to : ℕ) → Input ins s ends → j < to → 2 * to ≤ length bytes → (getD bytes (2 * j) 0 ≡ 0 → ⊥) → Callable n (count (trees ins (drop below s))) (markAt bytes j) → CallAt ins starts bytes s ends n below j to
+unfolding tree
+call-at ins starts bytes s ends n below j to I less inside some c = go (getD bytes (2 * j) 0) refl
+  where
+    go : (i : ℕ) → getD bytes (2 * j) 0 ≡ i → CallAt ins starts bytes s ends n below j to
+    go ℕ.zero e = absurd (some e)
+    go (suc i) e =
+        let F = trees ins (drop below s) in
+        let m = rw (pairs-at bytes j (omega arith)) at c in
+        let ok = m (omega arith) in
+        let z : getD bytes (2 * j) 0 - 1 ≡ i = omega arith in
+        let there : (k : ℕ) → k < count F → hop ends k below < length s = λ k h.
+        let w = place ins s ends I k below (omega arith) in in-list ins s (hop ends k below) (rw (w .trees-there, count-rests) (omega arith)) in
+        let w = place ins s ends I i below (omega arith) in
+        record {
+          state = ok .1;
+          hops = λ k h. let t = there k (omega arith) in omega (arith, I .long);
+          after = rw z (w .after);
+          inside = rw z (there i (omega arith));
+          writes = rw z (walk-call ins starts bytes s below j to less inside i e ∙ ap (λ v. v ++ walked ins starts bytes s below (j + 1) to)
+              (called-rests (bodyAt ins starts bytes) F i (getD bytes (2 * j + 1) 0) (omega arith) ∙ ap (λ G. written (bodyAt ins starts bytes) (first G) (getD bytes (2 * j + 1) 0)) (sym (w .trees-there))));
+        }
+
+-- ---- steps from tree to tree
+pub hop-next : (ends : List ℕ) (n p : ℕ) → 0 < n → hop ends n p ≡ hop ends (n - 1) (getD ends p 0)
+unfolding hop
+hop-next ends ℕ.zero p h = absurd (omega arith)
+hop-next ends (suc n) p h = let e : suc n - 1 ≡ n = omega arith in rw e
+
+pub hop-more : (ends : List ℕ) (n k p : ℕ) → k < n - 1 → ((k : ℕ) → k < n → hop ends k p < length ends) → hop ends k (getD ends p 0) < length ends
+unfolding hop
+hop-more ends n k p h g = g (suc k) (omega arith)
+
+-- ---- what the two functions ask
+pub number-fits : {ins starts bytes s ends : List ℕ} {q p a : ℕ} → Ready ins starts bytes s ends q p → a ≡ getD s p 0 → bodyNumber ins q a + 1 < length starts
+number-fits {ins} {s = s} {q} {p} {a} R e =
+    let N = node-at ins s p (R .input .whole) (R .place) in
+    omega (arith, number-less ins q (R .table .states) a (R .state) (rw e (N .known)), R .table .long)
+
+pub to-walk : {ins starts bytes s ends : List ℕ} {q p a from to : ℕ} → Ready ins starts bytes s ends q p → a ≡ getD s p 0 → from ≡ getD starts (bodyNumber ins q a) 0 → to ≡ getD starts (bodyNumber ins q a + 1) 0
+    → Walkable ins starts bytes s ends from to (p + 1) × (applied ins starts bytes s q p ≡ walked ins starts bytes s (p + 1) from to)
+to-walk {ins} {starts} {bytes} {s} {ends} {q} {p} {a} {from} {to} R e f g =
+    let N = node-at ins s p (R .input .whole) (R .place) in
+    let T = R .table in
+    let k : a < length ins = rw e (N .known) in
+    let less = number-less ins q (T .states) a (R .state) k in (
+      record {
+        table = T;
+        input = R .input;
+        ordered = rw (f, g) (T .ordered (bodyNumber ins q a) less);
+        inside = rw g (T .inside (bodyNumber ins q a + 1) (omega arith));
+        callable = λ j h l i. let c = T .callable q a j (R .state) k (omega arith) (omega arith) i in (omega (arith, c .0, N .enough, ap (λ b. getD ins b 0) e), c .1);
+      },
+      rw (f, g, e) (apply-walk ins starts bytes s T (R .input .whole) q p (R .state) (R .place)),
+    )
+
+-- the calls of a walk
+pub call-in : {ins starts bytes s ends : List ℕ} {from to below : ℕ} (W : Walkable ins starts bytes s ends from to below) (j : ℕ) → from ≤ j → j < to → (getD bytes (2 * j) 0 ≡ 0 → ⊥) → CallAt ins starts bytes s ends (W .table .states) below j to
+call-in {ins} {starts} {bytes} {s} {ends} {from} {to} {below} W j h g e = call-at ins starts bytes s ends (W .table .states) below j to (W .input) g (W .inside) e (W .callable j h g)
+
+pub walk-end : (ins starts bytes s : List ℕ) (below j to : ℕ) → j ≤ to → to ≤ j → walked ins starts bytes s below j to ≡ []
+unfolding spell
+walk-end ins starts bytes s below j to h g = let e : j ≡ to = omega arith in rw (e, slice-empty to (pairs bytes))
+
+-- a call (i, x) of a walk: the child can be found, at p, and the state x applied there
+module _ {ins starts bytes s ends : List ℕ} {from to below : ℕ} (W : Walkable ins starts bytes s ends from to below) (j : ℕ) (h : from ≤ j) (g : j < to) where
+  pub to-skip : {i : ℕ} → i ≡ getD bytes (2 * j) 0 → (i ≡ 0 → ⊥) → (k : ℕ) → k < i - 1 → hop ends k below < length ends
+  to-skip e some k l = call-in W j h g (λ z. some (e ∙ z)) .hops k (omega arith)
+
+  pub to-apply : {i x p : ℕ} → i ≡ getD bytes (2 * j) 0 → (i ≡ 0 → ⊥) → x ≡ getD bytes (2 * j + 1) 0 → p ≡ hop ends (i - 1) below
+      → Ready ins starts bytes s ends x p × (below ≤ p) × (walked ins starts bytes s below j to ≡ applied ins starts bytes s x p ++ walked ins starts bytes s below (j + 1) to)
+  to-apply {i} {x} {p} e some f k =
+      let c = call-in W j h g (λ z. some (e ∙ z)) in
+      let z : p ≡ hop ends (getD bytes (2 * j) 0 - 1) below = k ∙ ap (λ n. hop ends (n - 1) below) e in
+      (record { table = W .table; input = W .input; state = rw f (c .state); place = rw z (c .inside) }, rw z (c .after), rw (z, f) (c .writes))

@@ -1,0 +1,99 @@
+-- `translate_by` meets its contract. Assumes nothing.
+use Prim.Native.Nat.{ℕ}
+use native.Mathlib.Omega.{arith}
+use mathlib.Core.Path.{_∙_}
+use lib.ListN.{length-replicate}
+use borrow.Author.Needs.{needs}
+use Rattle.transducer.proofs.Translating.{starts-fit, not-tree, can-walk, too-long, all-written}
+use Rattle.transducer.proofs.translate.translate_by.Statement.{statement}
+use Rattle.transducer.proofs.translate.translate_by.Tie as tie
+
+input-ranks-requires : tie.Need-input-ranks-requires
+input-ranks-requires c κs = search needs
+
+mul-fill-starts : tie.Need-mul-fill-starts
+mul-fill-starts c = omega (arith, starts-fit (c .before .before .before .before .before .before .pre) (c .input-ranks .ensures) .1)
+
+add-fill-starts : tie.Need-add-fill-starts
+add-fill-starts c = omega (arith, starts-fit (c .before .before .before .before .before .before .pre) (c .input-ranks .ensures) .1)
+
+slice-aggregate-fill-starts : tie.Need-slice-aggregate-fill-starts
+slice-aggregate-fill-starts c = search needs
+
+fill-starts-requires : tie.Need-fill-starts-requires
+fill-starts-requires c κs = starts-fit (c .before .before .before .before .before .before .before .pre) (c .before .input-ranks .ensures)
+
+slice-aggregate-measure-all : tie.Need-slice-aggregate-measure-all
+slice-aggregate-measure-all c = search needs
+
+measure-all-requires : tie.Need-measure-all-requires
+measure-all-requires c κs = search needs
+
+enum-told : tie.Need-enum-told
+enum-told c = search needs
+
+array-read-number : tie.Need-array-read-number
+array-read-number c = search needs
+
+number-requires : tie.Need-number-requires
+number-requires c κs = search needs
+
+slice-aggregate-emit : tie.Need-slice-aggregate-emit
+slice-aggregate-emit c = search needs
+
+slice-aggregate-emit-2 : tie.Need-slice-aggregate-emit-2
+slice-aggregate-emit-2 c = search needs
+
+emit-requires : tie.Need-emit-requires
+emit-requires c κs =
+    let F = c .before .before .before .before .before .before .before .before .before .before .fill-starts in
+    let m = c .before .before .before .before .before .before .before .measure-all in
+    can-walk (c .before .before .before .before .before .before .before .before .before .before .before .before .before .before .before .before .before .before .pre) (c .before .before .before .before .before .before .before .before .before .before .before .before .input-ranks .ensures) (m .ensures) (c .before .before .before .before .enum-told .given .1) (F .last .1 .1 .0) (F .ensures) (F .kept .1 .1 .0 ∙ length-replicate {A = ℕ} 2050 0) (c .before .before .before .number .result) (c .before .before .before .number .ensures) (m .kept .1 .1 .0 ∙ length-replicate {A = ℕ} 4096 0)
+
+same-length : tie.Need-same-length
+same-length c = search needs
+
+returns : tie.Need-returns
+returns c =
+    let F = c .before .before .before .before .before .before .before .before .before .before .before .before .before .before .fill-starts in
+    let m = c .before .before .before .before .before .before .before .before .before .before .before .measure-all in
+    too-long (c .before .before .before .before .before .before .before .before .before .before .before .before .before .before .before .before .before .before .before .before .before .before .pre) (c .before .before .before .before .before .before .before .before .before .before .before .before .before .before .before .before .input-ranks .ensures) (m .ensures) (c .before .before .before .before .before .before .before .before .enum-told .given .1) (F .last .1 .1 .0) (F .ensures) (F .kept .1 .1 .0 ∙ length-replicate {A = ℕ} 2050 0) (c .before .before .before .before .before .before .before .number .result) (c .before .before .before .before .before .before .before .number .ensures) (c .before .before .before .emit .ensures) (omega (arith, c .if1 .taken))
+
+enum-told-2 : tie.Need-enum-told-2
+enum-told-2 c = search needs
+
+same-length-2 : tie.Need-same-length-2
+same-length-2 c = search needs
+
+returns-2 : tie.Need-returns-2
+returns-2 c =
+    let F = c .before .before .before .before .before .before .before .before .before .before .before .before .before .before .fill-starts in
+    let m = c .before .before .before .before .before .before .before .before .before .before .before .measure-all in
+    all-written (c .before .before .before .before .before .before .before .before .before .before .before .before .before .before .before .before .before .before .before .before .before .before .pre) (c .before .before .before .before .before .before .before .before .before .before .before .before .before .before .before .before .input-ranks .ensures) (m .ensures) (c .before .before .before .before .before .before .before .before .enum-told .given .1) (F .last .1 .1 .0) (F .ensures) (F .kept .1 .1 .0 ∙ length-replicate {A = ℕ} 2050 0) (c .before .before .before .before .before .before .before .number .result) (c .before .before .before .before .before .before .before .number .ensures) (c .before .before .before .emit .ensures) (omega (arith, c .if1 .left))
+
+returns-3 : tie.Need-returns-3
+returns-3 c = not-tree (c .before .before .before .before .before .before .before .before .before .before .before .before .before .before .pre) (c .before .before .before .before .before .before .before .before .input-ranks .ensures) (c .before .before .before .measure-all .ensures) (c .enum-told2 .given .1)
+
+pub translate-by-spec : {M : Type 1} → statement M
+translate-by-spec =
+    tie.close
+    (tie.spec
+    input-ranks-requires
+    mul-fill-starts
+    add-fill-starts
+    slice-aggregate-fill-starts
+    fill-starts-requires
+    slice-aggregate-measure-all
+    measure-all-requires
+    enum-told
+    array-read-number
+    number-requires
+    slice-aggregate-emit
+    slice-aggregate-emit-2
+    emit-requires
+    same-length
+    returns
+    enum-told-2
+    same-length-2
+    returns-2
+    returns-3)

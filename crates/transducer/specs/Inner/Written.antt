@@ -1,0 +1,86 @@
+-- What a state writes on an input tree, byte by byte: the marks of its right-hand side in order, and for each call what the state called writes.
+use Prim.Native.Nat.{ℕ, suc, _+_, _*_, _<_, _≤_, min}
+use mathlib.Core.List.{List, [], _∷_, _++_}
+use mathlib.Core.Path.{_≡_}
+use lib.ListN.{length, getD, drop}
+use lib.Seq.{slice, sets}
+use Rattle.theory.specs.Term.{Tree, Terms, var, node, none, more, count}
+use Rattle.formats.specs.Code.{Mark}
+use Rattle.formats.specs.Inner.Decode.{lettersAll}
+use Rattle.formats.specs.Inner.Layout.{pairs, markAt, bodyNumber, bodyCount, trees, tree}
+use Rattle.formats.specs.Inner.Measured.{Ends}
+
+-- g i q is what the call (i, q) gives
+unfoldable pub spell : (ℕ → ℕ → List ℕ) → List Mark → List ℕ
+spell g [] = []
+spell g ((ℕ.zero, b) ∷ ms) = b ∷ spell g ms
+spell g ((suc i, q) ∷ ms) = g (suc i) q ++ spell g ms
+
+unfoldable mutual
+  -- body q a: the marks of the right-hand side of q and a
+  pub written : (ℕ → ℕ → List Mark) → Tree → ℕ → List ℕ
+  written body (var x) q = absurd x
+  written body (node a ds) q = spell (λ i r. called body ds i r) (body q a)
+
+  pub called : (ℕ → ℕ → List Mark) → Terms ⊥ → ℕ → ℕ → List ℕ
+  called body none i q = 0 ∷ []
+  called body (more d ds) ℕ.zero q = 0 ∷ []
+  called body (more d ds) (suc ℕ.zero) q = written body d q
+  called body (more d ds) (suc (suc i)) q = called body ds (suc i) q
+
+-- the bodies by a table of their starts
+unfoldable pub bodyAt : List ℕ → List ℕ → List ℕ → ℕ → ℕ → List Mark
+bodyAt ins starts bytes q a = slice (getD starts (bodyNumber ins q a) 0) (getD starts (bodyNumber ins q a + 1) 0) (pairs bytes)
+
+-- ---- by position
+-- what the state q writes on the tree at position p of s
+abbrev pub applied : List ℕ → List ℕ → List ℕ → List ℕ → ℕ → ℕ → List ℕ
+applied ins starts bytes s q p = written (bodyAt ins starts bytes) (tree ins (drop p s)) q
+
+-- what the marks number `from` up to `to` write, over the trees that stand from position `below` on
+abbrev pub walked : List ℕ → List ℕ → List ℕ → List ℕ → ℕ → ℕ → ℕ → List ℕ
+walked ins starts bytes s below from to = spell (λ i q. called (bodyAt ins starts bytes) (trees ins (drop below s)) i q) (slice from to (pairs bytes))
+
+-- the calls of a mark, over r children, with n states
+abbrev pub Callable : ℕ → ℕ → Mark → Type 0
+Callable n r m = 0 < m .0 → (m .0 ≤ r) × (m .1 < n)
+
+-- the right-hand sides of some states lie where the table of starts says, and every call in them can be made
+pub record Table (ins starts bytes : List ℕ) : Type 0 where
+  pub states : ℕ
+  pub long : bodyCount ins states < length starts
+  pub ordered : (j : ℕ) → j < bodyCount ins states → getD starts j 0 ≤ getD starts (j + 1) 0
+  pub inside : (j : ℕ) → j ≤ bodyCount ins states → 2 * getD starts j 0 ≤ length bytes
+  pub callable : (q a j : ℕ) → q < states → a < length ins → getD starts (bodyNumber ins q a) 0 ≤ j → j < getD starts (bodyNumber ins q a + 1) 0 → Callable states (getD ins a 0) (markAt bytes j)
+
+-- s is the code of trees, and the table has the end of each subtree
+pub record Input (ins s ends : List ℕ) : Type 0 where
+  pub whole : lettersAll (trees ins s) ≡ length s
+  pub long : length s ≤ length ends
+  pub right : Ends ins s ends 0 (length s)
+
+-- n steps from the tree at p to the one behind it
+unfoldable pub hop : List ℕ → ℕ → ℕ → ℕ
+hop ends ℕ.zero p = p
+hop ends (suc n) p = hop ends n (getD ends p 0)
+
+-- state q can be applied to the tree at p
+pub record Ready (ins starts bytes s ends : List ℕ) (q p : ℕ) : Type 0 where
+  pub table : Table ins starts bytes
+  pub input : Input ins s ends
+  pub state : q < table .states
+  pub place : p < length s
+
+-- the marks number `from` up to `to` can be walked over the trees from `below` on
+pub record Walkable (ins starts bytes s ends : List ℕ) (from to below : ℕ) : Type 0 where
+  pub table : Table ins starts bytes
+  pub input : Input ins s ends
+  pub ordered : from ≤ to
+  pub inside : 2 * to ≤ length bytes
+  pub callable : (j : ℕ) → from ≤ j → j < to → Callable (table .states) (count (trees ins (drop below s))) (markAt bytes j)
+
+-- w was written from the start of the area, if there is room for it: how much that is, or one more than there is room for
+pub record Emitted (w before after : List ℕ) (r : ℕ) : Type 0 where
+  pub size : r ≡ min (length w) (length before + 1)
+  pub fits : length w ≤ length before → after ≡ sets before 0 w
+  pub full : length before < length w → after ≡ before
