@@ -3,7 +3,7 @@
 use Prim.Native.Nat.{ℕ, _+_, _-_, _*_, _≤_, _<_}
 use native.Mathlib.Omega.{arith}
 use mathlib.Core.List.{List}
-use mathlib.Core.Path.{_≡_, refl, ap₂, _∙_}
+use mathlib.Core.Path.{_≡_, ap₂, _∙_}
 use lib.ListN.{length, getD, take, drop}
 use Rattle.theory.specs.Transducer.{Transducer}
 use Rattle.formats.specs.Alphabets.{Alphabets, inputs, outputs, alphabetCheck}
@@ -41,8 +41,8 @@ opened {stock} {s} {n} {counts = counts} {bytes} J e C B i =
     record { holds = w .0; alphabets = A; ins-are = i; machine = w .1 .0; coded = ap₂ (file n) c b ∙ S .coded; encodes = rw (i, c, b) (S .encodes) }
 
 -- the same with the parts lent from the file, whose counts end at `from`
-pub opened-at : (stock s : List ℕ) (n : ℕ) {r : FileRead} → ReadsFile stock s r → r ≡ States n → (from : ℕ) → from ≡ 1 + 2 * bodyCount (inputs stock) n → Opened stock s n (inputs stock) (take (from - 1) (drop 1 s)) (take (length s - from) (drop from s))
-opened-at stock s n J e from f = opened J e (counts-handed stock s n J e from f) (marks-handed stock s n J e from f) refl
+pub opened-at : (stock s : List ℕ) (n : ℕ) {r : FileRead} → ReadsFile stock s r → r ≡ States n → (from : ℕ) → from ≡ 1 + 2 * bodyCount (inputs stock) n → {ins : List ℕ} → ins ≡ inputs stock → Opened stock s n ins (take (from - 1) (drop 1 s)) (take (length s - from) (drop from s))
+opened-at stock s n J e from f i = opened J e (counts-handed stock s n J e from f) (marks-handed stock s n J e from f) i
 
 module _ {stock s : List ℕ} {n : ℕ} {ins counts bytes : List ℕ} (O : Opened stock s n ins counts bytes) where
   -- the file with just these parts

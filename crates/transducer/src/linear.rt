@@ -8,7 +8,7 @@ ghost use Rattle.transducer.specs.Inner.Uses.{Once, Low, AllOnce, LowBod
 use formats::alphabet::input_ranks;
 use formats::bodies::fill_starts;
 use formats::bytes::{number, wide};
-use formats::file::{read_transducer, transducer_counts, transducer_marks, FileRead};
+use formats::file::{counts_end, read_transducer, FileRead};
 use formats::refusal::Refusal;
 
 // Whether the transducer is linear, or the refusal.
@@ -61,12 +61,11 @@ pub fn is_linear(stock: &[u8], sheet: &[u8]) -> LinearTest
 {
     match read_transducer(stock, sheet) {
         FileRead::States(n) => {
-            let counts = transducer_counts(stock, sheet);
-            let marks = transducer_marks(stock, sheet);
+            let from = counts_end(stock, n);
             let bodies = 1 + n * input_ranks(stock).len();
             let mut starts = [0u16; 2050];
-            fill_starts(counts, bodies, &mut starts);
-            if all_once(bodies, &starts, marks) {
+            fill_starts(&sheet[1..from], bodies, &mut starts);
+            if all_once(bodies, &starts, &sheet[from..]) {
                 LinearTest::Linear
             } else {
                 LinearTest::NotLinear

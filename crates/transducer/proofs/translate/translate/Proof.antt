@@ -40,7 +40,7 @@ part-translate-by-end-2 : tie.Need-part-translate-by-end-2
 part-translate-by-end-2 c = search needs
 
 translate-by-requires : tie.Need-translate-by-requires
-translate-by-requires c κs = opened-machine (opened-at (now (c .before .before .before .before .before .before .before .before .before .before .before .before .args .stock)) (now (c .before .before .before .before .before .before .before .before .before .before .before .before .args .sheet)) (c .before .before .before .before .before .n .given .0 .0) (c .before .before .before .before .before .before .before .read-transducer .ensures) (c .before .before .before .before .before .n .given .1) (c .before .before .before .counts-end .result) (c .before .before .before .counts-end .ensures))
+translate-by-requires c κs = opened-machine (opened-at (now (c .before .before .before .before .before .before .before .before .before .before .before .before .args .stock)) (now (c .before .before .before .before .before .before .before .before .before .before .before .before .args .sheet)) (c .before .before .before .before .before .n .given .0 .0) (c .before .before .before .before .before .before .before .read-transducer .ensures) (c .before .before .before .before .before .n .given .1) (c .before .before .before .counts-end .result) (c .before .before .before .counts-end .ensures) refl)
 
 enum-known-r : tie.Need-enum-known-r
 enum-known-r c = search needs
@@ -49,7 +49,7 @@ same-length : tie.Need-same-length
 same-length c = search needs
 
 returns : tie.Need-returns
-returns c = file-translates (opened-at (now (c .before .before .before .before .before .before .before .before .before .before .before .before .before .before .before .args .stock)) (now (c .before .before .before .before .before .before .before .before .before .before .before .before .before .before .before .args .sheet)) (c .before .before .before .before .before .before .before .before .n .given .0 .0) (c .before .before .before .before .before .before .before .before .before .before .read-transducer .ensures) (c .before .before .before .before .before .before .before .before .n .given .1) (c .before .before .before .before .before .before .counts-end .result) (c .before .before .before .before .before .before .counts-end .ensures)) (c .before .before .translate-by .result) (c .before .before .translate-by .ensures)
+returns c = file-translates (opened-at (now (c .before .before .before .before .before .before .before .before .before .before .before .before .before .before .before .args .stock)) (now (c .before .before .before .before .before .before .before .before .before .before .before .before .before .before .before .args .sheet)) (c .before .before .before .before .before .before .before .before .n .given .0 .0) (c .before .before .before .before .before .before .before .before .before .before .read-transducer .ensures) (c .before .before .before .before .before .before .before .before .n .given .1) (c .before .before .before .before .before .before .counts-end .result) (c .before .before .before .before .before .before .counts-end .ensures) refl) (c .before .before .translate-by .result) (c .before .before .translate-by .ensures)
 
 returns-2 : tie.Need-returns-2
 returns-2 c =
