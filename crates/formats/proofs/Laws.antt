@@ -27,7 +27,7 @@ module _ (stock s : List ℕ) where
   unfolding Holds
   file-accepted n J = let w = accepted-holds J in (w .0 .0, w .1)
 
-  sheet-holds : Alphabets stock → (n : ℕ) (M : Transducer ℕ) → Sheet (inputs stock) (outputs stock) s n M → Holds (alphabetCheck stock (sheetCheck stock s done))
+  pub sheet-holds : Alphabets stock → (n : ℕ) (M : Transducer ℕ) → Sheet (inputs stock) (outputs stock) s n M → Holds (alphabetCheck stock (sheetCheck stock s done))
   unfolding Holds
   sheet-holds A n M S =
       (A, (record { states = n; counts = S .counts; bytes = S .bytes; coded = S .coded; counted = encodes-counted (inputs stock) (outputs stock) n (S .counts) (S .bytes) M (S .encodes) }, ((n, (M, S)), tt)))
@@ -51,7 +51,7 @@ module _ (stock s : List ℕ) where
 
 -- ---- reader and writer undo each other
 -- what was written is the file
-written-take : (w before after : List ℕ) (k : ℕ) → k ≡ length w → length w ≤ length before → after ≡ sets before 0 w → take k after ≡ w
+pub written-take : (w before after : List ℕ) (k : ℕ) → k ≡ length w → length w ≤ length before → after ≡ sets before 0 w → take k after ≡ w
 written-take w before after k e h f = ap (take k) (f ∙ sets-eq w before 0 (omega arith)) ∙ take-at w _ k (sym e)
 
 -- Read, then write: N, counts and marks that were read from a file, written into any area that is long enough, give the file.

@@ -1,4 +1,6 @@
 -- Opening: an accepted file with its parts. Uses, Calls: the linear test. Walks, Meaning: what is written, byte by byte, is the code of the output.
+-- Outputs: the output is one tree. Translating, Following: what translation and the reader of one symbol ask and answer.
+-- Laws: what the promises come to; read it first. Table: the samples of document 01 that are proved.
 pub mod Opening
 pub mod Uses
 pub mod Calls
@@ -6,3 +8,6 @@ pub mod Walks
 pub mod Meaning
 pub mod Outputs
 pub mod Translating
+pub mod Following
+pub mod Laws
+pub mod Table
