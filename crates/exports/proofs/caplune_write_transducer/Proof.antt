@@ -1,0 +1,44 @@
+-- `caplune_write_transducer` meets its contract. Assumes nothing.
+use mathlib.Core.Path.{refl, ap}
+use Rattle.formats.specs.Answers.{fileWritten}
+use Rattle.exports.proofs.Telling.{tells-accepted, tells-refused}
+use borrow.Author.Needs.{needs}
+use Rattle.exports.proofs.caplune_write_transducer.Statement.{statement}
+use Rattle.exports.proofs.caplune_write_transducer.Tie as tie
+
+write-transducer-requires : tie.Need-write-transducer-requires
+write-transducer-requires c κs = search needs
+
+enum-known-n : tie.Need-enum-known-n
+enum-known-n c = search needs
+
+enum-known-x : tie.Need-enum-known-x
+enum-known-x c = search needs
+
+code-requires : tie.Need-code-requires
+code-requires c κs = search needs
+
+same-length : tie.Need-same-length
+same-length c = search needs
+
+returns : tie.Need-returns
+returns c = tells-accepted (c .before .before .before .before .before .write-transducer .result) (c .before .before .before .before .before .write-transducer .ensures) (ap fileWritten (c .before .n .given .1)) refl refl
+
+same-length-2 : tie.Need-same-length-2
+same-length-2 c = search needs
+
+returns-2 : tie.Need-returns-2
+returns-2 c = tells-refused (c .before .before .before .before .before .before .write-transducer .result) (c .before .before .before .before .before .before .write-transducer .ensures) (ap fileWritten (c .before .before .x .given .1)) (c .code .ensures) refl
+
+pub caplune-write-transducer-spec : {M : Type 1} → statement M
+caplune-write-transducer-spec =
+    tie.close
+    (tie.spec
+    write-transducer-requires
+    enum-known-n
+    enum-known-x
+    code-requires
+    same-length
+    returns
+    same-length-2
+    returns-2)

@@ -1,0 +1,50 @@
+-- What the exported functions return and leave: the number and the values of an answer that keeps the library's promise.
+use Prim.Native.Nat.{ℕ}
+use mathlib.Core.List.{List}
+use mathlib.Core.Path.{_≡_}
+use lib.ListN.{length}
+use Rattle.theory.specs.Transducer.{Transducer}
+use Rattle.formats.specs.Alphabets.{inputs, outputs}
+use Rattle.formats.specs.Answers.{alphabetsRead, ReadsAlphabets, treeRead, ReadsTree, fileRead, ReadsFile, fileWritten, WritesFile}
+use Rattle.formats.specs.Refusal.{Outcome, accepted, refused}
+use Rattle.formats.specs.Sheet.{Sheet}
+use Rattle.transducer.specs.Answers.{linearTest, TestsLinear}
+use Rattle.transducer.specs.Linear.{oneIf}
+
+-- an acceptance is returned as 0, and what is left is told by its values; a refusal as its number, and all is left as before
+unfoldable pub told : {A L : Type 0} → (A → L → Type 0) → Outcome A → L → L → ℕ → Type 0
+told Left (accepted a) before after r = (r ≡ 0) × Left a after
+told Left (refused k) before after r = (r ≡ k) × (after ≡ before)
+
+-- r is returned, and `after` left where `before` stood, for an answer that keeps the promise
+pub record Exported {E A L : Type 0} (Promise : E → Type 0) (outcome : E → Outcome A) (Left : A → L → Type 0) (before after : L) (r : ℕ) : Type 0 where
+  pub answer : E
+  pub promise : Promise answer
+  pub says : told Left (outcome answer) before after r
+
+-- the numbers of input and output symbols
+abbrev pub ExportsAlphabets : List ℕ → ℕ × ℕ → ℕ × ℕ → ℕ → Type 0
+ExportsAlphabets stock before after r = Exported (ReadsAlphabets stock) alphabetsRead (λ v after. after ≡ v) before after r
+
+-- the numbers of nodes and levels
+abbrev pub ExportsTree : List ℕ → List ℕ → ℕ × ℕ → ℕ × ℕ → ℕ → Type 0
+ExportsTree stock s before after r = Exported (ReadsTree stock s) treeRead (λ v after. after ≡ v) before after r
+
+-- the number of states, and the lengths of the counts and of the marks
+pub record FileParts (stock s : List ℕ) (n : ℕ) (after : ℕ × ℕ × ℕ) : Type 0 where
+  pub states : after .0 ≡ n
+  pub machine : Transducer ℕ
+  pub sheet : Sheet (inputs stock) (outputs stock) s n machine
+  pub counts : after .1 ≡ length (sheet .counts)
+  pub marks : after .2 ≡ length (sheet .bytes)
+
+abbrev pub ExportsFile : List ℕ → List ℕ → ℕ × ℕ × ℕ → ℕ × ℕ × ℕ → ℕ → Type 0
+ExportsFile stock s before after r = Exported (ReadsFile stock s) fileRead (FileParts stock s) before after r
+
+-- the length of what was written; the promise says what is left in the area, also by a refusal
+abbrev pub ExportsWriting : List ℕ → ℕ → List ℕ → List ℕ → List ℕ → List ℕ → ℕ → ℕ → ℕ → Type 0
+ExportsWriting stock n counts marks area area′ before after r = Exported (WritesFile stock n counts marks area area′) fileWritten (λ v after. after ≡ v) before after r
+
+-- 1 for yes and 0 for no
+abbrev pub ExportsLinear : List ℕ → List ℕ → ℕ → ℕ → ℕ → Type 0
+ExportsLinear stock s before after r = Exported (TestsLinear stock s) linearTest (λ v after. after ≡ oneIf v) before after r

@@ -1,0 +1,129 @@
+// The library for Rust and C: numbers and byte slices only. Each function returns 0, or the number that document 01's table
+// gives the refusal, and gives its values through its last parameters, which a refusal leaves as they were.
+ghost use mathlib.Core.Path.{_≡_};
+ghost use Rattle.formats.specs.Refusal.{number};
+ghost use Rattle.exports.specs.Exported.{ExportsAlphabets, ExportsTree, ExportsFile, ExportsWriting, ExportsLinear};
+use formats::alphabet::{input_ranks, read_alphabets, AlphabetsRead};
+use formats::file::{read_transducer, write_transducer, FileRead, FileWritten};
+use formats::refusal::Refusal;
+use formats::tree::{read_tree, TreeRead};
+use transducer::linear::{is_linear, LinearTest};
+
+// The number of a refusal.
+fn code(x: Refusal) -> u32
+    ensures { λ r. ⌜ r ≡ number x ⌝ }
+{
+    match x {
+        Refusal::ShortArea => 1,
+        Refusal::BadAlphabets => 2,
+        Refusal::BadTree => 3,
+        Refusal::BadContents => 4,
+        Refusal::BadBody => 5,
+        Refusal::LongOutput => 6,
+        Refusal::OverLimits => 7,
+        Refusal::FullRegistry => 8,
+        Refusal::BadRegistry => 9,
+    }
+}
+
+// Reads two alphabets (01: stock): how many input and output symbols there are.
+#[no_mangle]
+pub extern "C" fn caplune_read_alphabets(
+    stock: &[u8],
+    inputs: &mut usize,
+    outputs: &mut usize,
+) -> u32
+    ensures { λ r. ⌜ ExportsAlphabets (now (stock .entry)) (now (inputs .entry), now (outputs .entry)) (now (inputs .exit), now (outputs .exit)) r ⌝ }
+{
+    match read_alphabets(stock) {
+        AlphabetsRead::Symbols(p, b) => {
+            *inputs = p;
+            *outputs = b;
+            0
+        }
+        AlphabetsRead::Refused(x) => code(x),
+    }
+}
+
+// Reads an input tree (01: design): how many nodes and levels it has.
+#[no_mangle]
+pub extern "C" fn caplune_read_tree(
+    stock: &[u8],
+    tree: &[u8],
+    nodes: &mut usize,
+    levels: &mut usize,
+) -> u32
+    ensures { λ r. ⌜ ExportsTree (now (stock .entry)) (now (tree .entry)) (now (nodes .entry), now (levels .entry)) (now (nodes .exit), now (levels .exit)) r ⌝ }
+{
+    match read_tree(stock, tree) {
+        TreeRead::Tree(n, l) => {
+            *nodes = n;
+            *levels = l;
+            0
+        }
+        TreeRead::Refused(x) => code(x),
+    }
+}
+
+// Reads a transducer (01: sheet): how many states it has, and how long its parts are. The counts stand from byte 1 on, and
+// the marks behind them.
+#[no_mangle]
+pub extern "C" fn caplune_read_transducer(
+    stock: &[u8],
+    file: &[u8],
+    states: &mut usize,
+    counts: &mut usize,
+    marks: &mut usize,
+) -> u32
+    ensures { λ r. ⌜ ExportsFile (now (stock .entry)) (now (file .entry)) (now (states .entry), now (counts .entry), now (marks .entry)) (now (states .exit), now (counts .exit), now (marks .exit)) r ⌝ }
+{
+    match read_transducer(stock, file) {
+        FileRead::States(n) => {
+            let size = 2 + 2 * (n * input_ranks(stock).len());
+            *states = n;
+            *counts = size;
+            *marks = file.len() - (1 + size);
+            0
+        }
+        FileRead::Refused(x) => code(x),
+    }
+}
+
+// Writes a transducer from its parts to the start of the area: how long its file is.
+#[no_mangle]
+pub extern "C" fn caplune_write_transducer(
+    stock: &[u8],
+    states: usize,
+    counts: &[u8],
+    marks: &[u8],
+    area: &mut [u8],
+    length: &mut usize,
+) -> u32
+    ensures { λ r. ⌜ ExportsWriting (now (stock .entry)) states (now (counts .entry)) (now (marks .entry)) (now (area .entry)) (now (area .exit)) (now (length .entry)) (now (length .exit)) r ⌝ }
+{
+    match write_transducer(stock, states, counts, marks, area) {
+        FileWritten::Bytes(n) => {
+            *length = n;
+            0
+        }
+        FileWritten::Refused(x) => code(x),
+    }
+}
+
+// Whether a transducer is linear (01: single): 1 or 0.
+#[no_mangle]
+pub extern "C" fn caplune_is_linear(stock: &[u8], file: &[u8], linear: &mut usize) -> u32
+    ensures { λ r. ⌜ ExportsLinear (now (stock .entry)) (now (file .entry)) (now (linear .entry)) (now (linear .exit)) r ⌝ }
+{
+    match is_linear(stock, file) {
+        LinearTest::Linear => {
+            *linear = 1;
+            0
+        }
+        LinearTest::NotLinear => {
+            *linear = 0;
+            0
+        }
+        LinearTest::Refused(x) => code(x),
+    }
+}

@@ -1,0 +1,102 @@
+//! The C functions of the proved library, as they stand in `libexports.a`.
+//!
+//! Each returns 0, or the number that the paper's table gives the refusal, and gives its values
+//! through its last parameters. A refusal leaves these, and every area, as they were.
+//!
+//! A slice passes as a pointer and a length, two parameters of their own. They are declared so, and
+//! not as `&[u8]`: that type passes as one aggregate of two words, which goes on the stack whole
+//! where one register is left for it, as for `marks` of [`caplune_write_transducer`], while the
+//! library expects its pointer in that register.
+//!
+//! # Safety
+//!
+//! Every pointer with a length is to so many bytes, initialised, none of them null even where the
+//! length is 0; an area is lent to nobody else; the other pointers are to a `usize` each, distinct
+//! and outside of the areas.
+
+extern "C" {
+    /// Reads two alphabets: the numbers of input and of output symbols. Refuses by 2.
+    pub fn caplune_read_alphabets(
+        stock: *const u8,
+        stock_length: usize,
+        inputs: *mut usize,
+        outputs: *mut usize,
+    ) -> u32;
+
+    /// Reads an input tree: the numbers of its nodes and levels. Refuses by 2 and 3.
+    pub fn caplune_read_tree(
+        stock: *const u8,
+        stock_length: usize,
+        tree: *const u8,
+        tree_length: usize,
+        nodes: *mut usize,
+        levels: *mut usize,
+    ) -> u32;
+
+    /// Reads a transducer: the number of its states, and the lengths of its counts, which stand in
+    /// the file from byte 1 on, and of its marks, which stand behind them. Refuses by 2, 4 and 5.
+    pub fn caplune_read_transducer(
+        stock: *const u8,
+        stock_length: usize,
+        file: *const u8,
+        file_length: usize,
+        states: *mut usize,
+        counts: *mut usize,
+        marks: *mut usize,
+    ) -> u32;
+
+    /// Writes a transducer to the start of the area: the length of its file. Refuses by 1, 2, 4
+    /// and 5.
+    pub fn caplune_write_transducer(
+        stock: *const u8,
+        stock_length: usize,
+        states: usize,
+        counts: *const u8,
+        counts_length: usize,
+        marks: *const u8,
+        marks_length: usize,
+        area: *mut u8,
+        area_length: usize,
+        length: *mut usize,
+    ) -> u32;
+
+    /// Tests whether a transducer is linear: 1 or 0. Refuses by 2, 4 and 5.
+    pub fn caplune_is_linear(
+        stock: *const u8,
+        stock_length: usize,
+        file: *const u8,
+        file_length: usize,
+        linear: *mut usize,
+    ) -> u32;
+
+    /// Writes the output tree to the start of the area: the number of its symbols. Refuses by 2, 4,
+    /// 5, 3 and 6.
+    #[cfg(feature = "translation")]
+    pub fn caplune_translate(
+        stock: *const u8,
+        stock_length: usize,
+        file: *const u8,
+        file_length: usize,
+        tree: *const u8,
+        tree_length: usize,
+        area: *mut u8,
+        area_length: usize,
+        length: *mut usize,
+    ) -> u32;
+
+    /// Finds the symbol at an address of the output tree: 1 and the symbol, or 0, the symbol then
+    /// staying as it was. Refuses by 2, 4, 5 and 3.
+    #[cfg(feature = "translation")]
+    pub fn caplune_symbol_at(
+        stock: *const u8,
+        stock_length: usize,
+        file: *const u8,
+        file_length: usize,
+        tree: *const u8,
+        tree_length: usize,
+        address: *const u8,
+        address_length: usize,
+        there: *mut usize,
+        symbol: *mut usize,
+    ) -> u32;
+}

@@ -1,0 +1,234 @@
+//! Top-down tree transducers over files of bytes: safe functions over the proved library.
+//!
+//! The proved library is `target/staticlib/libexports.a` of the repository, which
+//! `rt staticlib exports` writes. Its functions are declared in [`ffi`], and each has a safe
+//! function here. All of them read slices, and those that write do so into an area that the caller
+//! lends: nothing is allocated. [`independent`] has the same functions written a second time, in
+//! plain Rust and from the paper alone.
+//!
+//! The paper's words, and the words used here: a stock is a pair of ranked alphabets; a design is
+//! an input tree and a plan an output tree; a sheet is a transducer, a pass a state, a line a
+//! right-hand side, the opening the initial term; a place is an address.
+//!
+//! ```
+//! // a of rank 1 and e of rank 0; f of rank 2 and e of rank 0
+//! let stock = [2, 1, 0, 2, 2, 0];
+//! // q(a(x1)) = f(q(x1), q(x1)), q(e) = e, with the initial term f(q(x1), q(x1))
+//! let file = [1, 0, 3, 0, 3, 0, 1, 0, 0, 1, 0, 1, 0, 0, 0, 1, 0, 1, 0, 0, 1];
+//! let parts = caplune::read_transducer(&stock, &file).unwrap();
+//! assert_eq!((parts.states, parts.counts.len(), parts.marks.len()), (1, 6, 14));
+//! assert_eq!(caplune::is_linear(&stock, &file), Ok(false));
+//! assert_eq!(caplune::read_tree(&stock, &[0]).unwrap_err().number(), 3);
+//! ```
+use std::fmt;
+
+pub mod ffi;
+pub mod independent;
+
+/// Why an input is sent back: a number of the paper's table. Nothing that was lent has changed.
+#[derive(Clone, Copy, Debug, PartialEq, Eq, Hash, PartialOrd, Ord)]
+pub struct Refusal(u32);
+
+impl Refusal {
+    /// The number in the paper's table, 1 to 9.
+    pub fn number(self) -> u32 {
+        self.0
+    }
+}
+
+impl fmt::Display for Refusal {
+    fn fmt(&self, f: &mut fmt::Formatter) -> fmt::Result {
+        let reason = match self.0 {
+            1 => "an area is too short",
+            2 => "not two ranked alphabets (a stock)",
+            3 => "not an input tree (a design), or over its limits",
+            4 => "the number of states, a count, their sum or a length is wrong",
+            5 => "an initial term or right-hand side is not one tree of known marks",
+            6 => "the output tree (the plan) has more symbols than its area has bytes",
+            7 => "the earliest transducer (the trimmed sheet) is over its limits",
+            8 => "the registry (the book) is full",
+            9 => "not a registry (a book)",
+            _ => "unknown",
+        };
+        write!(f, "refused {}: {reason}", self.0)
+    }
+}
+
+impl std::error::Error for Refusal {}
+
+/// The answer of a call that returned `number`: `value`, or the refusal.
+fn answer<T>(number: u32, value: impl FnOnce() -> T) -> Result<T, Refusal> {
+    match number {
+        0 => Ok(value()),
+        refusal => Err(Refusal(refusal)),
+    }
+}
+
+/// How many symbols two alphabets have.
+#[derive(Clone, Copy, Debug, PartialEq, Eq)]
+pub struct Symbols {
+    /// The input symbols, 1 to 16.
+    pub inputs: usize,
+    /// The output symbols, 1 to 64.
+    pub outputs: usize,
+}
+
+/// The size of an input tree.
+#[derive(Clone, Copy, Debug, PartialEq, Eq)]
+pub struct Size {
+    /// Its nodes, 1 to 4,096.
+    pub nodes: usize,
+    /// The nodes of its longest path, 1 to 512.
+    pub levels: usize,
+}
+
+/// The parts of a transducer's file.
+#[derive(Clone, Copy, Debug, PartialEq, Eq)]
+pub struct Parts<'a> {
+    /// The number of states, 0 to 128.
+    pub states: usize,
+    /// How many marks the initial term and each right-hand side have: two bytes each, high byte
+    /// first.
+    pub counts: &'a [u8],
+    /// The marks of the initial term and of the right-hand sides, two bytes each.
+    pub marks: &'a [u8],
+}
+
+/// Reads two alphabets.
+///
+/// Returns how many input and output symbols there are. Refuses by 2 what is not a stock.
+pub fn read_alphabets(stock: &[u8]) -> Result<Symbols, Refusal> {
+    let (mut inputs, mut outputs) = (0, 0);
+    // SAFETY: the pointer and the length are those of a slice, and the others are to locals.
+    let number = unsafe { ffi::caplune_read_alphabets(stock.as_ptr(), stock.len(), &mut inputs, &mut outputs) };
+    answer(number, || Symbols { inputs, outputs })
+}
+
+/// Reads an input tree.
+///
+/// Returns how many nodes and levels it has. Refuses by 2 what is not a stock, and by 3 what is not
+/// a tree over its input symbols or has more than 4,096 nodes or 512 levels.
+pub fn read_tree(stock: &[u8], tree: &[u8]) -> Result<Size, Refusal> {
+    let (mut nodes, mut levels) = (0, 0);
+    // SAFETY: each pointer and length are those of a slice, and the others are to locals.
+    let number = unsafe {
+        ffi::caplune_read_tree(stock.as_ptr(), stock.len(), tree.as_ptr(), tree.len(), &mut nodes, &mut levels)
+    };
+    answer(number, || Size { nodes, levels })
+}
+
+/// Reads a transducer.
+///
+/// Returns the number of its states, and its counts and its marks as parts of `file`. Refuses by 2
+/// what is not a stock, by 4 a file whose number of states, counts or length are wrong, and by 5
+/// one with a term that is not one tree of known marks.
+pub fn read_transducer<'a>(stock: &[u8], file: &'a [u8]) -> Result<Parts<'a>, Refusal> {
+    let (mut states, mut counts, mut marks) = (0, 0, 0);
+    // SAFETY: each pointer and length are those of a slice, and the others are to locals.
+    let number = unsafe {
+        ffi::caplune_read_transducer(
+            stock.as_ptr(),
+            stock.len(),
+            file.as_ptr(),
+            file.len(),
+            &mut states,
+            &mut counts,
+            &mut marks,
+        )
+    };
+    answer(number, || Parts { states, counts: &file[1..1 + counts], marks: &file[1 + counts..1 + counts + marks] })
+}
+
+/// Writes the file of a transducer to the start of `area`.
+///
+/// Returns the length of the file; what follows it in the area stays. Refuses by 1 an area under
+/// 20,483 bytes, by 2 what is not a stock, by 4 counts that are not two bytes for the initial term
+/// and for each right-hand side, and by 4 and 5 what [`read_transducer`] would; the area then is as
+/// it was.
+pub fn write_transducer(
+    stock: &[u8],
+    states: usize,
+    counts: &[u8],
+    marks: &[u8],
+    area: &mut [u8],
+) -> Result<usize, Refusal> {
+    let mut length = 0;
+    // SAFETY: each pointer and length are those of a slice, and the last is to a local.
+    let number = unsafe {
+        ffi::caplune_write_transducer(
+            stock.as_ptr(),
+            stock.len(),
+            states,
+            counts.as_ptr(),
+            counts.len(),
+            marks.as_ptr(),
+            marks.len(),
+            area.as_mut_ptr(),
+            area.len(),
+            &mut length,
+        )
+    };
+    answer(number, || length)
+}
+
+/// Tests a transducer for being linear (the paper: single), as it is read.
+///
+/// Returns whether in its initial term and in each right-hand side no sub-tree is called twice.
+/// Refuses by 2, 4 and 5 as [`read_transducer`] does.
+pub fn is_linear(stock: &[u8], file: &[u8]) -> Result<bool, Refusal> {
+    let mut linear = 0;
+    // SAFETY: each pointer and length are those of a slice, and the last is to a local.
+    let number = unsafe { ffi::caplune_is_linear(stock.as_ptr(), stock.len(), file.as_ptr(), file.len(), &mut linear) };
+    answer(number, || linear == 1)
+}
+
+/// Writes the output tree of a transducer on an input tree to the start of `area` (the paper:
+/// sewing).
+///
+/// Returns how many symbols it has; what follows them in the area stays. Refuses by 2, 4 and 5 as
+/// [`read_transducer`] does, by 3 as [`read_tree`] does, and by 6 an output tree with more symbols
+/// than the area has bytes; the area then is as it was.
+#[cfg(feature = "translation")]
+pub fn translate(stock: &[u8], file: &[u8], tree: &[u8], area: &mut [u8]) -> Result<usize, Refusal> {
+    let mut length = 0;
+    // SAFETY: each pointer and length are those of a slice, and the last is to a local.
+    let number = unsafe {
+        ffi::caplune_translate(
+            stock.as_ptr(),
+            stock.len(),
+            file.as_ptr(),
+            file.len(),
+            tree.as_ptr(),
+            tree.len(),
+            area.as_mut_ptr(),
+            area.len(),
+            &mut length,
+        )
+    };
+    answer(number, || length)
+}
+
+/// Reads the output tree at an address, without building it.
+///
+/// Returns the symbol there, or `None` where the output tree has no such address. Refuses by 2, 4
+/// and 5 as [`read_transducer`] does, and by 3 as [`read_tree`] does. No address is refused.
+#[cfg(feature = "translation")]
+pub fn symbol_at(stock: &[u8], file: &[u8], tree: &[u8], address: &[u8]) -> Result<Option<u8>, Refusal> {
+    let (mut there, mut symbol) = (0, 0);
+    // SAFETY: each pointer and length are those of a slice, and the others are to locals.
+    let number = unsafe {
+        ffi::caplune_symbol_at(
+            stock.as_ptr(),
+            stock.len(),
+            file.as_ptr(),
+            file.len(),
+            tree.as_ptr(),
+            tree.len(),
+            address.as_ptr(),
+            address.len(),
+            &mut there,
+            &mut symbol,
+        )
+    };
+    answer(number, || (there == 1).then_some(symbol as u8))
+}

@@ -1,0 +1,504 @@
+//! Holds the proved library against the independent implementation, on generated inputs.
+//!
+//! Every call is made three times: by the safe function of this crate, by the C function itself,
+//! and by the independent function. The answers have to be the same, and every byte and number that
+//! was lent is looked at: areas and numbers hold a pattern before the call, a refusal leaves all of
+//! it, and an acceptance changes only what it writes. `cargo test --release --offline -- --nocapture`
+//! prints how often each outcome occurred.
+mod generate;
+
+use caplune::{ffi, independent, Refusal};
+use generate::{Alphabets, Random, Transducer};
+use std::collections::BTreeMap;
+
+/// How often each function gave each outcome: 0 for an acceptance, else the refusal.
+#[derive(Default)]
+struct Tally(BTreeMap<(&'static str, String), usize>);
+
+impl Tally {
+    fn count<T>(&mut self, function: &'static str, answer: &Result<T, u32>, accepted: &str) {
+        let outcome = match answer {
+            Ok(_) => accepted.to_string(),
+            Err(number) => format!("refused {number}"),
+        };
+        *self.0.entry((function, outcome)).or_default() += 1;
+    }
+
+    /// Prints all, and asks for each outcome that it occurred at least so often.
+    fn settle(&self, wanted: &[(&'static str, &str)], least: usize) {
+        for ((function, outcome), times) in &self.0 {
+            println!("{function:18} {outcome:12} {times:8}");
+        }
+        for &(function, outcome) in wanted {
+            let times = self.0.get(&(function, outcome.to_string())).copied().unwrap_or(0);
+            assert!(times >= least, "{function}, {outcome}: only {times} times");
+        }
+        assert_eq!(self.0.len(), wanted.len(), "an outcome that the paper does not have");
+    }
+}
+
+fn number<T>(answer: Result<T, Refusal>) -> Result<T, u32> {
+    answer.map_err(Refusal::number)
+}
+
+/// The pattern of what is lent for writing.
+fn pattern(index: usize) -> u8 {
+    (index * 167 + 91 + index / 256) as u8
+}
+
+/// Numbers that a refusal has to leave.
+const BEFORE: [usize; 3] = [usize::MAX - 5, 0x5a5a_0000_1234, 77];
+
+/// An area of a longer buffer, all of it patterned.
+struct Lent {
+    buffer: Vec<u8>,
+    from: usize,
+    length: usize,
+}
+
+impl Lent {
+    /// How much stands before and behind the area.
+    const MARGIN: usize = 64;
+
+    fn new(length: usize) -> Self {
+        // The area starts at any remainder by 8.
+        let from = Self::MARGIN + length % 8;
+        Lent { buffer: (0..from + length + Self::MARGIN).map(pattern).collect(), from, length }
+    }
+
+    fn area(&mut self) -> &mut [u8] {
+        &mut self.buffer[self.from..self.from + self.length]
+    }
+
+    /// Whether the area starts with `written`, and nothing else of the buffer has changed.
+    fn holds(&self, written: &[u8]) -> bool {
+        let (before, rest) = self.buffer.split_at(self.from);
+        let (start, behind) = rest.split_at(written.len());
+        let patterned = |bytes: &[u8], from: usize| bytes.iter().enumerate().all(|(k, &b)| b == pattern(from + k));
+        start == written && patterned(before, 0) && patterned(behind, self.from + written.len())
+    }
+}
+
+fn alphabets(tally: &mut Tally, stock: &[u8]) {
+    let expected = independent::read_alphabets(stock).map(|read| (read.inputs.len(), read.outputs.len()));
+    assert_eq!(number(caplune::read_alphabets(stock)).map(|read| (read.inputs, read.outputs)), expected, "{stock:?}");
+    let [mut inputs, mut outputs, _] = BEFORE;
+    let refused = unsafe { ffi::caplune_read_alphabets(stock.as_ptr(), stock.len(), &mut inputs, &mut outputs) };
+    let left = expected.unwrap_or((BEFORE[0], BEFORE[1]));
+    assert_eq!((refused, (inputs, outputs)), (expected.err().unwrap_or(0), left), "{stock:?}");
+    tally.count("read_alphabets", &expected, "accepted");
+}
+
+fn tree(tally: &mut Tally, stock: &[u8], tree: &[u8]) {
+    let expected = independent::read_tree(stock, tree).map(|read| (read.symbols.len(), read.levels));
+    assert_eq!(
+        number(caplune::read_tree(stock, tree)).map(|read| (read.nodes, read.levels)),
+        expected,
+        "{stock:?} {tree:?}"
+    );
+    let [mut nodes, mut levels, _] = BEFORE;
+    let refused = unsafe {
+        ffi::caplune_read_tree(stock.as_ptr(), stock.len(), tree.as_ptr(), tree.len(), &mut nodes, &mut levels)
+    };
+    let left = expected.unwrap_or((BEFORE[0], BEFORE[1]));
+    assert_eq!((refused, (nodes, levels)), (expected.err().unwrap_or(0), left), "{stock:?} {tree:?}");
+    tally.count("read_tree", &expected, "accepted");
+}
+
+fn transducer(tally: &mut Tally, stock: &[u8], file: &[u8]) {
+    let expected = independent::read_transducer(stock, file).map(|read| (read.states, read.counts, read.marks));
+    let answer = number(caplune::read_transducer(stock, file)).map(|read| (read.states, read.counts, read.marks));
+    assert_eq!(answer, expected, "{stock:?} {file:?}");
+    if let (Ok((_, counts, marks)), Ok((_, expected_counts, expected_marks))) = (answer, expected) {
+        // the same bytes, and in the same place
+        assert_eq!((counts.as_ptr(), marks.as_ptr()), (expected_counts.as_ptr(), expected_marks.as_ptr()));
+    }
+    let [mut states, mut counts, mut marks] = BEFORE;
+    let refused = unsafe {
+        ffi::caplune_read_transducer(
+            stock.as_ptr(),
+            stock.len(),
+            file.as_ptr(),
+            file.len(),
+            &mut states,
+            &mut counts,
+            &mut marks,
+        )
+    };
+    let left = expected.map_or(BEFORE, |(states, counts, marks)| [states, counts.len(), marks.len()]);
+    assert_eq!((refused, [states, counts, marks]), (expected.err().unwrap_or(0), left), "{stock:?} {file:?}");
+    tally.count("read_transducer", &expected, "accepted");
+}
+
+fn linear(tally: &mut Tally, stock: &[u8], file: &[u8]) {
+    let expected = independent::is_linear(stock, file);
+    assert_eq!(number(caplune::is_linear(stock, file)), expected, "{stock:?} {file:?}");
+    let mut linear = BEFORE[0];
+    let refused =
+        unsafe { ffi::caplune_is_linear(stock.as_ptr(), stock.len(), file.as_ptr(), file.len(), &mut linear) };
+    let left = expected.map_or(BEFORE[0], usize::from);
+    assert_eq!((refused, linear), (expected.err().unwrap_or(0), left), "{stock:?} {file:?}");
+    tally.count("is_linear", &expected, if expected == Ok(true) { "yes" } else { "no" });
+}
+
+fn writing(tally: &mut Tally, stock: &[u8], states: usize, counts: &[u8], marks: &[u8], area: usize) {
+    let mut lent = [Lent::new(area), Lent::new(area), Lent::new(area)];
+    let expected = independent::write_transducer(stock, states, counts, marks, lent[0].area());
+    let answer = number(caplune::write_transducer(stock, states, counts, marks, lent[1].area()));
+    assert_eq!(answer, expected, "{stock:?} {states} {counts:?} {marks:?} {area}");
+    let mut length = BEFORE[0];
+    let refused = unsafe {
+        ffi::caplune_write_transducer(
+            stock.as_ptr(),
+            stock.len(),
+            states,
+            counts.as_ptr(),
+            counts.len(),
+            marks.as_ptr(),
+            marks.len(),
+            lent[2].area().as_mut_ptr(),
+            area,
+            &mut length,
+        )
+    };
+    let left = expected.unwrap_or(BEFORE[0]);
+    assert_eq!(
+        (refused, length),
+        (expected.err().unwrap_or(0), left),
+        "{stock:?} {states} {counts:?} {marks:?} {area}"
+    );
+    let file = expected.map_or(vec![], |_| [&[states as u8], counts, marks].concat());
+    assert_eq!(expected.unwrap_or(0), file.len());
+    for lent in &lent {
+        assert!(lent.holds(&file), "{stock:?} {states} {counts:?} {marks:?} {area}");
+    }
+    tally.count("write_transducer", &expected, "accepted");
+}
+
+#[cfg(feature = "translation")]
+fn translation(tally: &mut Tally, stock: &[u8], file: &[u8], tree: &[u8], area: usize) {
+    let mut lent = [Lent::new(area), Lent::new(area), Lent::new(area)];
+    let expected = independent::translate_into(stock, file, tree, lent[0].area());
+    let answer = number(caplune::translate(stock, file, tree, lent[1].area()));
+    assert_eq!(answer, expected, "{stock:?} {file:?} {tree:?} {area}");
+    let mut length = BEFORE[0];
+    let refused = unsafe {
+        ffi::caplune_translate(
+            stock.as_ptr(),
+            stock.len(),
+            file.as_ptr(),
+            file.len(),
+            tree.as_ptr(),
+            tree.len(),
+            lent[2].area().as_mut_ptr(),
+            area,
+            &mut length,
+        )
+    };
+    let left = expected.unwrap_or(BEFORE[0]);
+    assert_eq!((refused, length), (expected.err().unwrap_or(0), left), "{stock:?} {file:?} {tree:?} {area}");
+    let output = independent::translate(stock, file, tree, area).unwrap_or_default();
+    assert_eq!(expected.unwrap_or(0), output.len());
+    for lent in &lent {
+        assert!(lent.holds(&output), "{stock:?} {file:?} {tree:?} {area}");
+    }
+    tally.count("translate", &expected, "accepted");
+}
+
+#[cfg(feature = "translation")]
+fn place(tally: &mut Tally, stock: &[u8], file: &[u8], tree: &[u8], address: &[u8]) {
+    let expected = independent::symbol_at(stock, file, tree, address);
+    assert_eq!(
+        number(caplune::symbol_at(stock, file, tree, address)),
+        expected,
+        "{stock:?} {file:?} {tree:?} {address:?}"
+    );
+    let [mut there, mut symbol, _] = BEFORE;
+    let refused = unsafe {
+        ffi::caplune_symbol_at(
+            stock.as_ptr(),
+            stock.len(),
+            file.as_ptr(),
+            file.len(),
+            tree.as_ptr(),
+            tree.len(),
+            address.as_ptr(),
+            address.len(),
+            &mut there,
+            &mut symbol,
+        )
+    };
+    let left = match expected {
+        Ok(Some(symbol)) => (1, usize::from(symbol)),
+        Ok(None) => (0, BEFORE[1]),
+        Err(_) => (BEFORE[0], BEFORE[1]),
+    };
+    assert_eq!(
+        (refused, (there, symbol)),
+        (expected.err().unwrap_or(0), left),
+        "{stock:?} {file:?} {tree:?} {address:?}"
+    );
+    tally.count("symbol_at", &expected, if matches!(expected, Ok(Some(_))) { "symbol" } else { "nowhere" });
+}
+
+/// One case: files that belong together, three times of four with some of them damaged, swapped or
+/// emptied.
+struct Case {
+    #[cfg_attr(not(feature = "translation"), allow(dead_code))]
+    alphabets: Alphabets,
+    stock: Vec<u8>,
+    file: Vec<u8>,
+    tree: Vec<u8>,
+    states: usize,
+    counts: Vec<u8>,
+    marks: Vec<u8>,
+}
+
+impl Case {
+    fn random(random: &mut Random) -> Self {
+        let alphabets = Alphabets::random(random);
+        let transducer = Transducer::random(random, &alphabets);
+        let mut case = Case {
+            stock: alphabets.file(),
+            file: transducer.file(),
+            tree: generate::input_tree(random, &alphabets),
+            states: transducer.states,
+            counts: transducer.counts(),
+            marks: transducer.marks(),
+            alphabets,
+        };
+        match random.below(16) {
+            0 => generate::damage(random, &mut case.stock),
+            1 | 2 => generate::damage(random, &mut case.file),
+            3 => generate::damage(random, &mut case.tree),
+            4 => {
+                generate::damage(random, &mut case.counts);
+                generate::damage(random, &mut case.file);
+            }
+            5 => generate::damage(random, &mut case.marks),
+            6 => case.states = random.pick(&[0, 1, 2, 127, 128, 129, 255, 256, 257, 1 << 62, 1 << 63, usize::MAX]),
+            7 => {
+                generate::damage(random, &mut case.stock);
+                generate::damage(random, &mut case.file);
+                generate::damage(random, &mut case.tree);
+            }
+            8 => match random.below(8) {
+                0 => std::mem::swap(&mut case.stock, &mut case.file),
+                1 => std::mem::swap(&mut case.stock, &mut case.tree),
+                2 => std::mem::swap(&mut case.file, &mut case.tree),
+                3 => case.stock.clear(),
+                4 => case.file.clear(),
+                5 => case.tree.clear(),
+                6 => std::mem::swap(&mut case.counts, &mut case.marks),
+                _ => {
+                    let other = Alphabets::random(random);
+                    case.stock = other.file();
+                }
+            },
+            // a mark that may be unknown, at a random place
+            9 if !case.marks.is_empty() => {
+                let at = 2 * random.below(case.marks.len() / 2);
+                let mark = [random.below(6) as u8, random.pick(&[0, 1, 63, 64, 127, 128, 255])];
+                case.marks[at..at + 2].copy_from_slice(&mark);
+                let behind = case.file.len() - case.marks.len();
+                case.file[behind + at..behind + at + 2].copy_from_slice(&mark);
+            }
+            // a count too high or too low, the marks being as they were or as many as it says
+            10 => {
+                let at = 2 * random.below(case.counts.len() / 2);
+                let count = random.pick(&[0, 1, 2, 63, 64, 65, 256, 257, 65535u16]).to_be_bytes();
+                case.counts[at..at + 2].copy_from_slice(&count);
+                case.file[1 + at..3 + at].copy_from_slice(&count);
+                let total: usize =
+                    case.counts.chunks(2).map(|pair| usize::from(u16::from_be_bytes([pair[0], pair[1]]))).sum();
+                if random.once_in(2) && total <= 8300 {
+                    case.marks.resize(2 * total, 0);
+                    case.file.resize(1 + case.counts.len() + 2 * total, 0);
+                }
+            }
+            _ => {}
+        }
+        case
+    }
+
+    /// The refusals of all functions, the areas and addresses being random.
+    fn compare(&self, random: &mut Random, tally: &mut Tally) {
+        let Case { stock, file, tree: design, .. } = self;
+        let (mut stock_lent, mut file_lent, mut tree_lent) = (stock.clone(), file.clone(), design.clone());
+        let (stock_lent, file_lent, tree_lent) = (&mut stock_lent[..], &mut file_lent[..], &mut tree_lent[..]);
+        alphabets(tally, stock_lent);
+        tree(tally, stock_lent, tree_lent);
+        transducer(tally, stock_lent, file_lent);
+        linear(tally, stock_lent, file_lent);
+        let area = match random.below(8) {
+            0 => 20_482,
+            1 => random.below(20_483),
+            2 => random.range(20_483, 21_000),
+            _ => 20_483,
+        };
+        writing(tally, stock_lent, self.states, &self.counts, &self.marks, area);
+        self.compare_outputs(random, tally, stock_lent, file_lent, tree_lent);
+        // what was lent for reading
+        assert!(stock_lent == &stock[..] && file_lent == &file[..] && tree_lent == &design[..]);
+    }
+
+    #[cfg(feature = "translation")]
+    fn compare_outputs(&self, random: &mut Random, tally: &mut Tally, stock: &[u8], file: &[u8], tree: &[u8]) {
+        let limit = random.pick(&[50, 500, 5000, 50_000]);
+        let output = independent::translate(stock, file, tree, limit);
+        let areas = match &output {
+            Ok(output) => {
+                vec![output.len(), output.len() - 1, output.len() + random.below(40), random.below(output.len())]
+            }
+            Err(_) => vec![random.below(limit)],
+        };
+        for area in areas {
+            translation(tally, stock, file, tree, area);
+        }
+        // The alphabets may be damaged or others: then the address is random.
+        let known = output.as_ref().ok().filter(|_| *stock == self.alphabets.file());
+        for _ in 0..3 {
+            let address = generate::address(random, known.map(|output| &output[..]), &self.alphabets.outputs);
+            place(tally, stock, file, tree, &address);
+        }
+    }
+
+    #[cfg(not(feature = "translation"))]
+    fn compare_outputs(&self, _: &mut Random, _: &mut Tally, _: &[u8], _: &[u8], _: &[u8]) {}
+}
+
+/// The outcomes that the paper has for each function.
+fn outcomes() -> Vec<(&'static str, &'static str)> {
+    let mut all = vec![
+        ("read_alphabets", "accepted"),
+        ("read_alphabets", "refused 2"),
+        ("read_tree", "accepted"),
+        ("read_tree", "refused 2"),
+        ("read_tree", "refused 3"),
+        ("read_transducer", "accepted"),
+        ("read_transducer", "refused 2"),
+        ("read_transducer", "refused 4"),
+        ("read_transducer", "refused 5"),
+        ("write_transducer", "accepted"),
+        ("write_transducer", "refused 1"),
+        ("write_transducer", "refused 2"),
+        ("write_transducer", "refused 4"),
+        ("write_transducer", "refused 5"),
+        ("is_linear", "yes"),
+        ("is_linear", "no"),
+        ("is_linear", "refused 2"),
+        ("is_linear", "refused 4"),
+        ("is_linear", "refused 5"),
+    ];
+    if cfg!(feature = "translation") {
+        all.extend([
+            ("translate", "accepted"),
+            ("translate", "refused 2"),
+            ("translate", "refused 3"),
+            ("translate", "refused 4"),
+            ("translate", "refused 5"),
+            ("translate", "refused 6"),
+            ("symbol_at", "symbol"),
+            ("symbol_at", "nowhere"),
+            ("symbol_at", "refused 2"),
+            ("symbol_at", "refused 3"),
+            ("symbol_at", "refused 4"),
+            ("symbol_at", "refused 5"),
+        ]);
+    }
+    all
+}
+
+#[test]
+fn generated_cases() {
+    let mut tally = Tally::default();
+    for seed in 0..40_000 {
+        let mut random = Random::new(seed);
+        Case::random(&mut random).compare(&mut random, &mut tally);
+    }
+    tally.settle(&outcomes(), 300);
+}
+
+/// Every short string of bytes as a file, so that all small files are tried.
+#[test]
+fn all_small_files() {
+    let mut tally = Tally::default();
+    let stock: &[u8] = &[2, 1, 0, 2, 2, 0];
+    for length in 0..=7 {
+        let mut bytes = vec![0; length];
+        'next: loop {
+            alphabets(&mut tally, &bytes);
+            tree(&mut tally, stock, &bytes);
+            transducer(&mut tally, stock, &bytes);
+            linear(&mut tally, stock, &bytes);
+            // the next string over 0, 1, 2 and 3
+            for byte in bytes.iter_mut() {
+                *byte += 1;
+                if *byte < 4 {
+                    continue 'next;
+                }
+                *byte = 0;
+            }
+            break;
+        }
+    }
+    for &(function, outcome) in
+        &[("read_alphabets", "accepted"), ("read_tree", "accepted"), ("read_transducer", "accepted")]
+    {
+        assert!(tally.0[&(function, outcome.to_string())] > 0);
+    }
+    println!("{:?}", tally.0);
+}
+
+/// The generator reaches the limits: what it makes is accepted up to them, and refused past them.
+#[test]
+fn the_limits_are_reached() {
+    let (mut states, mut inputs, mut marks, mut term, mut bytes) = (0, 0, 0, 0, 0);
+    let (mut nodes, mut levels, mut over) = (0, 0, 0);
+    for seed in 0..10_000 {
+        let mut random = Random::new(seed);
+        let alphabets = Alphabets::random(&mut random);
+        let stock = alphabets.file();
+        let file = Transducer::random(&mut random, &alphabets).file();
+        if let Ok(read) = caplune::read_transducer(&stock, &file) {
+            states = states.max(read.states);
+            inputs = inputs.max(caplune::read_alphabets(&stock).unwrap().inputs);
+            marks = marks.max(read.marks.len() / 2);
+            term = read.counts.chunks(2).map(|pair| pair[1]).max().unwrap().max(term);
+            bytes = bytes.max(file.len());
+        }
+        match caplune::read_tree(&stock, &generate::input_tree(&mut random, &alphabets)) {
+            Ok(size) => {
+                nodes = nodes.max(size.nodes);
+                levels = levels.max(size.levels);
+            }
+            Err(_) => over += 1,
+        }
+    }
+    assert_eq!((states, inputs, marks, term), (128, 16, 8192, 64));
+    assert_eq!((nodes, levels), (4096, 512));
+    assert!(bytes > 20_000 && over > 100, "{bytes} {over}");
+}
+
+/// The independent implementation agrees with itself: the symbol at each address of an output tree
+/// is the one that stands there.
+#[test]
+fn addresses_of_whole_outputs() {
+    let mut looked_at = 0;
+    for seed in 0..4000 {
+        let mut random = Random::new(seed + 1_000_000);
+        let alphabets = Alphabets::random(&mut random);
+        let stock = alphabets.file();
+        let file = Transducer::random(&mut random, &alphabets).file();
+        let tree = generate::input_tree(&mut random, &alphabets);
+        let Ok(output) = independent::translate(&stock, &file, &tree, 60) else { continue };
+        for node in 0..output.len() {
+            let mut address = generate::address_of(&output, &alphabets.outputs, node);
+            assert_eq!(independent::symbol_at(&stock, &file, &tree, &address), Ok(Some(output[node])));
+            address.push(alphabets.outputs[usize::from(output[node])] + 1);
+            assert_eq!(independent::symbol_at(&stock, &file, &tree, &address), Ok(None));
+            looked_at += 1;
+        }
+    }
+    assert!(looked_at > 5000, "{looked_at}");
+}
