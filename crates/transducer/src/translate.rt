@@ -160,9 +160,9 @@ fn emit(
     requires { ⌜ Walkable (now ins) (now starts) (now marks) (now s) (now ends) 0 to 0 ⌝ }
     ensures { λ r. ⌜ Emitted (walked (now (ins .entry)) (now (starts .entry)) (now (marks .entry)) (now (s .entry)) 0 0 to) (now (out .entry)) (now (out .exit)) r ⌝ }
 {
-    let size = tally(ins, starts, marks, s, ends, 0, to, 0, 0, out.len());
-    if size > out.len() {
-        return size;
+    let symbols = tally(ins, starts, marks, s, ends, 0, to, 0, 0, out.len());
+    if symbols > out.len() {
+        return symbols;
     }
     walk(ins, starts, marks, s, ends, 0, to, 0, out, 0)
 }
