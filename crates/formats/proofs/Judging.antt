@@ -1,10 +1,14 @@
 -- How an answer is judged: from a check that fails or holds to the answer, and back.
 -- Assumes nothing.
 use Prim.Native.Nat.{ℕ}
+use mathlib.Core.List.{[], _∷_}
 use mathlib.Core.Logic.{_⊎_, inl, inr}
-use mathlib.Core.Path.{_≡_, refl, ap}
+use mathlib.Core.Path.{_≡_, refl, sym, ap, _∙_}
 use Rattle.theory.proofs.Terms.{conflict}
-use Rattle.formats.specs.Refusal.{Outcome, accepted, refused, Checks, done, check, Holds, judged, Judged}
+use lib.ListN.{getD}
+use Rattle.formats.specs.Refusal.{number, Outcome, accepted, refused, Checks, done, check, Holds, judged, Judged}
+use Rattle.formats.specs.declared.refusal.Refusal.{Refusal}
+use Rattle.formats.specs.declared.refusal.Refusal.the-variants.{ShortArea, BadAlphabets, BadTree, BadContents, BadBody, LongOutput, OverLimits, FullRegistry, BadRegistry}
 
 module _ {A : Type 0} {Kept : Type 0} {Good : A → Type 0} where
   -- the first check does not hold
@@ -74,3 +78,45 @@ module _ {A B : Type 0} (Kept Kept′ : Type 0) (Good : A → Type 0) (Good′ :
 
 pub refused-early : {A B Kept Kept′ : Type 0} {Good : A → Type 0} {Good′ : B → Type 0} (checks rest : Checks) {k : ℕ} → Kept′ → Judged {A = A} Kept Good checks (refused k) → Judged {A = B} Kept′ Good′ (behind checks rest) (refused k)
 refused-early {Kept} {Kept′} {Good} {Good′} checks rest {k} kept j = record { verdict = same-verdict Kept Kept′ Good Good′ kept k rest checks (j .verdict) }
+
+-- where the checks before it hold and one does not, the answer is its refusal
+pub must-refuse : {A Kept : Type 0} {Good : A → Type 0} {k : ℕ} {P : Type 0} {r : Outcome A} (checks rest : Checks) → Holds checks → (P → ⊥) → Judged Kept Good (behind checks (check k P rest)) r → (r ≡ refused k) × Kept
+unfolding judged Holds
+must-refuse {Kept} {Good} {k} {P} {r} checks rest h f J = go checks h (J .verdict)
+  where
+    go : (checks : Checks) → Holds checks → judged Kept Good (behind checks (check k P rest)) r → (r ≡ refused k) × Kept
+    go done h (inl (g, q, kept)) = (q, kept)
+    go done h (inr (p, j)) = absurd (f p)
+    go (check m Q checks) h (inl (g, q, kept)) = absurd (g (h .0))
+    go (check m Q checks) h (inr (p, j)) = go checks (h .1) j
+
+-- a refusal is told by its number
+refusalOf : ℕ → Refusal
+refusalOf k = getD (ShortArea ∷ ShortArea ∷ BadAlphabets ∷ BadTree ∷ BadContents ∷ BadBody ∷ LongOutput ∷ OverLimits ∷ FullRegistry ∷ BadRegistry ∷ []) k ShortArea
+
+of-number : (x : Refusal) → refusalOf (number x) ≡ x
+unfolding refusalOf
+of-number ShortArea = refl
+of-number BadAlphabets = refl
+of-number BadTree = refl
+of-number BadContents = refl
+of-number BadBody = refl
+of-number LongOutput = refl
+of-number OverLimits = refl
+of-number FullRegistry = refl
+of-number BadRegistry = refl
+
+pub number-unique : (x y : Refusal) → number x ≡ number y → x ≡ y
+number-unique x y e = sym (of-number x) ∙ ap refusalOf e ∙ of-number y
+
+-- what is Good′ wherever it is Good: the answer under the same checks
+module _ {A : Type 0} (Kept : Type 0) (Good Good′ : A → Type 0) (better : (a : A) → Good a → Good′ a) where
+  same-checks : (checks : Checks) (r : Outcome A) → judged Kept Good checks r → judged Kept Good′ checks r
+  unfolding judged
+  same-checks done (accepted a) j = better a j
+  same-checks done (refused k) j = absurd j
+  same-checks (check k P rest) r (inl w) = inl w
+  same-checks (check k P rest) r (inr (p, j)) = inr (p, same-checks rest r j)
+
+pub better-answer : {A Kept : Type 0} {Good Good′ : A → Type 0} {checks : Checks} {r : Outcome A} → ((a : A) → Good a → Good′ a) → Judged Kept Good checks r → Judged Kept Good′ checks r
+better-answer {Kept} {Good} {Good′} {checks} {r} better j = record { verdict = same-checks Kept Good Good′ better checks r (j .verdict) }

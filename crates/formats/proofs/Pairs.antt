@@ -2,13 +2,15 @@
 -- Assumes nothing.
 use Prim.Native.Nat.{ℕ, suc, _+_, _*_, _≤_, _<_}
 use native.Mathlib.Nat.{mul-le-mul-right, suc-mul}
+use native.Mathlib.Numerals.{add-one}
 use native.Mathlib.Omega.{arith}
-use mathlib.Core.Path.{_≡_, refl, _∙_}
+use mathlib.Core.Path.{_≡_, refl, sym, ap, ap₂, _∙_}
 use mathlib.Core.List.{List, [], _∷_}
 use lib.ListN.{length, getD, take, drop}
-use lib.Seq.{slice, length-slice, getD-drop, getD-take}
+use lib.Seq.{slice, slice-cons, length-slice, getD-drop, getD-take}
 use Rattle.formats.specs.Code.{Mark}
 use Rattle.formats.specs.Inner.Layout.{pairs, markAt, bodyNumber, bodyCount}
+use Rattle.formats.specs.Inner.Marked.{part}
 
 pub pairs-length : (s : List ℕ) (n : ℕ) → 2 * n ≤ length s → n ≤ length (pairs s)
 unfolding pairs
@@ -26,6 +28,11 @@ pairs-at (i ∷ x ∷ s) (suc j) h =
     let a : 2 * suc j ≡ suc (suc (2 * j)) = omega arith in
     let b : suc (suc (2 * j)) + 1 ≡ suc (suc (2 * j + 1)) = omega arith in
     rw (a, b) (pairs-at s j (omega arith))
+
+-- the marks from number j on: mark j, and those behind it
+pub part-cons : (bytes : List ℕ) (j to : ℕ) → j < to → 2 * to ≤ length bytes → part bytes j to ≡ (getD bytes (2 * j) 0, getD bytes (2 * j + 1) 0) ∷ part bytes (j + 1) to
+part-cons bytes j to less inside =
+    slice-cons j to (pairs bytes) (0, 0) less (pairs-length bytes to inside) ∙ ap₂ _∷_ (pairs-at bytes j (omega arith)) (ap (λ k. slice k to (pairs bytes)) (sym (add-one j)))
 
 -- ---- bodies by number
 -- q · P + a is below n · P for a below P

@@ -14,7 +14,7 @@ use Rattle.theory.specs.Transducer.{Transducer}
 use Rattle.formats.specs.Code.{Ranked, Mark, marks, Call}
 use Rattle.formats.specs.Inner.Decode.{forest, first, Whole}
 use Rattle.formats.specs.Inner.Layout.{pairs, offset, countAt, markOf, body, bodyNumber, bodyCount, transducer, Right, Wholes}
-use Rattle.formats.specs.Sheet.{longest, countBytes, bodyBytes, Contents, Counted, OverAlphabets, bodiesOf, terms, Encodes, file, Sheet}
+use Rattle.formats.specs.Sheet.{longest, countBytes, bodyBytes, Contents, Counted, OverAlphabets, bodiesOf, terms, Encodes, file, CountedFile, Sheet}
 use Rattle.formats.proofs.Codes.{reads-back, unique, exactly}
 use Rattle.formats.proofs.Letters.{faithful-marks, over-term, ranked-term}
 use Rattle.formats.proofs.Pairs.{number-less}
@@ -184,3 +184,7 @@ sheet-unique ins outs s n n′ M M′ S S′ =
     let E = encodes-same ins outs n n′ (S .counts) (S′ .counts) (S .bytes) (S′ .bytes) M′ e f g (S′ .encodes) in
     let u = encodes-unique ins outs n (S .counts) (S .bytes) M M′ (S .encodes) E in
     (e, f, g, u .0, u .1)
+
+-- the file of a transducer has the right N, counts and length
+pub sheet-counted : {ins outs s : List ℕ} {n : ℕ} {M : Transducer ℕ} → Sheet ins outs s n M → CountedFile (length ins) s
+sheet-counted {ins} {outs} {n = n} {M = M} S = record { states = n; counts = S .counts; bytes = S .bytes; coded = S .coded; counted = encodes-counted ins outs n (S .counts) (S .bytes) M (S .encodes) }

@@ -34,9 +34,9 @@ use Rattle.formats.specs.declared.tree.Extent.the-variants as extent
 use Rattle.formats.proofs.Forest.{first-tree, letters-pos, count-rests, count-firsts}
 use Rattle.formats.proofs.Codes.{single}
 use Rattle.formats.proofs.Counts.{laid, from-offsets}
-use Rattle.formats.proofs.Judging.{refuse, pass, accept}
+use Rattle.formats.proofs.Judging.{refuse, pass, accept, better-answer}
 use Rattle.formats.proofs.Letters.{call-made, symbol-made}
-use Rattle.formats.proofs.Pairs.{pairs-length, pairs-at, number-less}
+use Rattle.formats.proofs.Pairs.{pairs-length, pairs-at, number-less, part-cons}
 use Rattle.formats.proofs.Sheets.{whole-ranked, encodes-wholes}
 use Rattle.formats.proofs.Trees.{whole-input, measured-none}
 use Rattle.transducer.specs.Answers.{found, named, FindsSymbol}
@@ -157,8 +157,7 @@ module _ (outs : List ℕ) (n r : ℕ) (bytes : List ℕ) (j to : ℕ) (inside :
     -- the mark j, before the terms from the next mark on
     by-mark : termsAt outs n r bytes j to ≡ put (markOf outs n r (i, x)) (termsAt outs n r bytes (j + 1) to)
     unfolding forest
-    by-mark = ap (forest (markOf outs n r)) (slice-cons j to (pairs bytes) (0, 0) in-part (pairs-length bytes to inside)
-        ∙ ap₂ _∷_ (pairs-at bytes j (omega (arith, in-part)) ∙ ap₂ (λ a b. (a, b)) (sym e) (sym f)) (ap (λ k. slice k to (pairs bytes)) (sym (add-one j))))
+    by-mark = ap (forest (markOf outs n r)) (part-cons bytes j to in-part inside ∙ ap₂ (λ a b. (a, b) ∷ part bytes (j + 1) to) (sym e) (sym f))
 
     pub call-mark : 0 < i → CallMark n r i x (termsAt outs n r bytes j to)
     call-mark h = rw by-mark (put-call outs n r i x (markOf outs n r (i, x)) (termsAt outs n r bytes (j + 1) to) h refl (rw by-mark at some-there))
@@ -395,18 +394,9 @@ module _ {stock : List ℕ} {n : ℕ} {counts bytes : List ℕ} (X : Machine sto
         rw c (pass (tree (inputs stock) s, i) (accept (_, (output-read X s T, refl))))
 
 -- ---- the file
--- what is Good′ wherever it is Good: the answer under the same checks
-module _ {A : Type 0} (Kept : Type 0) (Good Good′ : A → Type 0) (better : (a : A) → Good a → Good′ a) where
-  same-checks : (checks : Checks) (r : Outcome A) → judged Kept Good checks r → judged Kept Good′ checks r
-  unfolding judged
-  same-checks done (accepted a) j = better a j
-  same-checks done (refused k) j = absurd j
-  same-checks (check k P rest) r (inl w) = inl w
-  same-checks (check k P rest) r (inr (p, j)) = inr (p, same-checks rest r j)
-
 -- what is answered of the parts of a file is answered of it
 pub file-finds : {stock sheet ins counts bytes design : List ℕ} {n : ℕ} → Opened stock sheet n ins counts bytes → (v : List ℕ) (x : Found) → FindsBy stock n counts bytes design v x → FindsSymbol stock sheet design v x
 unfolding Holds
 file-finds {stock} {design = design} O v x D =
     let h = O .holds in
-    pass (h .0) (pass (h .1 .0) (pass (h .1 .1 .0) (record { verdict = same-checks Nothing _ _ (λ o w. (w .0, (from-parts (opened-sheet O) (w .1 .0), w .1 .1))) (treeCheck stock design done) (found x) (D .verdict) })))
+    pass (h .0) (pass (h .1 .0) (pass (h .1 .1 .0) (better-answer (λ o w. (w .0, (from-parts (opened-sheet O) (w .1 .0), w .1 .1))) D)))

@@ -14,14 +14,13 @@ use Rattle.theory.specs.Transducer.{Transducer}
 use Rattle.theory.proofs.Terms.{conflict}
 use Rattle.formats.specs.Alphabets.{Alphabets, inputs, outputs, alphabetCheck}
 use Rattle.formats.specs.Code.{code}
-use Rattle.formats.specs.Refusal.{number, Outcome, accepted, refused, Checks, done, check, Holds, judged, Judged, Decides}
-use Rattle.formats.specs.Sheet.{CountedFile, Sheet, sheetCheck}
+use Rattle.formats.specs.Refusal.{accepted, refused, done, Holds, Decides}
+use Rattle.formats.specs.Sheet.{Sheet, sheetCheck}
 use Rattle.formats.specs.Tree.{treeCheck}
-use Rattle.formats.specs.declared.refusal.Refusal.{Refusal}
-use Rattle.formats.specs.declared.refusal.Refusal.the-variants.{ShortArea, BadAlphabets, BadTree, BadContents, BadBody, LongOutput, OverLimits, FullRegistry, BadRegistry}
+use Rattle.formats.specs.declared.refusal.Refusal.the-variants.{LongOutput}
 use Rattle.formats.proofs.Deciding.{decides-same}
-use Rattle.formats.proofs.Judging.{accepted-holds, must-accept, behind}
-use Rattle.formats.proofs.Sheets.{encodes-counted, sheet-unique}
+use Rattle.formats.proofs.Judging.{accepted-holds, must-accept, must-refuse, number-unique}
+use Rattle.formats.proofs.Sheets.{sheet-counted, sheet-unique}
 use Rattle.transducer.specs.Answers.{linearTest, TestsLinear, translated, Translates, found, named, FindsSymbol}
 use Rattle.transducer.specs.Linear.{Linear}
 use Rattle.transducer.specs.Output.{Output}
@@ -36,45 +35,10 @@ use Rattle.transducer.proofs.Outputs.{output-unique, to-parts, code-siz
 pub file-output-unique : {stock sheet design : List ℕ} {t t′ : Tree} → Output stock sheet design t → Output stock sheet design t′ → t ≡ t′
 file-output-unique O O′ = let S = O .is-sheet in output-unique (to-parts S O) (to-parts S O′)
 
--- the file of a transducer has the right N, counts and length
-sheet-counted : {ins outs s : List ℕ} {n : ℕ} {M : Transducer ℕ} → Sheet ins outs s n M → CountedFile (length ins) s
-sheet-counted {ins} {outs} {n = n} {M = M} S = record { states = n; counts = S .counts; bytes = S .bytes; coded = S .coded; counted = encodes-counted ins outs n (S .counts) (S .bytes) M (S .encodes) }
-
 -- where there is an output, every file is right
 files-hold : {stock sheet design : List ℕ} {t : Tree} → Alphabets stock → Output stock sheet design t → Holds (alphabetCheck stock (sheetCheck stock sheet (treeCheck stock design done)))
 unfolding Holds
 files-hold A O = (A, (sheet-counted (O .is-sheet), ((O .states, (O .machine, O .is-sheet)), ((O .input, O .is-tree), tt))))
-
--- ---- refusals
--- where the checks before it hold and one does not, the answer is its refusal
-must-refuse : {A Kept : Type 0} {Good : A → Type 0} {k : ℕ} {P : Type 0} {r : Outcome A} (checks rest : Checks) → Holds checks → (P → ⊥) → Judged Kept Good (behind checks (check k P rest)) r → (r ≡ refused k) × Kept
-unfolding judged Holds
-must-refuse {Kept} {Good} {k} {P} {r} checks rest h f J = go checks h (J .verdict)
-  where
-    go : (checks : Checks) → Holds checks → judged Kept Good (behind checks (check k P rest)) r → (r ≡ refused k) × Kept
-    go done h (inl (g, q, kept)) = (q, kept)
-    go done h (inr (p, j)) = absurd (f p)
-    go (check m Q checks) h (inl (g, q, kept)) = absurd (g (h .0))
-    go (check m Q checks) h (inr (p, j)) = go checks (h .1) j
-
--- a refusal is told by its number
-refusalOf : ℕ → Refusal
-refusalOf k = getD (ShortArea ∷ ShortArea ∷ BadAlphabets ∷ BadTree ∷ BadContents ∷ BadBody ∷ LongOutput ∷ OverLimits ∷ FullRegistry ∷ BadRegistry ∷ []) k ShortArea
-
-of-number : (x : Refusal) → refusalOf (number x) ≡ x
-unfolding refusalOf
-of-number ShortArea = refl
-of-number BadAlphabets = refl
-of-number BadTree = refl
-of-number BadContents = refl
-of-number BadBody = refl
-of-number LongOutput = refl
-of-number OverLimits = refl
-of-number FullRegistry = refl
-of-number BadRegistry = refl
-
-pub number-unique : (x y : Refusal) → number x ≡ number y → x ≡ y
-number-unique x y e = sym (of-number x) ∙ ap refusalOf e ∙ of-number y
 
 -- ---- translating
 module _ {stock sheet design : List ℕ} {t : Tree} (A : Alphabets stock) (O : Output stock sheet design t) where

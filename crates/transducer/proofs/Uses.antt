@@ -15,7 +15,7 @@ use Rattle.formats.specs.Inner.Layout.{pairs, body}
 use Rattle.formats.specs.Inner.Marked.{part}
 use Rattle.formats.specs.Refusal.{Decides}
 use Rattle.formats.proofs.Deciding.{decides-no, decides-yes}
-use Rattle.formats.proofs.Pairs.{pairs-length, pairs-at}
+use Rattle.formats.proofs.Pairs.{pairs-length, part-cons}
 use Rattle.transducer.specs.Linear.{oneIf}
 use Rattle.transducer.specs.Inner.Uses.{uses, Once, Low, LowBodies}
 
@@ -50,9 +50,7 @@ module _ {bytes : List ℕ} {from to j : ℕ} {seen : List Bool} (W : Passed byt
   -- the next mark, of child i or, where i is 0, a symbol
   module _ (less : j < to) (inside : 2 * to ≤ length bytes) {i : ℕ} (e : i ≡ getD bytes (2 * j) 0) where
     next : part bytes j to ≡ (i, getD bytes (2 * j + 1) 0) ∷ part bytes (j + 1) to
-    next =
-        slice-cons j to (pairs bytes) (0, 0) less (pairs-length bytes to inside)
-        ∙ ap₂ _∷_ (pairs-at bytes j (omega arith) ∙ ap (λ a. (a, getD bytes (2 * j + 1) 0)) (sym e)) (ap (λ k. slice k to (pairs bytes)) (sym (add-one j)))
+    next = part-cons bytes j to less inside ∙ ap (λ a. (a, getD bytes (2 * j + 1) 0) ∷ part bytes (j + 1) to) (sym e)
 
     next-low : (i ≤ 4) × Low (part bytes (j + 1) to)
     unfolding Low

@@ -8,7 +8,7 @@ use mathlib.Core.Path.{_≡_, refl, sym, ap, ap₂, _∙_}
 use mathlib.Core.List.{List, [], _∷_, _++_}
 use lib.Dec.{leb, ltb}
 use lib.ListN.{length, getD, drop, length-drop}
-use lib.Seq.{drop-cons, slice, slice-cons, slice-empty}
+use lib.Seq.{drop-cons, slice, slice-empty}
 use borrow.Author.Tests.{ltb-true, leb-true}
 use Rattle.theory.specs.Term.{node, Terms, none, more, count, Tree}
 use Rattle.theory.specs.Size.{size}
@@ -18,7 +18,7 @@ use Rattle.formats.specs.Inner.Layout.{symbolOf, symbolIf, trees, tree, pairs, 
 use Rattle.transducer.specs.Inner.Written.{spell, written, called, bodyAt, applied, walked, Callable, Table, Input, hop, Ready, Walkable}
 use Rattle.formats.proofs.Forest.{first-tree, letters-pos, count-rests, all-drop}
 use Rattle.formats.proofs.Extents.{letters-size}
-use Rattle.formats.proofs.Pairs.{pairs-length, pairs-at, number-less, getD-slice}
+use Rattle.formats.proofs.Pairs.{pairs-length, pairs-at, part-cons, number-less, getD-slice}
 
 -- ---- every position of an input has a tree
 -- the node at position p, with as many of the trees behind it as its rank says
@@ -124,16 +124,13 @@ apply-walk ins starts bytes s T w q p h g =
 
 -- ---- one mark
 module _ (ins starts bytes s : List ℕ) (below j to : ℕ) (less : j < to) (inside : 2 * to ≤ length bytes) where
-  one-mark : slice j to (pairs bytes) ≡ (getD bytes (2 * j) 0, getD bytes (2 * j + 1) 0) ∷ slice (j + 1) to (pairs bytes)
-  one-mark = slice-cons j to (pairs bytes) (0, 0) less (pairs-length bytes to inside) ∙ ap₂ _∷_ (pairs-at bytes j (omega arith)) (ap (λ k. slice k to (pairs bytes)) (sym (add-one j)))
-
   pub walk-symbol : getD bytes (2 * j) 0 ≡ 0 → walked ins starts bytes s below j to ≡ getD bytes (2 * j + 1) 0 ∷ walked ins starts bytes s below (j + 1) to
   unfolding spell
-  walk-symbol e = rw (one-mark, e)
+  walk-symbol e = rw (part-cons bytes j to less inside, e)
 
   pub walk-call : (i : ℕ) → getD bytes (2 * j) 0 ≡ suc i → walked ins starts bytes s below j to ≡ called (bodyAt ins starts bytes) (trees ins (drop below s)) (suc i) (getD bytes (2 * j + 1) 0) ++ walked ins starts bytes s below (j + 1) to
   unfolding spell
-  walk-call i e = rw (one-mark, e)
+  walk-call i e = rw (part-cons bytes j to less inside, e)
 
 -- the call at mark j, over the trees from position below on: the child's place, and what the call writes
 pub record CallAt (ins starts bytes s ends : List ℕ) (n below j to : ℕ) : Type 0 where
