@@ -111,7 +111,7 @@ pub fn transducer_marks<'a>(stock: &[u8], sheet: &'a [u8]) -> &'a [u8]
 }
 
 // Copies `from` into `area`, from `at` on.
-fn copy_at(from: &[u8], area: &mut [u8], at: usize)
+pub fn copy_at(from: &[u8], area: &mut [u8], at: usize)
     requires { ⌜ at + length (now from) ≤ length (now area) ⌝ }
     ensures { λ _. ⌜ now (area .exit) ≡ sets (now (area .entry)) at (now (from .entry)) ⌝ }
 {

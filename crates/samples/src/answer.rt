@@ -8,6 +8,9 @@ use formats::file::FileWritten;
 use formats::refusal::Refusal;
 use formats::tree::TreeRead;
 use libc::STDOUT_FILENO;
+use transducer::address::Found;
+use transducer::linear::LinearTest;
+use transducer::translate::Translation;
 
 // The number of a refusal in document 01's table.
 fn number_of(r: Refusal) -> u64
@@ -88,6 +91,35 @@ pub(crate) fn written(name: &[u8], a: FileWritten) {
     match a {
         FileWritten::Bytes(n) => one(b"bytes ", n),
         FileWritten::Refused(r) => refused(r),
+    }
+}
+
+// What translating answered.
+pub(crate) fn translated(name: &[u8], a: Translation) {
+    text(name);
+    match a {
+        Translation::Symbols(n) => one(b"blocks ", n),
+        Translation::Refused(r) => refused(r),
+    }
+}
+
+// What asking for the symbol at an address answered.
+pub(crate) fn symbol(name: &[u8], a: Found) {
+    text(name);
+    match a {
+        Found::Symbol(b) => one(b"block ", b),
+        Found::Nowhere => text(b"no such place\n"),
+        Found::Refused(r) => refused(r),
+    }
+}
+
+// What the linear test answered.
+pub(crate) fn linear(name: &[u8], a: LinearTest) {
+    text(name);
+    match a {
+        LinearTest::Linear => text(b"yes\n"),
+        LinearTest::NotLinear => text(b"no\n"),
+        LinearTest::Refused(r) => refused(r),
     }
 }
 

@@ -1,8 +1,9 @@
 // Transducers refused by 5: a body that is not one tree, or that has an unknown mark.
+use crate::inputs::NO_STATE;
 use crate::transducers::show;
 
 fn in_the_axiom() {
-    show(b"sheet 0 0 1 1 0, no pass 0: ", &[0, 0, 1, 1, 0]);
+    show(b"sheet 0 0 1 1 0, no pass 0: ", &NO_STATE);
     show(b"sheet 0 0 1 0 2, no block 2: ", &[0, 0, 1, 0, 2]);
     show(b"sheet 0 0 1 5 0, no sub-part 5: ", &[0, 0, 1, 5, 0]);
     show(b"sheet 0 0 1 0 0, a tree cut off: ", &[0, 0, 1, 0, 0]);

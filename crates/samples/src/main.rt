@@ -1,12 +1,16 @@
-// Document 01's small inputs and samples that need only the readers and the writer, a line for each: its name, and the answer.
-// What is printed is in the document's words: stock (alphabets), design (input tree), sheet (transducer), pass (state).
+// Document 01's small inputs and samples that need no more than one transducer, a line for each: its name, and the answer.
+// What is printed is in the document's words: stock (alphabets), design (input tree), sheet (transducer), pass (state), block
+// (output symbol), place (address), single (linear).
+mod addresses;
 mod alphabets;
 mod answer;
 mod bodies;
 mod inputs;
 mod limits;
+mod linear;
 mod parts;
 mod transducers;
+mod translations;
 mod trees;
 mod writer;
 
@@ -18,4 +22,7 @@ fn main() {
     limits::run();
     parts::run();
     writer::run();
+    translations::run();
+    addresses::run();
+    linear::run();
 }

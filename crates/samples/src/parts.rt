@@ -1,13 +1,11 @@
 // The counts and the marks of a transducer, as parts of its file: empty on a refusal.
 use crate::answer;
 use crate::inputs::NO_LEAF;
+use crate::inputs::NO_STATE;
 use crate::inputs::S;
 use crate::inputs::T;
 use formats::file::transducer_counts;
 use formats::file::transducer_marks;
-
-// Refused by 5: a call of state 0, where there is none.
-const NO_STATE: [u8; 5] = [0, 0, 1, 1, 0];
 
 fn counts() {
     answer::part(b"counts of T: ", transducer_counts(&S, &T));

@@ -4,6 +4,7 @@ ghost use lib.ListN.{length};
 use crate::answer;
 use crate::inputs::NO_LEAF;
 use crate::inputs::S;
+use crate::inputs::longest_chain;
 use formats::tree::read_tree;
 
 // S's input symbols a and e, and a third of rank 2; one output symbol.
@@ -30,9 +31,7 @@ fn bad_alphabets() {
 
 // Chains of a that end in e.
 fn levels() {
-    let mut most = [0u8; 512];
-    most[511] = 1;
-    show(b"design of 511 a and e: ", &most);
+    show(b"design of 511 a and e: ", &longest_chain());
     let mut over = [0u8; 513];
     over[512] = 1;
     show(b"design of 512 a and e: ", &over);

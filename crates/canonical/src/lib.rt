@@ -1,0 +1,3 @@
+// Normal forms of transducers: common prefixes, the earliest form.
+pub mod pattern;
+pub mod prefix;
