@@ -2,7 +2,6 @@
 -- Assumes nothing.
 use Prim.Native.Nat.{ℕ, suc, _+_, _-_, _*_, _≤_, _<_}
 use native.Mathlib.Decide.{decLt, ℕ-discrete}
-use native.Mathlib.Numerals.{add-one}
 use native.Mathlib.Omega.{arith}
 use mathlib.Core.Bool.{Bool, true, false}
 use mathlib.Core.Logic.{_≢_, by-cases}
@@ -10,7 +9,7 @@ use mathlib.Core.Path.{_≡_, refl, sym, ap, ap₂, _∙_}
 use mathlib.Core.List.{List, [], _∷_, _++_}
 use lib.Dec.{ltb, eqb}
 use lib.ListN.{length, getD, take, drop, set, length-append, length-set, List·getD-eq-default}
-use lib.Seq.{slice, slice-cons, slice-empty, length-slice, length-take-le, take-add, take-at, drop-at, take-take, drop-drop, take-append-le, sets-eq, getD-set-same, getD-set-other}
+use lib.Seq.{slice, slice-empty, length-slice, length-take-le, take-add, take-at, drop-at, take-take, drop-drop, take-append-le, sets-eq, getD-set-same, getD-set-other}
 use borrow.Rule.Slice.PartMut.{putMid, postOf, same-len-mid, mid-len, take-put, drop-put}
 use borrow.Author.Tests.{lt-ltb, le-ltb, eqb-true}
 use Rattle.theory.specs.Lcp.{lcp}
@@ -305,11 +304,11 @@ module _ {outs heads sizes bytes other : List ℕ} {from to q : ℕ} (C : Cuttab
         inside = C .inside;
         few = C .few;
         there = λ j h g some.
-        let k : from + (j - from) ≡ j = omega arith in
-        let i : j - from < length (part bytes from to) = omega (arith, length-slice from to (pairs bytes) l) in
-        let m = rw (getD-slice from to (j - from) (pairs bytes) l i .1, k) at (R .callable (j - from) i) in
-        let s = m some .1 in
-        (s, T .small (markAt bytes j .1) s, omega (arith, T .long));
+            let k : from + (j - from) ≡ j = omega arith in
+            let i : j - from < length (part bytes from to) = omega (arith, length-slice from to (pairs bytes) l) in
+            let m = rw (getD-slice from to (j - from) (pairs bytes) l i .1, k) at (R .callable (j - from) i) in
+            let s = m some .1 in
+            (s, T .small (markAt bytes j .1) s, omega (arith, T .long));
         room = C .room;
       }
 

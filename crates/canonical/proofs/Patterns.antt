@@ -128,13 +128,15 @@ owing-next {n = ℕ.zero} O h C = absurd (omega arith)
 owing-next {outs} {s} {n = suc n} {o} {p} O h C =
     let there : 0 < count (patternsAt outs s p) = omega (arith, O .enough) in
     let i = owing-inside O h in
-    let w = behind-byte (byte-at outs s p there) C (O .enough) in
-    (record {
-      further = omega (arith, O .further, w .2);
-      inside = omega arith;
-      enough = w .0;
-      behind = w .1 ∙ O .behind;
-    }, omega (arith, w .0, count-letters (topOf outs) (drop (p + 1) s), length-drop (p + 1) s))
+    let w = behind-byte (byte-at outs s p there) C (O .enough) in (
+      record {
+        further = omega (arith, O .further, w .2);
+        inside = omega arith;
+        enough = w .0;
+        behind = w .1 ∙ O .behind;
+      },
+      omega (arith, w .0, count-letters (topOf outs) (drop (p + 1) s), length-drop (p + 1) s),
+    )
 
 -- nothing is owed: the pattern has ended
 pub owing-done : {outs s : List ℕ} {at n p : ℕ} → Owing outs s at n p → n ≡ 0 → Ended outs s at p

@@ -1,12 +1,10 @@
 // Patterns as bytes: a symbol, or 255 for ⊤, where anything may stand; in preorder, one byte each.
-ghost use mathlib.Core.Path.{_≡_};
-ghost use Prim.Native.Nat.{ℕ, _*_, _+_, _≤_, _<_};
-ghost use lib.ListN.{length, drop, take};
+ghost use Prim.Native.Nat.{_*_, _+_, _<_};
+ghost use lib.ListN.{drop};
 ghost use Rattle.theory.specs.Term.{count};
 ghost use Rattle.formats.specs.Inner.Decode.{forest};
 ghost use Rattle.canonical.specs.Inner.Patterns.{topOf, IsPattern, Ended, Met, Graftable, grafted};
 ghost use Rattle.formats.specs.Inner.Judging.{Put};
-ghost use lib.Seq.{sets};
 use formats::bytes::wide;
 use formats::file::copy_at;
 
@@ -63,7 +61,14 @@ pub fn meet(outs: &[u8], x: &mut [u8], y: &[u8]) -> Shared
 }
 
 // Writes the right-hand side of the marks number `from` up to `to` with the pattern of each state for its calls, and says how long that is.
-pub fn graft(heads: &[u8], sizes: &[u8], marks: &[u8], from: usize, to: usize, out: &mut [u8]) -> usize
+pub fn graft(
+    heads: &[u8],
+    sizes: &[u8],
+    marks: &[u8],
+    from: usize,
+    to: usize,
+    out: &mut [u8],
+) -> usize
     requires { ⌜ Graftable (now heads) (now sizes) (now marks) from to (now out) ⌝ }
     ensures { λ r. ⌜ Put (grafted (now (heads .entry)) (now (sizes .entry)) (now (marks .entry)) from to) (now (out .entry)) (now (out .exit)) r ⌝ }
 {

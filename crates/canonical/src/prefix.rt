@@ -1,11 +1,13 @@
 // The common prefixes of the states (01: heads): a table of patterns, cut until no right-hand side cuts any more.
-ghost use Prim.Native.Nat.{_<_, _≤_};
+ghost use Prim.Native.Nat.{_<_};
 ghost use mathlib.Core.Path.{_≡_};
 ghost use lib.ListN.{length, getD};
 ghost use Rattle.formats.specs.Alphabets.{Leaf};
 ghost use Rattle.canonical.specs.Inner.Heads.{Cuttable, CutBy, Bodies, CutState, Swept, Settled, Startable, Started, AllStartable, AllStarted, Prefixable, Prefixes};
-use crate::pattern::{graft, meet};
-use formats::bytes::{number, wide};
+use crate::pattern::graft;
+use crate::pattern::meet;
+use formats::bytes::number;
+use formats::bytes::wide;
 
 // Cuts the pattern of state q by the right-hand side of the marks number `from` up to `to`, and says whether that took anything away.
 pub fn cut_by(

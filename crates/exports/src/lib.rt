@@ -3,11 +3,18 @@
 ghost use mathlib.Core.Path.{_≡_};
 ghost use Rattle.formats.specs.Refusal.{number};
 ghost use Rattle.exports.specs.Exported.{ExportsAlphabets, ExportsTree, ExportsFile, ExportsWriting, ExportsLinear};
-use formats::alphabet::{input_ranks, read_alphabets, AlphabetsRead};
-use formats::file::{read_transducer, write_transducer, FileRead, FileWritten};
+use formats::alphabet::AlphabetsRead;
+use formats::alphabet::input_ranks;
+use formats::alphabet::read_alphabets;
+use formats::file::FileRead;
+use formats::file::FileWritten;
+use formats::file::read_transducer;
+use formats::file::write_transducer;
 use formats::refusal::Refusal;
-use formats::tree::{read_tree, TreeRead};
-use transducer::linear::{is_linear, LinearTest};
+use formats::tree::TreeRead;
+use formats::tree::read_tree;
+use transducer::linear::LinearTest;
+use transducer::linear::is_linear;
 
 // The number of a refusal.
 fn code(x: Refusal) -> u32

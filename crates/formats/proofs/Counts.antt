@@ -49,7 +49,6 @@ module _ {counts : List ℕ} {m j sum : ℕ} (C : Counting counts j sum) where
     complete = λ D. let o : sum ≡ offset counts m = C .sum-is ∙ ap (offset counts) e in eq-eqb (length bytes) (2 * sum) (omega (arith, D .all));
   }
 
-
 -- ---- the bodies
 pub few-bodies : {ins counts bytes : List ℕ} {n : ℕ} → Right ins n counts bytes → bodyCount ins n < 2050
 few-bodies {ins} {n = n} C = omega (arith, mul-le-mul (C .states) (C .symbols))

@@ -1,4 +1,4 @@
--- Forest, Codes: trees and their codes. Letters, Pairs, Offsets: what bytes say. Marks, Counts: the readers of bodies and counts.
+-- Forest, Codes: trees and their codes. Letters, Pairs, Offsets: what bytes say. Marks, Behind, Counts: the readers of bodies and counts.
 -- Stock: the file of the alphabets. Cuts, Lines, Sheets: bodies and their bytes, terms by number, the file of a transducer. Judging, Verdicts, Writing: what entry points answer. Laws: what the promises come to.
 pub mod Forest
 pub mod Codes
@@ -6,6 +6,7 @@ pub mod Letters
 pub mod Pairs
 pub mod Offsets
 pub mod Marks
+pub mod Behind
 pub mod Counts
 pub mod Cuts
 pub mod Lines

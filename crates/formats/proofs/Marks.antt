@@ -1,16 +1,15 @@
 -- Laws of reading marks, at a position of a body.
 -- Assumes nothing.
 use Prim.Native.Nat.{ℕ, suc, _+_, _-_, _*_, _≤_, _<_}
-use native.Mathlib.Numerals.{add-one}
 use native.Mathlib.Omega.{arith}
 use mathlib.Core.Bool.{Bool, true, false}
 use mathlib.Core.Path.{_≡_, refl, sym, ap, ap₂, _∙_}
 use mathlib.Core.List.{List, [], _∷_}
-use lib.Dec.{leb, eqb}
+use lib.Dec.{leb}
 use lib.ListN.{length, getD, drop, take, drop-of-length-le}
-use lib.Seq.{slice, slice-cons, length-slice, length-take-le, drop-length}
+use lib.Seq.{length-take-le, drop-length}
 use borrow.Author.Count.{below-more}
-use borrow.Author.Tests.{lt-ltb, le-ltb, le-leb, lt-leb, leb-true, leb-false, eqb-true, eq-eqb}
+use borrow.Author.Tests.{lt-ltb, le-ltb, le-leb, lt-leb, leb-true, leb-false}
 use Rattle.theory.specs.Term.{Terms, none, more, count}
 use Rattle.theory.proofs.Terms.{conflict}
 use Rattle.formats.specs.Inner.Decode.{letters, lettersAll, Letter, call, symbol, unknown, firsts, grown, put, forest, Whole}
@@ -20,8 +19,7 @@ use Rattle.formats.specs.Refusal.{Decides}
 use Rattle.formats.specs.declared.bodies.End.{End}
 use Rattle.formats.specs.declared.bodies.End.the-variants.{At, Bad}
 use Rattle.formats.proofs.Forest.{first-tree, letters-pos}
-use Rattle.formats.proofs.Pairs.{pairs-length, pairs-at, number-less}
-use Rattle.formats.proofs.Codes.{single}
+use Rattle.formats.proofs.Pairs.{pairs-length, number-less, part-cons}
 
 -- ---- n more trees, behind a part that ends at p: where the whole node ends
 module _ {A : Type 0} where
@@ -59,30 +57,34 @@ module _ {A : Type 0} where
 
 -- ---- the letter of a mark
 module _ (outs : List ℕ) (n r : ℕ) where
-  letter-far : (i x : ℕ) → 0 < i → r < i → markOf outs n r (i, x) ≡ unknown
+  pub letter-far : (i x : ℕ) → 0 < i → r < i → markOf outs n r (i, x) ≡ unknown
   unfolding markOf
   letter-far ℕ.zero x h g = absurd (omega arith)
   letter-far (suc i) x h g = simp (lt-leb (suc i) r g)
 
-  letter-no-state : (i x : ℕ) → 0 < i → i ≤ r → n ≤ x → markOf outs n r (i, x) ≡ unknown
+  pub letter-no-state : (i x : ℕ) → 0 < i → i ≤ r → n ≤ x → markOf outs n r (i, x) ≡ unknown
   unfolding markOf
   letter-no-state ℕ.zero x h l g = absurd (omega arith)
   letter-no-state (suc i) x h l g = simp (le-leb (suc i) r l, le-ltb x n g)
 
-  letter-call : (i x : ℕ) → 0 < i → i ≤ r → x < n → markOf outs n r (i, x) ≡ call (i, x)
+  pub letter-call : (i x : ℕ) → 0 < i → i ≤ r → x < n → markOf outs n r (i, x) ≡ call (i, x)
   unfolding markOf
   letter-call ℕ.zero x h l g = absurd (omega arith)
   letter-call (suc i) x h l g = simp (le-leb (suc i) r l, lt-ltb x n g)
 
-  letter-no-symbol : (i x : ℕ) → i ≡ 0 → length outs ≤ x → markOf outs n r (i, x) ≡ unknown
+  pub letter-no-symbol : (i x : ℕ) → i ≡ 0 → length outs ≤ x → markOf outs n r (i, x) ≡ unknown
   unfolding markOf symbolOf
   letter-no-symbol i x z g = rw z (simp (le-ltb x (length outs) g))
 
-  letter-symbol : (i x : ℕ) → i ≡ 0 → x < length outs → markOf outs n r (i, x) ≡ symbol x (getD outs x 0)
+  pub letter-symbol : (i x : ℕ) → i ≡ 0 → x < length outs → markOf outs n r (i, x) ≡ symbol x (getD outs x 0)
   unfolding markOf symbolOf
   letter-symbol i x z g = rw z (simp (lt-ltb x (length outs) g))
 
 -- ---- at a mark of a body
+-- mark number `at`, and those behind it
+pub next-mark : (bytes : List ℕ) (at to i x : ℕ) → at < to → 2 * to ≤ length bytes → i ≡ getD bytes (2 * at) 0 → x ≡ getD bytes (2 * at + 1) 0 → part bytes at to ≡ (i, x) ∷ part bytes (at + 1) to
+next-mark bytes at to i x less inside e f = part-cons bytes at to less inside ∙ ap₂ (λ a b. (a, b) ∷ part bytes (at + 1) to) (sym e) (sym f)
+
 module _ (outs : List ℕ) (n r : ℕ) (bytes : List ℕ) (at to : ℕ) where
   pub past-end : to ≤ at → 2 * to ≤ length bytes → ended at (forest (markOf outs n r) (part bytes at to)) ≡ Bad
   unfolding ended forest
@@ -91,10 +93,7 @@ module _ (outs : List ℕ) (n r : ℕ) (bytes : List ℕ) (at to : ℕ) where
   module _ (i x : ℕ) (less : at < to) (inside : 2 * to ≤ length bytes) (e : i ≡ getD bytes (2 * at) 0) (f : x ≡ getD bytes (2 * at + 1) 0) where
     by-letter : (l : Letter (ℕ × ℕ)) → markOf outs n r (i, x) ≡ l → ended at (forest (markOf outs n r) (part bytes at to)) ≡ ended at (put l (forest (markOf outs n r) (part bytes (at + 1) to)))
     unfolding forest
-    by-letter l m =
-        let o : part bytes at to ≡ (i, x) ∷ part bytes (at + 1) to = slice-cons at to (pairs bytes) (0, 0) less (pairs-length bytes to inside)
-        ∙ ap₂ _∷_ (pairs-at bytes at (omega arith) ∙ ap₂ (λ a b. (a, b)) (sym e) (sym f)) (ap (λ k. slice k to (pairs bytes)) (sym (add-one at))) in
-        ap (λ s. ended at (forest (markOf outs n r) s)) o ∙ ap (λ l. ended at (put l (forest (markOf outs n r) (part bytes (at + 1) to)))) m
+    by-letter l m = ap (λ s. ended at (forest (markOf outs n r) s)) (next-mark bytes at to i x less inside e f) ∙ ap (λ l. ended at (put l (forest (markOf outs n r) (part bytes (at + 1) to)))) m
 
     pub far-child : 0 < i → r < i → ended at (forest (markOf outs n r) (part bytes at to)) ≡ Bad
     unfolding ended put
@@ -143,7 +142,7 @@ forest-nil : {A X : Type 0} (f : X → Letter A) → forest f [] ≡ none
 unfolding forest
 forest-nil f = refl
 
--- a body is one tree just if the tree at its start ends at its end
+-- a word is one tree if the tree at its start ends at its end
 pub whole-end : {A X : Type 0} (f : X → Letter A) (d : X) (s : List X) (at : ℕ) → ended at (forest f s) ≡ At (at + length s) → Whole f s
 unfolding ended count lettersAll
 whole-end {A} {X} f d s at m = go (forest f s) refl
@@ -158,27 +157,6 @@ whole-end {A} {X} f d s at m = go (forest f s) refl
         let b : ts ≡ none = w .0 ∙ ap (λ k. forest f (drop k s)) e ∙ ap (forest f) (drop-length s) ∙ forest-nil f in
         let h : forest f s ≡ more t none = g ∙ ap (more t) b in
         record { one = ap count h; all = ap lettersAll h ∙ omega arith }
-
-pub end-whole : {A X : Type 0} (f : X → Letter A) (s : List X) (at : ℕ) → Whole f s → ended at (forest f s) ≡ At (at + length s)
-unfolding ended lettersAll
-end-whole f s at W = let e = single (forest f s) (W .one) in ap (ended at) e ∙ ap At (omega (arith, ap lettersAll e, W .all))
-
--- the two answers
-module _ (outs : List ℕ) (n r : ℕ) (bytes : List ℕ) (from to : ℕ) (ordered : from ≤ to) (inside : 2 * to ≤ length bytes) where
-  part-length : from + length (part bytes from to) ≡ to
-  part-length = omega (arith, length-slice from to (pairs bytes) (pairs-length bytes to inside))
-
-  pub ends-there : (e : ℕ) → ended from (forest (markOf outs n r) (part bytes from to)) ≡ At e → Decides (Whole (markOf outs n r) (part bytes from to)) (eqb e to)
-  ends-there e m = record {
-    sound = λ b. whole-end (markOf outs n r) (0, 0) (part bytes from to) from (m ∙ ap At (eqb-true e to b ∙ sym part-length));
-    complete = λ W. let x : At e ≡ At to = sym m ∙ end-whole (markOf outs n r) (part bytes from to) from W ∙ ap At part-length in eq-eqb e to (cc);
-  }
-
-  pub ends-nowhere : ended from (forest (markOf outs n r) (part bytes from to)) ≡ Bad → Decides (Whole (markOf outs n r) (part bytes from to)) false
-  ends-nowhere m = record {
-    sound = λ b. conflict (cc);
-    complete = λ W. conflict (let x : Bad ≡ At (from + length (part bytes from to)) = sym m ∙ end-whole (markOf outs n r) (part bytes from to) from W in cc);
-  }
 
 -- ---- one body after the other
 abbrev pub BodyOk : List ℕ → List ℕ → ℕ → (ℕ → ℕ) → List ℕ → ℕ → ℕ → Type 0

@@ -6,7 +6,7 @@ use native.Mathlib.Numerals.{add-one}
 use native.Mathlib.Omega.{arith}
 use mathlib.Core.Path.{_≡_, refl, sym, ap, ap₂, _∙_}
 use mathlib.Core.List.{List, [], _∷_}
-use lib.ListN.{length, getD, take, drop}
+use lib.ListN.{length, getD, take}
 use lib.Seq.{slice, slice-cons, length-slice, getD-drop, getD-take}
 use Rattle.formats.specs.Code.{Mark}
 use Rattle.formats.specs.Inner.Layout.{pairs, markAt, bodyNumber, bodyCount}

@@ -133,8 +133,8 @@ transducer-bodies ins outs n counts bytes C W =
     let at = counted-body (length ins) n counts bytes C in
     let start = offset counts in
     bodies-are (length ins) n (transducer ins outs n start bytes) (C .parts) (C .contents .bodies)
-      (whole-ranked outs n 1 (body start bytes 0) (W .initial) .1 ∙ at 0 (omega arith))
-      (λ q a h k. whole-ranked outs n (getD ins a 0) (body start bytes (bodyNumber ins q a)) (W .rhs q a h k) .1 ∙ at (bodyNumber ins q a) (number-less ins q n a h k))
+    (whole-ranked outs n 1 (body start bytes 0) (W .initial) .1 ∙ at 0 (omega arith))
+    (λ q a h k. whole-ranked outs n (getD ins a 0) (body start bytes (bodyNumber ins q a)) (W .rhs q a h k) .1 ∙ at (bodyNumber ins q a) (number-less ins q n a h k))
 
 -- and whole bodies are those of the transducer that is read from them
 pub wholes-encodes : (ins outs : List ℕ) (n : ℕ) (counts bytes : List ℕ) → Right ins n counts bytes → Wholes ins outs n (offset counts) bytes → Encodes ins outs n counts bytes (transducer ins outs n (offset counts) bytes)

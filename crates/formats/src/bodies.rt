@@ -1,12 +1,13 @@
 // The counts and the bodies of a transducer's file: whether they are right, and where each body starts.
 ghost use mathlib.Core.Path.{_≡_};
-ghost use Prim.Native.Nat.{ℕ, _+_, _*_, _≤_, _<_};
+ghost use Prim.Native.Nat.{_+_, _*_, _≤_, _<_};
 ghost use lib.ListN.{length, getD};
 ghost use Rattle.formats.specs.Inner.Decode.{forest, Whole};
-ghost use Rattle.formats.specs.Inner.Layout.{offset, markOf, Summed, Right, Starts, Laid, Wholes};
+ghost use Rattle.formats.specs.Inner.Layout.{offset, markOf, Summed, Starts, Laid, Wholes};
 ghost use Rattle.formats.specs.Inner.Marked.{ended, part};
 ghost use Rattle.formats.specs.Refusal.{Decides};
-use crate::bytes::{number, wide};
+use crate::bytes::number;
+use crate::bytes::wide;
 
 // Whether the counts of `bodies` bodies are right, and the marks as many as they say.
 pub fn counts_right(counts: &[u8], bodies: usize, marks: &[u8]) -> bool
@@ -91,15 +92,34 @@ pub fn mark_end(outs: &[u8], n: usize, r: usize, marks: &[u8], at: usize, to: us
     End::At(p)
 }
 
-// Whether the marks number `from` up to `to` are one tree.
+// Whether the marks number `from` up to `to` are one tree: from the last mark back, each symbol takes its children from the trees behind it.
 fn one_body(outs: &[u8], n: usize, r: usize, marks: &[u8], from: usize, to: usize) -> bool
     requires { ⌜ (from ≤ to) × (2 * to ≤ length (now marks)) ⌝ }
     ensures { λ b. ⌜ Decides (Whole (markOf (now (outs .entry)) n r) (part (now (marks .entry)) from to)) b ⌝ }
 {
-    match mark_end(outs, n, r, marks, from, to) {
-        End::At(e) => e == to,
-        End::Bad => false,
+    let mut behind: usize = 0;
+    let mut j = to;
+    while from < j {
+        j -= 1;
+        let i = wide(marks[2 * j]);
+        let x = wide(marks[2 * j + 1]);
+        if i > 0 {
+            if i > r || x >= n {
+                return false;
+            }
+        } else {
+            if x >= outs.len() {
+                return false;
+            }
+            let m = wide(outs[x]);
+            if m > behind {
+                return false;
+            }
+            behind -= m;
+        }
+        behind += 1;
     }
+    behind == 1
 }
 
 // Whether every body is one tree of known marks.

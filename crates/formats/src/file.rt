@@ -8,8 +8,12 @@ ghost use Rattle.formats.specs.Answers.{ReadsFile, HandsCounts, HandsMar
 ghost use Rattle.formats.specs.Inner.Layout.{bodyCount};
 ghost use Rattle.formats.specs.Inner.Judging.{JudgesParts, JudgesFile, Put};
 ghost use Rattle.formats.specs.Sheet.{file};
-use crate::alphabet::{alphabets_right, input_ranks, output_ranks};
-use crate::bodies::{bodies_whole, counts_right, fill_starts};
+use crate::alphabet::alphabets_right;
+use crate::alphabet::input_ranks;
+use crate::alphabet::output_ranks;
+use crate::bodies::bodies_whole;
+use crate::bodies::counts_right;
+use crate::bodies::fill_starts;
 use crate::bytes::wide;
 use crate::refusal::Refusal;
 

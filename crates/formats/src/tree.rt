@@ -3,8 +3,10 @@ ghost use Prim.Native.Nat.{_≤_};
 ghost use lib.ListN.{length};
 ghost use Rattle.formats.specs.Answers.{ReadsTree};
 ghost use Rattle.formats.specs.Inner.Measured.{Extents, MeasuredAll};
-use crate::alphabet::{alphabets_right, input_ranks};
-use crate::bytes::{larger, wide};
+use crate::alphabet::alphabets_right;
+use crate::alphabet::input_ranks;
+use crate::bytes::larger;
+use crate::bytes::wide;
 use crate::refusal::Refusal;
 
 // Where a tree ends and how many levels it has, or that there is none with few enough.

@@ -4,13 +4,12 @@ use Prim.Native.Nat.{ℕ, suc, _+_, _-_, _*_, _≤_, _<_}
 use native.Mathlib.Numerals.{add-one}
 use native.Mathlib.Omega.{arith}
 use mathlib.Core.Bool.{Bool, true, false}
-use mathlib.Core.Logic.{inl, inr}
 use mathlib.Core.Option.{Option, some, none as nothing}
 use mathlib.Core.Path.{_≡_, refl, sym, ap, ap₂, _∙_}
 use mathlib.Core.List.{List, [], _∷_}
 use lib.Dec.{leb}
 use lib.ListN.{length, getD, drop, take, drop-of-length-le}
-use lib.Seq.{slice, slice-cons, drop-cons, length-take-le}
+use lib.Seq.{drop-cons, length-take-le}
 use borrow.Author.Tests.{leb-true}
 use Rattle.theory.specs.Term.{Symbol, Tree, Term, var, node, Terms, none, more, count, bind, binds, childAt, sub, subs, root, symbolAt}
 use Rattle.theory.specs.Transducer.{Transducer, output, translate, run, pick}
@@ -19,14 +18,12 @@ use Rattle.theory.proofs.Runs.{output-node, call-at, call as called-tree}
 use Rattle.theory.proofs.Terms.{conflict, count-binds}
 use Rattle.theory.proofs.Vars.{bind-ext, all-map}
 use Rattle.formats.specs.Alphabets.{inputs, outputs}
-use Rattle.formats.specs.Answers.{Nothing}
 use Rattle.formats.specs.Code.{Ranked, Mark, Call}
 use Rattle.formats.specs.Inner.Decode.{letters, Letter, call, symbol, unknown, firsts, rests, grown, put, forest, first, Whole}
 use Rattle.formats.specs.Inner.Layout.{markOf, trees, tree, pairs, offset, body, bodyNumber, bodyCount, transducer, Wholes, Starts}
 use Rattle.formats.specs.Inner.Marked.{ended, part}
 use Rattle.formats.specs.Inner.Measured.{MeasuredAll}
-use Rattle.formats.specs.Refusal.{Outcome, accepted, refused, Checks, done, check, Holds, judged}
-use Rattle.formats.specs.Tree.{treeCheck}
+use Rattle.formats.specs.Refusal.{accepted, Holds}
 use Rattle.formats.specs.declared.bodies.End.the-variants as ending
 use Rattle.formats.specs.declared.refusal.Refusal.the-variants.{BadTree}
 use Rattle.formats.specs.declared.tree.Extent.{Extent}
@@ -36,7 +33,7 @@ use Rattle.formats.proofs.Codes.{single}
 use Rattle.formats.proofs.Counts.{laid, from-offsets}
 use Rattle.formats.proofs.Judging.{refuse, pass, accept, better-answer}
 use Rattle.formats.proofs.Letters.{call-made, symbol-made}
-use Rattle.formats.proofs.Pairs.{pairs-length, pairs-at, number-less, part-cons}
+use Rattle.formats.proofs.Pairs.{pairs-length, number-less, part-cons}
 use Rattle.formats.proofs.Sheets.{whole-ranked, encodes-wholes}
 use Rattle.formats.proofs.Trees.{whole-input, measured-none}
 use Rattle.transducer.specs.Answers.{found, named, FindsSymbol}

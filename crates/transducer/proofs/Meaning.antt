@@ -14,7 +14,7 @@ use Rattle.theory.specs.Transducer.{output, translate, run, pick}
 use Rattle.theory.proofs.Runs.{output-node, call as called-tree}
 use Rattle.formats.specs.Code.{flat, code, Mark}
 use Rattle.formats.specs.Inner.Decode.{call, symbol, forest, first, Whole, Over, AllOver}
-use Rattle.formats.specs.Inner.Layout.{symbolIf, callIf, symbolOf, markOf, trees, tree, pairs, offset, markAt, bodyNumber, bodyCount, body, transducer, Starts, Wholes, IsTree}
+use Rattle.formats.specs.Inner.Layout.{symbolIf, callIf, symbolOf, markOf, trees, tree, pairs, offset, markAt, bodyNumber, bodyCount, body, transducer, Wholes, IsTree}
 use Rattle.transducer.specs.Inner.Written.{spell, written, called, bodyAt, walked, Callable, Table}
 use Rattle.formats.proofs.Forest.{Known, say, says}
 use Rattle.formats.proofs.Codes.{flat-bind, single, whole-spelled, over-forest, over-first}

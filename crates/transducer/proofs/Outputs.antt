@@ -1,12 +1,9 @@
 -- The output of a transducer on an input tree is one tree, whichever of the transducers that a file encodes is taken; and it is what is written.
 -- Assumes nothing.
-use Prim.Native.Nat.{ℕ, suc, _+_, _*_, _≤_, _<_}
-use native.Mathlib.Nat.{zero-add}
-use native.Mathlib.Omega.{arith}
-use mathlib.Core.List.{List, _∷_}
+use Prim.Native.Nat.{ℕ, suc, _+_, _<_}
+use mathlib.Core.List.{List}
 use mathlib.Core.Path.{_≡_, refl, sym, ap, ap₂, _∙_}
 use lib.ListN.{length, getD, length-append}
-use lib.Seq.{slice, length-slice}
 use Rattle.theory.specs.Size.{size, sizes}
 use Rattle.theory.specs.Term.{Term, var, node, Terms, none, more, Tree, bind}
 use Rattle.theory.specs.Transducer.{Transducer, output, translate, run, pick}

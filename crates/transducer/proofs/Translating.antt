@@ -1,6 +1,6 @@
 -- From the parts of a file to what the translation asks, and to what it answers.
 -- Assumes nothing.
-use Prim.Native.Nat.{ℕ, _+_, _-_, _*_, _≤_, _<_}
+use Prim.Native.Nat.{ℕ, _*_, _≤_, _<_}
 use native.Mathlib.Nat.{zero-add}
 use native.Mathlib.Omega.{arith}
 use mathlib.Core.List.{List}
@@ -14,7 +14,7 @@ use Rattle.theory.specs.Transducer.{translate}
 use Rattle.formats.specs.Alphabets.{inputs, outputs}
 use Rattle.formats.specs.Code.{code}
 use Rattle.formats.specs.Inner.Layout.{trees, tree, IsTree, pairs, markAt, offset, body, bodyCount, transducer, Right, Starts, Wholes}
-use Rattle.formats.specs.Inner.Measured.{Ends, WholeTree, MeasuredAll}
+use Rattle.formats.specs.Inner.Measured.{WholeTree, MeasuredAll}
 use Rattle.formats.specs.Refusal.{done as no-more, check, judged, Judged, Holds}
 use Rattle.formats.specs.Tree.{InputTree, treeCheck}
 use Rattle.formats.specs.declared.refusal.Refusal.the-variants.{BadTree, LongOutput}

@@ -8,13 +8,13 @@ use mathlib.Core.Path.{_≡_, refl, sym, ap, ap₂, _∙_}
 use mathlib.Core.List.{List, [], _∷_, _++_}
 use lib.Dec.{leb, ltb}
 use lib.ListN.{length, getD, drop, length-drop}
-use lib.Seq.{drop-cons, slice, slice-empty}
+use lib.Seq.{drop-cons, slice-empty}
 use borrow.Author.Tests.{ltb-true, leb-true}
 use Rattle.theory.specs.Term.{node, Terms, none, more, count, Tree}
 use Rattle.theory.specs.Size.{size}
 use Rattle.formats.specs.Code.{Mark}
 use Rattle.formats.specs.Inner.Decode.{letters, lettersAll, firsts, rests, grown, put, forest, first}
-use Rattle.formats.specs.Inner.Layout.{symbolOf, symbolIf, trees, tree, pairs, markAt, bodyNumber, bodyCount}
+use Rattle.formats.specs.Inner.Layout.{symbolOf, symbolIf, trees, tree, pairs, markAt, bodyNumber}
 use Rattle.transducer.specs.Inner.Written.{spell, written, called, bodyAt, applied, walked, Callable, Table, Input, hop, Ready, Walkable}
 use Rattle.formats.proofs.Forest.{first-tree, letters-pos, count-rests, all-drop}
 use Rattle.formats.proofs.Extents.{letters-size}

@@ -1,5 +1,5 @@
 -- Linear transducers (01: single sheets): in the initial term, and in each right-hand side, no child is called twice.
-use Prim.Native.Nat.{ℕ, suc, _+_, _<_, _≤_}
+use Prim.Native.Nat.{ℕ, _+_, _<_, _≤_}
 use mathlib.Core.Bool.{Bool, true, false}
 use lib.Dec.{eqb}
 use Rattle.theory.specs.Term.{Term, var, node, Terms, none, more}

@@ -11,12 +11,19 @@ ghost use Rattle.transducer.specs.Answers.{FindsSymbol};
 ghost use Rattle.transducer.specs.Inner.Machine.{Machine, FindsBy};
 ghost use Rattle.transducer.specs.Inner.Placed.{placed, Followed};
 use crate::translate::skip;
-use formats::alphabet::{input_ranks, output_ranks};
-use formats::bodies::{fill_starts, mark_end, End};
-use formats::bytes::{number, wide};
-use formats::file::{counts_end, read_transducer, FileRead};
+use formats::alphabet::input_ranks;
+use formats::alphabet::output_ranks;
+use formats::bodies::End;
+use formats::bodies::fill_starts;
+use formats::bodies::mark_end;
+use formats::bytes::number;
+use formats::bytes::wide;
+use formats::file::FileRead;
+use formats::file::counts_end;
+use formats::file::read_transducer;
 use formats::refusal::Refusal;
-use formats::tree::{measure_all, Extent};
+use formats::tree::Extent;
+use formats::tree::measure_all;
 
 // The symbol at the address, or that the output has no such address, or the refusal.
 pub enum Found {
@@ -102,14 +109,7 @@ fn follow(
 }
 
 // Follows the address through the output of the transducer whose n, counts and marks these are.
-fn symbol_by(
-    stock: &[u8],
-    n: usize,
-    counts: &[u8],
-    marks: &[u8],
-    s: &[u8],
-    address: &[u8],
-) -> Found
+fn symbol_by(stock: &[u8], n: usize, counts: &[u8], marks: &[u8], s: &[u8], address: &[u8]) -> Found
     requires { ⌜ Machine (now stock) n (now counts) (now marks) ⌝ }
     ensures { λ r. ⌜ FindsBy (now (stock .entry)) n (now (counts .entry)) (now (marks .entry)) (now (s .entry)) (now (address .entry)) r ⌝ }
 {
@@ -119,7 +119,16 @@ fn symbol_by(
     fill_starts(counts, 1 + n * ins.len(), &mut starts);
     match measure_all(ins, s, &mut ends) {
         Extent::Tree(_, _) => {
-            follow(ins, output_ranks(stock), n, &starts, marks, s, &ends, address)
+            follow(
+                ins,
+                output_ranks(stock),
+                n,
+                &starts,
+                marks,
+                s,
+                &ends,
+                address,
+            )
         }
         Extent::Bad => Found::Refused(Refusal::BadTree),
     }

@@ -7,8 +7,11 @@ ghost use Rattle.transducer.specs.Answers.{TestsLinear};
 ghost use Rattle.transducer.specs.Inner.Uses.{Once, Low, AllOnce, LowBodies};
 use formats::alphabet::input_ranks;
 use formats::bodies::fill_starts;
-use formats::bytes::{number, wide};
-use formats::file::{counts_end, read_transducer, FileRead};
+use formats::bytes::number;
+use formats::bytes::wide;
+use formats::file::FileRead;
+use formats::file::counts_end;
+use formats::file::read_transducer;
 use formats::refusal::Refusal;
 
 // Whether the transducer is linear, or the refusal.

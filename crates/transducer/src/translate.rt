@@ -8,10 +8,14 @@ ghost use Rattle.transducer.specs.Inner.Machine.{Machine, TranslatesBy};
 ghost use Rattle.transducer.specs.Inner.Written.{applied, walked, Ready, Walkable, hop, Emitted};
 use formats::alphabet::input_ranks;
 use formats::bodies::fill_starts;
-use formats::bytes::{number, wide};
-use formats::file::{counts_end, read_transducer, FileRead};
+use formats::bytes::number;
+use formats::bytes::wide;
+use formats::file::FileRead;
+use formats::file::counts_end;
+use formats::file::read_transducer;
 use formats::refusal::Refusal;
-use formats::tree::{measure_all, Extent};
+use formats::tree::Extent;
+use formats::tree::measure_all;
 
 // How many symbols were written, or the refusal.
 pub enum Translation {

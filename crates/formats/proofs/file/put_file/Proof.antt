@@ -1,9 +1,9 @@
 -- `put_file` meets its contract: one byte, and then two lists, one behind the other. Assumes nothing.
 use Prim.Native.Nat.{_+_}
 use native.Mathlib.Omega.{arith}
-use mathlib.Core.Path.{_≡_, sym, ap, _∙_}
+use mathlib.Core.Path.{sym, ap, _∙_}
 use lib.ListN.{length, set, length-set, length-append}
-use lib.Seq.{sets, length-sets}
+use lib.Seq.{sets}
 use borrow.Author.Needs.{needs}
 use denote.Ref.{now}
 use Rattle.formats.proofs.Writing.{sets-append}
