@@ -71,7 +71,6 @@ extern "C" {
 
     /// Writes the output tree to the start of the area: the number of its symbols. Refuses by 2, 4,
     /// 5, 3 and 6.
-    #[cfg(feature = "translation")]
     pub fn caplune_translate(
         stock: *const u8,
         stock_length: usize,
@@ -86,7 +85,6 @@ extern "C" {
 
     /// Finds the symbol at an address of the output tree: 1 and the symbol, or 0, the symbol then
     /// staying as it was. Refuses by 2, 4, 5 and 3.
-    #[cfg(feature = "translation")]
     pub fn caplune_symbol_at(
         stock: *const u8,
         stock_length: usize,

@@ -19,6 +19,13 @@
 //! assert_eq!((parts.states, parts.counts.len(), parts.marks.len()), (1, 6, 14));
 //! assert_eq!(caplune::is_linear(&stock, &file), Ok(false));
 //! assert_eq!(caplune::read_tree(&stock, &[0]).unwrap_err().number(), 3);
+//! // the output tree on a(e) is f(f(e, e), f(e, e)), and an area of six bytes is too short for it
+//! let mut area = [9; 8];
+//! assert_eq!(caplune::translate(&stock, &file, &[0, 1], &mut area[..6]).unwrap_err().number(), 6);
+//! assert_eq!(caplune::translate(&stock, &file, &[0, 1], &mut area), Ok(7));
+//! assert_eq!(area, [0, 0, 1, 1, 0, 1, 1, 9]);
+//! assert_eq!(caplune::symbol_at(&stock, &file, &[0, 1], &[2, 1]), Ok(Some(1)));
+//! assert_eq!(caplune::symbol_at(&stock, &file, &[0, 1], &[2, 1, 1]), Ok(None));
 //! ```
 use std::fmt;
 
@@ -188,7 +195,6 @@ pub fn is_linear(stock: &[u8], file: &[u8]) -> Result<bool, Refusal> {
 /// Returns how many symbols it has; what follows them in the area stays. Refuses by 2, 4 and 5 as
 /// [`read_transducer`] does, by 3 as [`read_tree`] does, and by 6 an output tree with more symbols
 /// than the area has bytes; the area then is as it was.
-#[cfg(feature = "translation")]
 pub fn translate(stock: &[u8], file: &[u8], tree: &[u8], area: &mut [u8]) -> Result<usize, Refusal> {
     let mut length = 0;
     // SAFETY: each pointer and length are those of a slice, and the last is to a local.
@@ -212,7 +218,6 @@ pub fn translate(stock: &[u8], file: &[u8], tree: &[u8], area: &mut [u8]) -> Res
 ///
 /// Returns the symbol there, or `None` where the output tree has no such address. Refuses by 2, 4
 /// and 5 as [`read_transducer`] does, and by 3 as [`read_tree`] does. No address is refused.
-#[cfg(feature = "translation")]
 pub fn symbol_at(stock: &[u8], file: &[u8], tree: &[u8], address: &[u8]) -> Result<Option<u8>, Refusal> {
     let (mut there, mut symbol) = (0, 0);
     // SAFETY: each pointer and length are those of a slice, and the others are to locals.

@@ -175,7 +175,6 @@ fn writing(tally: &mut Tally, stock: &[u8], states: usize, counts: &[u8], marks:
     tally.count("write_transducer", &expected, "accepted");
 }
 
-#[cfg(feature = "translation")]
 fn translation(tally: &mut Tally, stock: &[u8], file: &[u8], tree: &[u8], area: usize) {
     let mut lent = [Lent::new(area), Lent::new(area), Lent::new(area)];
     let expected = independent::translate_into(stock, file, tree, lent[0].area());
@@ -203,9 +202,16 @@ fn translation(tally: &mut Tally, stock: &[u8], file: &[u8], tree: &[u8], area: 
         assert!(lent.holds(&output), "{stock:?} {file:?} {tree:?} {area}");
     }
     tally.count("translate", &expected, "accepted");
+    match independent::translate(stock, file, tree, area + 1).map(|output| output.len()) {
+        Ok(length) if length == area => tally.count("exact area", &expected, "accepted"),
+        Ok(length) if length == area + 1 => tally.count("one byte short", &expected, "accepted"),
+        _ => {}
+    }
+    if output.len() >= 1000 {
+        tally.count("long output", &expected, "accepted");
+    }
 }
 
-#[cfg(feature = "translation")]
 fn place(tally: &mut Tally, stock: &[u8], file: &[u8], tree: &[u8], address: &[u8]) {
     let expected = independent::symbol_at(stock, file, tree, address);
     assert_eq!(
@@ -244,7 +250,6 @@ fn place(tally: &mut Tally, stock: &[u8], file: &[u8], tree: &[u8], address: &[u
 /// One case: files that belong together, three times of four with some of them damaged, swapped or
 /// emptied.
 struct Case {
-    #[cfg_attr(not(feature = "translation"), allow(dead_code))]
     alphabets: Alphabets,
     stock: Vec<u8>,
     file: Vec<u8>,
@@ -336,13 +341,14 @@ impl Case {
             2 => random.range(20_483, 21_000),
             _ => 20_483,
         };
-        writing(tally, stock_lent, self.states, &self.counts, &self.marks, area);
+        let (counts_lent, marks_lent) = (self.counts.clone(), self.marks.clone());
+        writing(tally, stock_lent, self.states, &counts_lent, &marks_lent, area);
         self.compare_outputs(random, tally, stock_lent, file_lent, tree_lent);
         // what was lent for reading
         assert!(stock_lent == &stock[..] && file_lent == &file[..] && tree_lent == &design[..]);
+        assert!(counts_lent == self.counts && marks_lent == self.marks);
     }
 
-    #[cfg(feature = "translation")]
     fn compare_outputs(&self, random: &mut Random, tally: &mut Tally, stock: &[u8], file: &[u8], tree: &[u8]) {
         let limit = random.pick(&[50, 500, 5000, 50_000]);
         let output = independent::translate(stock, file, tree, limit);
@@ -359,64 +365,60 @@ impl Case {
         let known = output.as_ref().ok().filter(|_| *stock == self.alphabets.file());
         for _ in 0..3 {
             let address = generate::address(random, known.map(|output| &output[..]), &self.alphabets.outputs);
-            place(tally, stock, file, tree, &address);
+            let address_lent = address.clone();
+            place(tally, stock, file, tree, &address_lent);
+            assert!(address_lent == address);
         }
     }
-
-    #[cfg(not(feature = "translation"))]
-    fn compare_outputs(&self, _: &mut Random, _: &mut Tally, _: &[u8], _: &[u8], _: &[u8]) {}
 }
 
 /// The outcomes that the paper has for each function.
-fn outcomes() -> Vec<(&'static str, &'static str)> {
-    let mut all = vec![
-        ("read_alphabets", "accepted"),
-        ("read_alphabets", "refused 2"),
-        ("read_tree", "accepted"),
-        ("read_tree", "refused 2"),
-        ("read_tree", "refused 3"),
-        ("read_transducer", "accepted"),
-        ("read_transducer", "refused 2"),
-        ("read_transducer", "refused 4"),
-        ("read_transducer", "refused 5"),
-        ("write_transducer", "accepted"),
-        ("write_transducer", "refused 1"),
-        ("write_transducer", "refused 2"),
-        ("write_transducer", "refused 4"),
-        ("write_transducer", "refused 5"),
-        ("is_linear", "yes"),
-        ("is_linear", "no"),
-        ("is_linear", "refused 2"),
-        ("is_linear", "refused 4"),
-        ("is_linear", "refused 5"),
-    ];
-    if cfg!(feature = "translation") {
-        all.extend([
-            ("translate", "accepted"),
-            ("translate", "refused 2"),
-            ("translate", "refused 3"),
-            ("translate", "refused 4"),
-            ("translate", "refused 5"),
-            ("translate", "refused 6"),
-            ("symbol_at", "symbol"),
-            ("symbol_at", "nowhere"),
-            ("symbol_at", "refused 2"),
-            ("symbol_at", "refused 3"),
-            ("symbol_at", "refused 4"),
-            ("symbol_at", "refused 5"),
-        ]);
-    }
-    all
-}
+const OUTCOMES: [(&str, &str); 34] = [
+    ("read_alphabets", "accepted"),
+    ("read_alphabets", "refused 2"),
+    ("read_tree", "accepted"),
+    ("read_tree", "refused 2"),
+    ("read_tree", "refused 3"),
+    ("read_transducer", "accepted"),
+    ("read_transducer", "refused 2"),
+    ("read_transducer", "refused 4"),
+    ("read_transducer", "refused 5"),
+    ("write_transducer", "accepted"),
+    ("write_transducer", "refused 1"),
+    ("write_transducer", "refused 2"),
+    ("write_transducer", "refused 4"),
+    ("write_transducer", "refused 5"),
+    ("is_linear", "yes"),
+    ("is_linear", "no"),
+    ("is_linear", "refused 2"),
+    ("is_linear", "refused 4"),
+    ("is_linear", "refused 5"),
+    ("translate", "accepted"),
+    ("translate", "refused 2"),
+    ("translate", "refused 3"),
+    ("translate", "refused 4"),
+    ("translate", "refused 5"),
+    ("translate", "refused 6"),
+    ("symbol_at", "symbol"),
+    ("symbol_at", "nowhere"),
+    ("symbol_at", "refused 2"),
+    ("symbol_at", "refused 3"),
+    ("symbol_at", "refused 4"),
+    ("symbol_at", "refused 5"),
+    // areas as long as the output, and one byte shorter; outputs of a thousand symbols or more
+    ("exact area", "accepted"),
+    ("one byte short", "refused 6"),
+    ("long output", "accepted"),
+];
 
 #[test]
 fn generated_cases() {
     let mut tally = Tally::default();
-    for seed in 0..40_000 {
+    for seed in 0..70_000 {
         let mut random = Random::new(seed);
         Case::random(&mut random).compare(&mut random, &mut tally);
     }
-    tally.settle(&outcomes(), 300);
+    tally.settle(&OUTCOMES, 300);
 }
 
 /// Every short string of bytes as a file, so that all small files are tried.
@@ -450,6 +452,50 @@ fn all_small_files() {
     println!("{:?}", tally.0);
 }
 
+/// Every transducer of one state over the paper's alphabets S with terms of at most three marks, on
+/// every input tree of at most five levels: every area up to one byte more than the output, and
+/// every address of at most four steps over 0 to 3, with a sixth of those of five and six steps.
+#[test]
+fn all_small_transducers() {
+    let mut tally = Tally::default();
+    let stock: &[u8] = &[2, 1, 0, 2, 2, 0];
+    let called: [&[u8]; 6] =
+        [&[0, 1], &[1, 0], &[0, 0, 0, 1, 0, 1], &[0, 0, 0, 1, 1, 0], &[0, 0, 1, 0, 0, 1], &[0, 0, 1, 0, 1, 0]];
+    let mut addresses: Vec<Vec<u8>> = vec![vec![]];
+    let mut first = 0;
+    for _ in 0..6 {
+        let last = addresses.len();
+        for shorter in first..last {
+            addresses.extend((0..4).map(|step| [&addresses[shorter][..], &[step]].concat()).collect::<Vec<_>>());
+        }
+        first = last;
+    }
+    for initial in called {
+        for inner in called {
+            for leaf in [called[0], called[2]] {
+                let terms = [initial, inner, leaf].map(<[u8]>::to_vec);
+                let file = Transducer { states: 1, terms: terms.into() }.file();
+                for levels in 1..=5 {
+                    let tree = [vec![0; levels - 1], vec![1]].concat();
+                    let length = independent::translate(stock, &file, &tree, 1000).expect("it is translated").len();
+                    (0..=length + 1).for_each(|area| translation(&mut tally, stock, &file, &tree, area));
+                    let few = addresses.iter().enumerate().filter(|(k, address)| address.len() < 5 || k % 6 == levels);
+                    few.for_each(|(_, address)| place(&mut tally, stock, &file, &tree, address));
+                }
+            }
+        }
+    }
+    let wanted = [
+        ("translate", "accepted"),
+        ("translate", "refused 6"),
+        ("symbol_at", "symbol"),
+        ("symbol_at", "nowhere"),
+        ("exact area", "accepted"),
+        ("one byte short", "refused 6"),
+    ];
+    tally.settle(&wanted, 300);
+}
+
 /// The generator reaches the limits: what it makes is accepted up to them, and refused past them.
 #[test]
 fn the_limits_are_reached() {
@@ -480,8 +526,7 @@ fn the_limits_are_reached() {
     assert!(bytes > 20_000 && over > 100, "{bytes} {over}");
 }
 
-/// The independent implementation agrees with itself: the symbol at each address of an output tree
-/// is the one that stands there.
+/// The symbol at each address of an output tree is the one that stands there, in both.
 #[test]
 fn addresses_of_whole_outputs() {
     let mut looked_at = 0;
@@ -495,8 +540,10 @@ fn addresses_of_whole_outputs() {
         for node in 0..output.len() {
             let mut address = generate::address_of(&output, &alphabets.outputs, node);
             assert_eq!(independent::symbol_at(&stock, &file, &tree, &address), Ok(Some(output[node])));
+            assert_eq!(caplune::symbol_at(&stock, &file, &tree, &address), Ok(Some(output[node])));
             address.push(alphabets.outputs[usize::from(output[node])] + 1);
             assert_eq!(independent::symbol_at(&stock, &file, &tree, &address), Ok(None));
+            assert_eq!(caplune::symbol_at(&stock, &file, &tree, &address), Ok(None));
             looked_at += 1;
         }
     }

@@ -200,7 +200,6 @@ fn proved_library() {
     assert!(area[T.len()..].iter().all(|&byte| byte == 0xa5));
 }
 
-#[cfg(feature = "translation")]
 #[test]
 fn proved_translation() {
     let number = caplune::Refusal::number;

@@ -1,6 +1,7 @@
 -- What the exported functions return and leave: the number and the values of an answer that keeps the library's promise.
 use Prim.Native.Nat.{ℕ}
 use mathlib.Core.List.{List}
+use mathlib.Core.Option.{Option, some, none as nothing}
 use mathlib.Core.Path.{_≡_}
 use lib.ListN.{length}
 use Rattle.theory.specs.Transducer.{Transducer}
@@ -8,7 +9,7 @@ use Rattle.formats.specs.Alphabets.{inputs, outputs}
 use Rattle.formats.specs.Answers.{alphabetsRead, ReadsAlphabets, treeRead, ReadsTree, fileRead, ReadsFile, fileWritten, WritesFile}
 use Rattle.formats.specs.Refusal.{Outcome, accepted, refused}
 use Rattle.formats.specs.Sheet.{Sheet}
-use Rattle.transducer.specs.Answers.{linearTest, TestsLinear}
+use Rattle.transducer.specs.Answers.{linearTest, TestsLinear, translated, Translates, found, FindsSymbol}
 use Rattle.transducer.specs.Linear.{oneIf}
 
 -- an acceptance is returned as 0, and what is left is told by its values; a refusal as its number, and all is left as before
@@ -48,3 +49,15 @@ ExportsWriting stock n counts marks area area′ before after r = Exported (Writ
 -- 1 for yes and 0 for no
 abbrev pub ExportsLinear : List ℕ → List ℕ → ℕ → ℕ → ℕ → Type 0
 ExportsLinear stock s before after r = Exported (TestsLinear stock s) linearTest (λ v after. after ≡ oneIf v) before after r
+
+-- the number of symbols; the promise says what is left in the area, also by a refusal
+abbrev pub ExportsTranslation : List ℕ → List ℕ → List ℕ → List ℕ → List ℕ → ℕ → ℕ → ℕ → Type 0
+ExportsTranslation stock file tree area area′ before after r = Exported (Translates stock file tree area area′) translated (λ v after. after ≡ v) before after r
+
+-- 1 and the symbol; 0 where there is none, and what stood for the symbol stays
+abbrev pub symbolLeft : ℕ × ℕ → Option ℕ → ℕ × ℕ
+symbolLeft before (some b) = (1, b)
+symbolLeft before nothing = (0, before .1)
+
+abbrev pub ExportsSymbol : List ℕ → List ℕ → List ℕ → List ℕ → ℕ × ℕ → ℕ × ℕ → ℕ → Type 0
+ExportsSymbol stock file tree address before after r = Exported (FindsSymbol stock file tree address) found (λ v after. after ≡ symbolLeft before v) before after r

@@ -2,19 +2,14 @@
 // gives the refusal, and gives its values through its last parameters, which a refusal leaves as they were.
 ghost use mathlib.Core.Path.{_≡_};
 ghost use Rattle.formats.specs.Refusal.{number};
-ghost use Rattle.exports.specs.Exported.{ExportsAlphabets, ExportsTree, ExportsFile, ExportsWriting, ExportsLinear};
-use formats::alphabet::AlphabetsRead;
-use formats::alphabet::input_ranks;
-use formats::alphabet::read_alphabets;
-use formats::file::FileRead;
-use formats::file::FileWritten;
-use formats::file::read_transducer;
-use formats::file::write_transducer;
+ghost use Rattle.exports.specs.Exported.{ExportsAlphabets, ExportsTree, ExportsFile, ExportsWriting, ExportsLinear, ExportsTranslation, ExportsSymbol};
+use formats::alphabet::{input_ranks, read_alphabets, AlphabetsRead};
+use formats::file::{read_transducer, write_transducer, FileRead, FileWritten};
 use formats::refusal::Refusal;
-use formats::tree::TreeRead;
-use formats::tree::read_tree;
-use transducer::linear::LinearTest;
-use transducer::linear::is_linear;
+use formats::tree::{read_tree, TreeRead};
+use transducer::address::{symbol_at, Found};
+use transducer::linear::{is_linear, LinearTest};
+use transducer::translate::{translate, Translation};
 
 // The number of a refusal.
 fn code(x: Refusal) -> u32
@@ -132,5 +127,52 @@ pub extern "C" fn caplune_is_linear(stock: &[u8], file: &[u8], linear: &mut usiz
             0
         }
         LinearTest::Refused(x) => code(x),
+    }
+}
+
+// Writes the output tree of a transducer on an input tree (01: plan) to the start of the area: how many symbols it has.
+#[no_mangle]
+pub extern "C" fn caplune_translate(
+    stock: &[u8],
+    file: &[u8],
+    tree: &[u8],
+    area: &mut [u8],
+    length: &mut usize,
+) -> u32
+    ensures { λ r. ⌜ ExportsTranslation (now (stock .entry)) (now (file .entry)) (now (tree .entry)) (now (area .entry)) (now (area .exit)) (now (length .entry)) (now (length .exit)) r ⌝ }
+{
+    match translate(stock, file, tree, area) {
+        Translation::Symbols(n) => {
+            *length = n;
+            0
+        }
+        Translation::Refused(x) => code(x),
+    }
+}
+
+// The symbol at an address of the output tree (01: the block at a place): 1 and the symbol; or 0 where there is no such
+// address, and the symbol stays as it was.
+#[no_mangle]
+pub extern "C" fn caplune_symbol_at(
+    stock: &[u8],
+    file: &[u8],
+    tree: &[u8],
+    address: &[u8],
+    there: &mut usize,
+    symbol: &mut usize,
+) -> u32
+    ensures { λ r. ⌜ ExportsSymbol (now (stock .entry)) (now (file .entry)) (now (tree .entry)) (now (address .entry)) (now (there .entry), now (symbol .entry)) (now (there .exit), now (symbol .exit)) r ⌝ }
+{
+    match symbol_at(stock, file, tree, address) {
+        Found::Symbol(b) => {
+            *there = 1;
+            *symbol = b;
+            0
+        }
+        Found::Nowhere => {
+            *there = 0;
+            0
+        }
+        Found::Refused(x) => code(x),
     }
 }

@@ -1,8 +1,9 @@
 //! Times the proved library against the independent implementation, in one run, and where
 //! `xsltproc` is installed against the same transducer as an XSLT 1.0 stylesheet.
 //!
-//! `cargo run --release --offline --features translation --bin bench`
+//! `cargo run --release --offline --bin bench`
 use caplune::independent;
+use std::cell::RefCell;
 use std::hint::black_box;
 use std::io::Write;
 use std::path::Path;
@@ -22,13 +23,26 @@ struct Case {
     tree: Vec<u8>,
 }
 
+impl Case {
+    /// Translates by the proved library.
+    fn proved(&self, area: &mut [u8]) {
+        black_box(caplune::translate(&self.stock, &self.file, black_box(&self.tree), area)).expect("it is translated");
+    }
+
+    /// Translates by the independent implementation.
+    fn independent(&self, area: &mut [u8]) {
+        let tree = black_box(&self.tree);
+        black_box(independent::translate_into(&self.stock, &self.file, tree, area)).expect("it is translated");
+    }
+}
+
 fn main() {
     println!("Areas are allocated and written once before the timing, the same one for both sides;");
     println!("they are not cleared between calls. The independent translation builds its output in a");
     println!("vector of its own and copies it into the area, so that a refusal leaves the area; the");
     println!("vector is allocated in the time shown. Time of one call: the fastest of {BATCHES} batches.");
     println!();
-    println!("{:46} {:>9} {:>12} {:>12} {:>8}", "", "size", "proved", "independent", "ratio");
+    println!("{:52} {:>9} {:>12} {:>12} {:>8}", "", "size", "proved", "independent", "ratio");
     let cases = cases();
     reading(&cases);
     translating(&cases);
@@ -37,23 +51,20 @@ fn main() {
 
 /// Prints a line: the times of both sides, taken in turn, and how many times longer the proved
 /// library takes.
-fn line(name: &str, size: usize, proved: Option<&mut dyn FnMut()>, independent: &mut dyn FnMut()) {
-    match proved {
-        Some(proved) => {
-            let (mut best, mut other) = (f64::INFINITY, f64::INFINITY);
-            let (times, other_times) = (calibrate(proved), calibrate(independent));
-            for _ in 0..BATCHES {
-                best = best.min(batch(proved, times));
-                other = other.min(batch(independent, other_times));
-            }
-            println!("{name:46} {size:9} {:>12} {:>12} {:8.2}", show(best), show(other), best / other);
-        }
-        None => {
-            let times = calibrate(independent);
-            let other = (0..BATCHES).map(|_| batch(independent, times)).fold(f64::INFINITY, f64::min);
-            println!("{name:46} {size:9} {:>12} {:>12} {:>8}", "not built", show(other), "-");
-        }
+fn line(name: &str, size: usize, proved: &mut dyn FnMut(), independent: &mut dyn FnMut()) {
+    let (best, other) = times(proved, independent);
+    println!("{name:52} {size:9} {:>12} {:>12} {:8.2}", show(best), show(other), best / other);
+}
+
+/// The times of one call of each, taken in turn.
+fn times(proved: &mut dyn FnMut(), independent: &mut dyn FnMut()) -> (f64, f64) {
+    let (mut best, mut other) = (f64::INFINITY, f64::INFINITY);
+    let (times, other_times) = (calibrate(proved), calibrate(independent));
+    for _ in 0..BATCHES {
+        best = best.min(batch(proved, times));
+        other = other.min(batch(independent, other_times));
     }
+    (best, other)
 }
 
 /// Takes a value that is not used.
@@ -93,7 +104,7 @@ fn reading(cases: &[Case]) {
         line(
             &format!("read alphabets, {}", case.name),
             case.stock.len(),
-            Some(&mut || discard(black_box(caplune::read_alphabets(black_box(&case.stock))))),
+            &mut || discard(black_box(caplune::read_alphabets(black_box(&case.stock)))),
             &mut || discard(black_box(independent::read_alphabets(black_box(&case.stock)))),
         );
     }
@@ -101,7 +112,7 @@ fn reading(cases: &[Case]) {
         line(
             &format!("read tree, {}", case.name),
             case.tree.len(),
-            Some(&mut || discard(black_box(caplune::read_tree(&case.stock, black_box(&case.tree))))),
+            &mut || discard(black_box(caplune::read_tree(&case.stock, black_box(&case.tree)))),
             &mut || discard(black_box(independent::read_tree(&case.stock, black_box(&case.tree)))),
         );
     }
@@ -110,25 +121,25 @@ fn reading(cases: &[Case]) {
         line(
             &format!("read transducer, {name}"),
             file.len(),
-            Some(&mut || discard(black_box(caplune::read_transducer(stock, black_box(file))))),
+            &mut || discard(black_box(caplune::read_transducer(stock, black_box(file)))),
             &mut || discard(black_box(independent::read_transducer(stock, black_box(file)))),
         );
         line(
             &format!("linear test, {name}"),
             file.len(),
-            Some(&mut || discard(black_box(caplune::is_linear(stock, black_box(file))))),
+            &mut || discard(black_box(caplune::is_linear(stock, black_box(file)))),
             &mut || discard(black_box(independent::is_linear(stock, black_box(file)))),
         );
         let parts = caplune::read_transducer(stock, file).expect("the transducer is read");
         let (states, counts, marks) = (parts.states, parts.counts, parts.marks);
-        let area = std::cell::RefCell::new(vec![1; independent::MAX_FILE]);
+        let area = RefCell::new(vec![1; independent::MAX_FILE]);
         line(
             &format!("write transducer, {name}"),
             file.len(),
-            Some(&mut || {
+            &mut || {
                 let area = &mut area.borrow_mut()[..];
                 discard(black_box(caplune::write_transducer(stock, states, counts, black_box(marks), area)))
-            }),
+            },
             &mut || {
                 let area = &mut area.borrow_mut()[..];
                 discard(black_box(independent::write_transducer(stock, states, counts, black_box(marks), area)))
@@ -140,35 +151,24 @@ fn reading(cases: &[Case]) {
 /// Translation, and the symbol at the address of the output's last node.
 fn translating(cases: &[Case]) {
     for case in cases {
-        let Case { name, stock, file, tree } = case;
         let output = output(case);
-        let area = std::cell::RefCell::new(vec![1; 2 * output.len()]);
-        let mut independent = || {
-            let area = &mut area.borrow_mut()[..];
-            black_box(independent::translate_into(stock, file, black_box(tree), area)).expect("it is translated");
-        };
-        #[cfg(feature = "translation")]
-        let mut proved = || {
-            let area = &mut area.borrow_mut()[..];
-            black_box(caplune::translate(stock, file, black_box(tree), area)).expect("it is translated");
-        };
-        #[cfg(feature = "translation")]
-        let proved: Option<&mut dyn FnMut()> = Some(&mut proved);
-        #[cfg(not(feature = "translation"))]
-        let proved = None;
-        line(&format!("translate, {name}"), output.len(), proved, &mut independent);
+        let area = RefCell::new(vec![1; 2 * output.len()]);
+        line(
+            &format!("translate, {}", case.name),
+            output.len(),
+            &mut || case.proved(&mut area.borrow_mut()),
+            &mut || case.independent(&mut area.borrow_mut()),
+        );
     }
     for case in cases {
         let Case { name, stock, file, tree } = case;
         let address = last_address(case);
-        let mut independent = || discard(black_box(independent::symbol_at(stock, file, tree, black_box(&address))));
-        #[cfg(feature = "translation")]
-        let mut proved = || discard(black_box(caplune::symbol_at(stock, file, tree, black_box(&address))));
-        #[cfg(feature = "translation")]
-        let proved: Option<&mut dyn FnMut()> = Some(&mut proved);
-        #[cfg(not(feature = "translation"))]
-        let proved = None;
-        line(&format!("symbol at the last node, {name}"), address.len(), proved, &mut independent);
+        line(
+            &format!("symbol at the last node, {name}"),
+            address.len(),
+            &mut || discard(black_box(caplune::symbol_at(stock, file, tree, black_box(&address)))),
+            &mut || discard(black_box(independent::symbol_at(stock, file, tree, black_box(&address)))),
+        );
     }
 }
 
@@ -200,17 +200,14 @@ fn stylesheets(cases: &[Case]) {
     let folder = std::env::temp_dir().join(format!("caplune-bench-{}", std::process::id()));
     std::fs::create_dir_all(&folder).expect("a folder for the stylesheets");
     println!("XSLT 1.0 by xsltproc: the time of its process, with starting, reading and writing, against a");
-    println!("call in this process; the output is discarded.");
+    println!("call in this process; the output is discarded. Its output on one node, which is hardly more than");
+    println!("its start, is in the first line. Before the timing its output is compared with the output tree.");
     println!(
-        "{:46} {:>9} {:>12} {:>12} {:>8} {:>12} {:>8}",
+        "{:52} {:>9} {:>12} {:>12} {:>8} {:>12} {:>8}",
         "", "size", "xsltproc", "proved", "ratio", "independent", "ratio"
     );
-    // deeper documents than 256 levels are refused by the parser
-    for case in
-        cases.iter().filter(|case| independent::read_tree(&case.stock, &case.tree).is_ok_and(|tree| tree.levels < 250))
-    {
-        stylesheet(&folder, case);
-    }
+    let start = Case { name: "one node", tree: vec![2], stock: cases[0].stock.clone(), file: cases[0].file.clone() };
+    std::iter::once(&start).chain(cases).for_each(|case| stylesheet(&folder, case));
     let _ = std::fs::remove_dir_all(&folder);
 }
 
@@ -220,46 +217,45 @@ fn stylesheet(folder: &Path, case: &Case) {
     std::fs::write(&document, document_of(case)).expect("the document is written");
     let run = |discard: bool| {
         let mut command = Command::new("xsltproc");
-        command.args(["--maxdepth", "100000"]).arg(&sheet).arg(&document).stderr(Stdio::inherit());
+        // the parser refuses documents of more than 256 levels unless told otherwise
+        command
+            .args(["--huge", "--maxparserdepth", "100000", "--maxdepth", "100000"])
+            .arg(&sheet)
+            .arg(&document)
+            .stderr(Stdio::inherit());
         if discard {
             assert!(command.stdout(Stdio::null()).status().expect("xsltproc runs").success());
-            return 0;
+            return vec![];
         }
         let written = command.output().expect("xsltproc runs");
         assert!(written.status.success());
-        written.stdout.windows(2).filter(|pair| pair == b"<b").count()
+        symbols_of(&written.stdout)
     };
     let output = output(case);
-    assert_eq!(run(false), output.len(), "xsltproc writes as many elements as the output tree has nodes");
-    let process = (0..BATCHES).map(|_| batch(&mut || discard(run(true)), 1)).fold(f64::INFINITY, f64::min);
-    let area = std::cell::RefCell::new(vec![1; 2 * output.len()]);
-    let best = |call: &mut dyn FnMut()| {
-        let times = calibrate(call);
-        (0..BATCHES).map(|_| batch(call, times)).fold(f64::INFINITY, f64::min)
-    };
-    let independent = best(&mut || {
-        let area = &mut area.borrow_mut()[..];
-        discard(black_box(independent::translate_into(&case.stock, &case.file, &case.tree, area)))
-    });
-    #[cfg(feature = "translation")]
-    let (proved, ratio) = {
-        let time = best(&mut || {
-            let area = &mut area.borrow_mut()[..];
-            discard(black_box(caplune::translate(&case.stock, &case.file, &case.tree, area)))
-        });
-        (show(time), format!("{:.0}", process / time))
-    };
-    #[cfg(not(feature = "translation"))]
-    let (proved, ratio) = ("not built", "-");
+    assert!(run(false) == output, "xsltproc writes the elements of the output tree");
+    let batches = if output.len() > 100_000 { 3 } else { BATCHES };
+    let process = (0..batches).map(|_| batch(&mut || discard(run(true)), 1)).fold(f64::INFINITY, f64::min);
+    let area = RefCell::new(vec![1; 2 * output.len()]);
+    let (proved, independent) =
+        times(&mut || case.proved(&mut area.borrow_mut()), &mut || case.independent(&mut area.borrow_mut()));
     println!(
-        "{:46} {:9} {:>12} {proved:>12} {ratio:>8} {:>12} {:8.0}",
+        "{:52} {:9} {:>12} {:>12} {:8.0} {:>12} {:8.0}",
         case.name,
         output.len(),
         show(process),
+        show(proved),
+        process / proved,
         show(independent),
         process / independent
     );
     let _ = std::io::stdout().flush();
+}
+
+/// The symbols of a document's elements `bN`, in the order of their start tags.
+fn symbols_of(document: &[u8]) -> Vec<u8> {
+    let tags = document.split(|&byte| byte == b'<').filter_map(|tag| tag.strip_prefix(b"b"));
+    tags.map(|tag| tag.iter().take_while(|byte| byte.is_ascii_digit()).fold(0, |n, digit| 10 * n + (digit - b'0')))
+        .collect()
 }
 
 /// A template for the initial term, and one for each right-hand side: a state is a mode, an input
@@ -376,6 +372,13 @@ fn cases() -> Vec<Case> {
             stock: vec![2, 1, 0, 2, 2, 0],
             file: copies,
             tree: chain(21, 0, 1),
+        },
+        Case {
+            name: "two copying states, chain of 20 levels",
+            stock: vec![2, 1, 0, 3, 2, 0, 0],
+            // p(a(x1)) = f(p(x1), q(x1)), p(e) = c, q(a(x1)) = f(q(x1), p(x1)), q(e) = d
+            file: file(2, &[&[1, 0], &[0, 0, 1, 0, 1, 1], &[0, 1], &[0, 0, 1, 1, 1, 0], &[0, 2]]),
+            tree: chain(20, 0, 1),
         },
     ]
 }

@@ -276,7 +276,6 @@ pub fn damage(random: &mut Random, bytes: &mut Vec<u8>) {
 }
 
 /// An address, most often one that goes down an output tree over these ranks.
-#[cfg(feature = "translation")]
 pub fn address(random: &mut Random, plan: Option<&[u8]>, outputs: &[u8]) -> Vec<u8> {
     let mut address = match plan {
         Some(plan) if !random.once_in(4) => address_of(plan, outputs, random.below(plan.len())),

@@ -1,0 +1,44 @@
+-- `caplune_translate` meets its contract. Assumes nothing.
+use mathlib.Core.Path.{refl, ap}
+use Rattle.transducer.specs.Answers.{translated}
+use Rattle.exports.proofs.Telling.{tells-accepted, tells-refused}
+use borrow.Author.Needs.{needs}
+use Rattle.exports.proofs.caplune_translate.Statement.{statement}
+use Rattle.exports.proofs.caplune_translate.Tie as tie
+
+translate-requires : tie.Need-translate-requires
+translate-requires c κs = search needs
+
+enum-known-n : tie.Need-enum-known-n
+enum-known-n c = search needs
+
+enum-known-x : tie.Need-enum-known-x
+enum-known-x c = search needs
+
+code-requires : tie.Need-code-requires
+code-requires c κs = search needs
+
+same-length : tie.Need-same-length
+same-length c = search needs
+
+returns : tie.Need-returns
+returns c = tells-accepted (c .before .before .before .before .before .translate .result) (c .before .before .before .before .before .translate .ensures) (ap translated (c .before .n .given .1)) refl refl
+
+same-length-2 : tie.Need-same-length-2
+same-length-2 c = search needs
+
+returns-2 : tie.Need-returns-2
+returns-2 c = tells-refused (c .before .before .before .before .before .before .translate .result) (c .before .before .before .before .before .before .translate .ensures) (ap translated (c .before .before .x .given .1)) (c .code .ensures) refl
+
+pub caplune-translate-spec : {M : Type 1} → statement M
+caplune-translate-spec =
+    tie.close
+    (tie.spec
+    translate-requires
+    enum-known-n
+    enum-known-x
+    code-requires
+    same-length
+    returns
+    same-length-2
+    returns-2)
