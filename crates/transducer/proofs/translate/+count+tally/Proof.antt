@@ -40,157 +40,60 @@ tally-at t = and 5 tally-kinds.ps (is 5 tally-kinds.ps μ-tally t) tally.Pre
 abbrev tally-below : ℕ → In 5 tally-kinds.ps
 tally-below t = and 5 tally-kinds.ps (falls 5 tally-kinds.ps _<_ μ-tally t) tally.Pre
 
-count-shared-slice-read-wide : (t : ℕ) → count-lts.Need-shared-slice-read-wide (
-  wide-reads.Asked,
-  wide-reads.Learnt,
-  number-reads.Asked,
-  number-reads.Learnt,
-  tally-below t,
-  tally.Post,
-) (count-at t) count.Post
+-- what the callees of `count` ask and tell
+abbrev count-told : ℕ → count-lts.Claims
+count-told t = (wide-reads.Asked, wide-reads.Learnt, number-reads.Asked, number-reads.Learnt, tally-below t, tally.Post)
+
+-- what the callees of `tally` ask and tell
+abbrev tally-told : ℕ → tally-lts.Claims
+tally-told t = (wide-reads.Asked, wide-reads.Learnt, skip-reads.Asked, skip-reads.Learnt, count-below t, count.Post)
+
+count-shared-slice-read-wide : (t : ℕ) → count-lts.Need-shared-slice-read-wide (count-told t) (count-at t) count.Post
 count-shared-slice-read-wide t c = search needs
 
-count-wide-requires : (t : ℕ) → count-lts.Need-wide-requires (
-  wide-reads.Asked,
-  wide-reads.Learnt,
-  number-reads.Asked,
-  number-reads.Learnt,
-  tally-below t,
-  tally.Post,
-) (count-at t) count.Post
+count-wide-requires : (t : ℕ) → count-lts.Need-wide-requires (count-told t) (count-at t) count.Post
 count-wide-requires t c κs = search needs
 
-count-mul-b : (t : ℕ) → count-lts.Need-mul-b (
-  wide-reads.Asked,
-  wide-reads.Learnt,
-  number-reads.Asked,
-  number-reads.Learnt,
-  tally-below t,
-  tally.Post,
-) (count-at t) count.Post
+count-mul-b : (t : ℕ) → count-lts.Need-mul-b (count-told t) (count-at t) count.Post
 count-mul-b t c = omega (arith, number-fits (c .before .before .before .before .before .before .before .pre .1 .0) (c .wide .ensures), c .before .before .before .before .before .before .before .good)
 
-count-add-b : (t : ℕ) → count-lts.Need-add-b (
-  wide-reads.Asked,
-  wide-reads.Learnt,
-  number-reads.Asked,
-  number-reads.Learnt,
-  tally-below t,
-  tally.Post,
-) (count-at t) count.Post
+count-add-b : (t : ℕ) → count-lts.Need-add-b (count-told t) (count-at t) count.Post
 count-add-b t c = omega (arith, number-fits (c .before .before .before .before .before .before .before .pre .1 .0) (c .wide .ensures), c .before .before .before .before .before .before .before .good)
 
-count-add-b-2 : (t : ℕ) → count-lts.Need-add-b-2 (
-  wide-reads.Asked,
-  wide-reads.Learnt,
-  number-reads.Asked,
-  number-reads.Learnt,
-  tally-below t,
-  tally.Post,
-) (count-at t) count.Post
+count-add-b-2 : (t : ℕ) → count-lts.Need-add-b-2 (count-told t) (count-at t) count.Post
 count-add-b-2 t c = omega (arith, number-fits (c .before .before .before .before .before .before .before .pre .1 .0) (c .wide .ensures), c .before .before .before .before .before .before .before .good)
 
-count-mul-number : (t : ℕ) → count-lts.Need-mul-number (
-  wide-reads.Asked,
-  wide-reads.Learnt,
-  number-reads.Asked,
-  number-reads.Learnt,
-  tally-below t,
-  tally.Post,
-) (count-at t) count.Post
+count-mul-number : (t : ℕ) → count-lts.Need-mul-number (count-told t) (count-at t) count.Post
 count-mul-number t c = omega (arith, number-fits (c .before .before .before .before .before .before .before .pre .1 .0) (c .wide .ensures), c .before .before .before .before .before .before .before .good)
 
-count-shared-slice-read-number : (t : ℕ) → count-lts.Need-shared-slice-read-number (
-  wide-reads.Asked,
-  wide-reads.Learnt,
-  number-reads.Asked,
-  number-reads.Learnt,
-  tally-below t,
-  tally.Post,
-) (count-at t) count.Post
+count-shared-slice-read-number : (t : ℕ) → count-lts.Need-shared-slice-read-number (count-told t) (count-at t) count.Post
 count-shared-slice-read-number t c = omega (arith, number-fits (c .before .before .before .before .before .before .before .before .pre .1 .0) (c .before .wide .ensures))
 
-count-number-requires : (t : ℕ) → count-lts.Need-number-requires (
-  wide-reads.Asked,
-  wide-reads.Learnt,
-  number-reads.Asked,
-  number-reads.Learnt,
-  tally-below t,
-  tally.Post,
-) (count-at t) count.Post
+count-number-requires : (t : ℕ) → count-lts.Need-number-requires (count-told t) (count-at t) count.Post
 count-number-requires t c κs = search needs
 
-count-add-number : (t : ℕ) → count-lts.Need-add-number (
-  wide-reads.Asked,
-  wide-reads.Learnt,
-  number-reads.Asked,
-  number-reads.Learnt,
-  tally-below t,
-  tally.Post,
-) (count-at t) count.Post
+count-add-number : (t : ℕ) → count-lts.Need-add-number (count-told t) (count-at t) count.Post
 count-add-number t c = omega (arith, number-fits (c .before .before .before .before .before .before .before .before .before .pre .1 .0) (c .before .before .wide .ensures), c .before .before .before .before .before .before .before .before .before .good)
 
-count-mul-number-2 : (t : ℕ) → count-lts.Need-mul-number-2 (
-  wide-reads.Asked,
-  wide-reads.Learnt,
-  number-reads.Asked,
-  number-reads.Learnt,
-  tally-below t,
-  tally.Post,
-) (count-at t) count.Post
+count-mul-number-2 : (t : ℕ) → count-lts.Need-mul-number-2 (count-told t) (count-at t) count.Post
 count-mul-number-2 t c = omega (arith, number-fits (c .before .before .before .before .before .before .before .before .before .pre .1 .0) (c .before .before .wide .ensures), c .before .before .before .before .before .before .before .before .before .good)
 
-count-shared-slice-read-number-2 : (t : ℕ) → count-lts.Need-shared-slice-read-number-2 (
-  wide-reads.Asked,
-  wide-reads.Learnt,
-  number-reads.Asked,
-  number-reads.Learnt,
-  tally-below t,
-  tally.Post,
-) (count-at t) count.Post
+count-shared-slice-read-number-2 : (t : ℕ) → count-lts.Need-shared-slice-read-number-2 (count-told t) (count-at t) count.Post
 count-shared-slice-read-number-2 t c = omega (arith, number-fits (c .before .before .before .before .before .before .before .before .before .before .pre .1 .0) (c .before .before .before .wide .ensures))
 
-count-number-requires-2 : (t : ℕ) → count-lts.Need-number-requires-2 (
-  wide-reads.Asked,
-  wide-reads.Learnt,
-  number-reads.Asked,
-  number-reads.Learnt,
-  tally-below t,
-  tally.Post,
-) (count-at t) count.Post
+count-number-requires-2 : (t : ℕ) → count-lts.Need-number-requires-2 (count-told t) (count-at t) count.Post
 count-number-requires-2 t c κs = search needs
 
-count-add-tally : (t : ℕ) → count-lts.Need-add-tally (
-  wide-reads.Asked,
-  wide-reads.Learnt,
-  number-reads.Asked,
-  number-reads.Learnt,
-  tally-below t,
-  tally.Post,
-) (count-at t) count.Post
+count-add-tally : (t : ℕ) → count-lts.Need-add-tally (count-told t) (count-at t) count.Post
 count-add-tally t c = search needs
 
-count-tally-requires : (t : ℕ) → count-lts.Need-tally-requires (
-  wide-reads.Asked,
-  wide-reads.Learnt,
-  number-reads.Asked,
-  number-reads.Learnt,
-  tally-below t,
-  tally.Post,
-) (count-at t) count.Post
+count-tally-requires : (t : ℕ) → count-lts.Need-tally-requires (count-told t) (count-at t) count.Post
 count-tally-requires t c κs =
     let p = c .before .before .before .before .before .before .before .before .before .before .before .pre .1 in
     let w = to-walk (p .0) (c .before .before .before .before .wide .ensures) (c .before .before .number .ensures) (c .number2 .ensures) in
     (omega (arith, p .0 .place), (w .0, p .1, p .2))
 
-count-returns : (t : ℕ) → count-lts.Need-returns (
-  wide-reads.Asked,
-  wide-reads.Learnt,
-  number-reads.Asked,
-  number-reads.Learnt,
-  tally-below t,
-  tally.Post,
-) (count-at t) count.Post
+count-returns : (t : ℕ) → count-lts.Need-returns (count-told t) (count-at t) count.Post
 count-returns t c =
     let a = c .before .before .before .before .before .before .before .before .before .before .before .before .args in
     let w = to-walk (c .before .before .before .before .before .before .before .before .before .before .before .before .pre .1 .0) (c .before .before .before .before .before .wide .ensures) (c .before .before .before .number .ensures) (c .before .number2 .ensures) in
@@ -202,169 +105,57 @@ tally-Inv-loop ins starts marks s ends from to below have limit n₀ j₀ n j = 
 abbrev tally-μ-loop : tally-lts.MeasureT-loop
 tally-μ-loop ins starts marks s ends from to below have limit n₀ j₀ n j = to - j
 
-tally-loop-holds : (t : ℕ) → tally-lts.Need-loop-holds (
-  wide-reads.Asked,
-  wide-reads.Learnt,
-  skip-reads.Asked,
-  skip-reads.Learnt,
-  count-below t,
-  count.Post,
-) (tally-at t) tally.Post tally-Inv-loop tally-μ-loop
+tally-loop-holds : (t : ℕ) → tally-lts.Need-loop-holds (tally-told t) (tally-at t) tally.Post tally-Inv-loop tally-μ-loop
 tally-loop-holds t c = (omega arith, c .before .before .before .before .before .pre .1 .0 .ordered, c .before .before .before .before .before .pre .1 .1, refl)
 
-tally-returns : (t : ℕ) → tally-lts.Need-returns (
-  wide-reads.Asked,
-  wide-reads.Learnt,
-  skip-reads.Asked,
-  skip-reads.Learnt,
-  count-below t,
-  count.Post,
-) (tally-at t) tally.Post tally-Inv-loop tally-μ-loop
+tally-returns : (t : ℕ) → tally-lts.Need-returns (tally-told t) (tally-at t) tally.Post tally-Inv-loop tally-μ-loop
 tally-returns t c = search needs
 
-tally-mul-wide : (t : ℕ) → tally-lts.Need-mul-wide (
-  wide-reads.Asked,
-  wide-reads.Learnt,
-  skip-reads.Asked,
-  skip-reads.Learnt,
-  count-below t,
-  count.Post,
-) (tally-at t) tally.Post tally-Inv-loop tally-μ-loop
+tally-mul-wide : (t : ℕ) → tally-lts.Need-mul-wide (tally-told t) (tally-at t) tally.Post tally-Inv-loop tally-μ-loop
 tally-mul-wide t c = search needs
 
-tally-shared-slice-read-wide : (t : ℕ) → tally-lts.Need-shared-slice-read-wide (
-  wide-reads.Asked,
-  wide-reads.Learnt,
-  skip-reads.Asked,
-  skip-reads.Learnt,
-  count-below t,
-  count.Post,
-) (tally-at t) tally.Post tally-Inv-loop tally-μ-loop
+tally-shared-slice-read-wide : (t : ℕ) → tally-lts.Need-shared-slice-read-wide (tally-told t) (tally-at t) tally.Post tally-Inv-loop tally-μ-loop
 tally-shared-slice-read-wide t c = search needs
 
-tally-wide-requires : (t : ℕ) → tally-lts.Need-wide-requires (
-  wide-reads.Asked,
-  wide-reads.Learnt,
-  skip-reads.Asked,
-  skip-reads.Learnt,
-  count-below t,
-  count.Post,
-) (tally-at t) tally.Post tally-Inv-loop tally-μ-loop
+tally-wide-requires : (t : ℕ) → tally-lts.Need-wide-requires (tally-told t) (tally-at t) tally.Post tally-Inv-loop tally-μ-loop
 tally-wide-requires t c κs = search needs
 
-tally-add-n : (t : ℕ) → tally-lts.Need-add-n (
-  wide-reads.Asked,
-  wide-reads.Learnt,
-  skip-reads.Asked,
-  skip-reads.Learnt,
-  count-below t,
-  count.Post,
-) (tally-at t) tally.Post tally-Inv-loop tally-μ-loop
+tally-add-n : (t : ℕ) → tally-lts.Need-add-n (tally-told t) (tally-at t) tally.Post tally-Inv-loop tally-μ-loop
 tally-add-n t c = search needs
 
-tally-mul-wide-2 : (t : ℕ) → tally-lts.Need-mul-wide-2 (
-  wide-reads.Asked,
-  wide-reads.Learnt,
-  skip-reads.Asked,
-  skip-reads.Learnt,
-  count-below t,
-  count.Post,
-) (tally-at t) tally.Post tally-Inv-loop tally-μ-loop
+tally-mul-wide-2 : (t : ℕ) → tally-lts.Need-mul-wide-2 (tally-told t) (tally-at t) tally.Post tally-Inv-loop tally-μ-loop
 tally-mul-wide-2 t c = search needs
 
-tally-add-wide : (t : ℕ) → tally-lts.Need-add-wide (
-  wide-reads.Asked,
-  wide-reads.Learnt,
-  skip-reads.Asked,
-  skip-reads.Learnt,
-  count-below t,
-  count.Post,
-) (tally-at t) tally.Post tally-Inv-loop tally-μ-loop
+tally-add-wide : (t : ℕ) → tally-lts.Need-add-wide (tally-told t) (tally-at t) tally.Post tally-Inv-loop tally-μ-loop
 tally-add-wide t c = search needs
 
-tally-shared-slice-read-wide-2 : (t : ℕ) → tally-lts.Need-shared-slice-read-wide-2 (
-  wide-reads.Asked,
-  wide-reads.Learnt,
-  skip-reads.Asked,
-  skip-reads.Learnt,
-  count-below t,
-  count.Post,
-) (tally-at t) tally.Post tally-Inv-loop tally-μ-loop
+tally-shared-slice-read-wide-2 : (t : ℕ) → tally-lts.Need-shared-slice-read-wide-2 (tally-told t) (tally-at t) tally.Post tally-Inv-loop tally-μ-loop
 tally-shared-slice-read-wide-2 t c = search needs
 
-tally-wide-requires-2 : (t : ℕ) → tally-lts.Need-wide-requires-2 (
-  wide-reads.Asked,
-  wide-reads.Learnt,
-  skip-reads.Asked,
-  skip-reads.Learnt,
-  count-below t,
-  count.Post,
-) (tally-at t) tally.Post tally-Inv-loop tally-μ-loop
+tally-wide-requires-2 : (t : ℕ) → tally-lts.Need-wide-requires-2 (tally-told t) (tally-at t) tally.Post tally-Inv-loop tally-μ-loop
 tally-wide-requires-2 t c κs = search needs
 
-tally-sub-skip : (t : ℕ) → tally-lts.Need-sub-skip (
-  wide-reads.Asked,
-  wide-reads.Learnt,
-  skip-reads.Asked,
-  skip-reads.Learnt,
-  count-below t,
-  count.Post,
-) (tally-at t) tally.Post tally-Inv-loop tally-μ-loop
+tally-sub-skip : (t : ℕ) → tally-lts.Need-sub-skip (tally-told t) (tally-at t) tally.Post tally-Inv-loop tally-μ-loop
 tally-sub-skip t c = search needs
 
-tally-skip-requires : (t : ℕ) → tally-lts.Need-skip-requires (
-  wide-reads.Asked,
-  wide-reads.Learnt,
-  skip-reads.Asked,
-  skip-reads.Learnt,
-  count-below t,
-  count.Post,
-) (tally-at t) tally.Post tally-Inv-loop tally-μ-loop
+tally-skip-requires : (t : ℕ) → tally-lts.Need-skip-requires (tally-told t) (tally-at t) tally.Post tally-Inv-loop tally-μ-loop
 tally-skip-requires t c κs =
     let l = c .before .before .before .before .before .before .before .loop in
     to-skip (c .before .before .before .before .before .before .before .before .before .before .before .before .before .pre .1 .0) (l .j) (l .inv .0) (c .before .before .before .before .before .before .loop-test .taken) (c .before .before .before .wide .ensures) (c .before .before .if2 .left)
 
-tally-count-requires : (t : ℕ) → tally-lts.Need-count-requires (
-  wide-reads.Asked,
-  wide-reads.Learnt,
-  skip-reads.Asked,
-  skip-reads.Learnt,
-  count-below t,
-  count.Post,
-) (tally-at t) tally.Post tally-Inv-loop tally-μ-loop
+tally-count-requires : (t : ℕ) → tally-lts.Need-count-requires (tally-told t) (tally-at t) tally.Post tally-Inv-loop tally-μ-loop
 tally-count-requires t c κs =
     let l = c .before .before .before .before .before .before .before .before .loop in
     let w = to-apply (c .before .before .before .before .before .before .before .before .before .before .before .before .before .before .pre .1 .0) (l .j) (l .inv .0) (c .before .before .before .before .before .before .before .loop-test .taken) (c .before .before .before .before .wide .ensures) (c .before .before .before .if2 .left) (c .before .wide2 .ensures) (c .skip .ensures) in
     (omega (arith, w .0 .place, w .1), (w .0, omega arith, c .before .before .before .before .before .before .before .before .before .before .before .before .before .before .pre .1 .2))
 
-tally-add-j : (t : ℕ) → tally-lts.Need-add-j (
-  wide-reads.Asked,
-  wide-reads.Learnt,
-  skip-reads.Asked,
-  skip-reads.Learnt,
-  count-below t,
-  count.Post,
-) (tally-at t) tally.Post tally-Inv-loop tally-μ-loop
+tally-add-j : (t : ℕ) → tally-lts.Need-add-j (tally-told t) (tally-at t) tally.Post tally-Inv-loop tally-μ-loop
 tally-add-j t c = search needs
 
-tally-loop-less : (t : ℕ) → tally-lts.Need-loop-less (
-  wide-reads.Asked,
-  wide-reads.Learnt,
-  skip-reads.Asked,
-  skip-reads.Learnt,
-  count-below t,
-  count.Post,
-) (tally-at t) tally.Post tally-Inv-loop tally-μ-loop
+tally-loop-less : (t : ℕ) → tally-lts.Need-loop-less (tally-told t) (tally-at t) tally.Post tally-Inv-loop tally-μ-loop
 tally-loop-less t c = search needs
 
-tally-loop-again : (t : ℕ) → tally-lts.Need-loop-again (
-  wide-reads.Asked,
-  wide-reads.Learnt,
-  skip-reads.Asked,
-  skip-reads.Learnt,
-  count-below t,
-  count.Post,
-) (tally-at t) tally.Post tally-Inv-loop tally-μ-loop
+tally-loop-again : (t : ℕ) → tally-lts.Need-loop-again (tally-told t) (tally-at t) tally.Post tally-Inv-loop tally-μ-loop
 tally-loop-again t c =
     let a = c .before .before .before .before .before .before .before .before .before .before .before .args in
     let l = c .before .before .before .before .before .loop in
@@ -379,14 +170,7 @@ tally-loop-again t c =
     omega (arith, ap length (w .2), length-append u rest))
     (c .if2 .came)
 
-tally-returns-2 : (t : ℕ) → tally-lts.Need-returns-2 (
-  wide-reads.Asked,
-  wide-reads.Learnt,
-  skip-reads.Asked,
-  skip-reads.Learnt,
-  count-below t,
-  count.Post,
-) (tally-at t) tally.Post tally-Inv-loop tally-μ-loop
+tally-returns-2 : (t : ℕ) → tally-lts.Need-returns-2 (tally-told t) (tally-at t) tally.Post tally-Inv-loop tally-μ-loop
 tally-returns-2 t c =
     let a = c .before .before .before .before .before .before .before .args in
     let l = c .before .loop in
@@ -394,14 +178,7 @@ tally-returns-2 t c =
     omega (arith, ap length e)
 
 pub +count+tally-spec : {M : Type 1} → statement M
-+count+tally-spec = close μ-count μ-tally (λ t. count-lts.spec (
-  wide-reads.Asked,
-  wide-reads.Learnt,
-  number-reads.Asked,
-  number-reads.Learnt,
-  tally-below t,
-  tally.Post,
-)
++count+tally-spec = close μ-count μ-tally (λ t. count-lts.spec (count-told t)
     (count-at t)
     count.Post
     (count-shared-slice-read-wide t)
