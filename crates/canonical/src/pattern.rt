@@ -9,7 +9,7 @@ use formats::bytes::wide;
 use formats::file::copy_at;
 
 // The end of the pattern at `at`.
-pub fn pattern_end(outs: &[u8], s: &[u8], at: usize) -> usize
+pub(crate) fn pattern_end(outs: &[u8], s: &[u8], at: usize) -> usize
     requires { ⌜ 0 < count (forest (topOf (now outs)) (drop at (now s))) ⌝ }
     ensures { λ r. ⌜ Ended (now (outs .entry)) (now (s .entry)) at r ⌝ }
 {
@@ -33,7 +33,7 @@ pub struct Shared {
 }
 
 // Cuts the pattern `x` to what it shares with the pattern `y`, where it stands.
-pub fn meet(outs: &[u8], x: &mut [u8], y: &[u8]) -> Shared
+pub(crate) fn meet(outs: &[u8], x: &mut [u8], y: &[u8]) -> Shared
     requires { ⌜ IsPattern (now outs) (now x) × IsPattern (now outs) (now y) ⌝ }
     ensures { λ r. ⌜ Met (now (outs .entry)) (now (x .entry)) (now (y .entry)) (now (x .exit)) (r .size) (r .cut) ⌝ }
 {
@@ -61,7 +61,7 @@ pub fn meet(outs: &[u8], x: &mut [u8], y: &[u8]) -> Shared
 }
 
 // Writes the right-hand side of the marks number `from` up to `to` with the pattern of each state for its calls, and says how long that is.
-pub fn graft(
+pub(crate) fn graft(
     heads: &[u8],
     sizes: &[u8],
     marks: &[u8],

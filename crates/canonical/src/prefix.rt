@@ -10,7 +10,7 @@ use formats::bytes::number;
 use formats::bytes::wide;
 
 // Cuts the pattern of state q by the right-hand side of the marks number `from` up to `to`, and says whether that took anything away.
-pub fn cut_by(
+pub(crate) fn cut_by(
     outs: &[u8],
     heads: &mut [u8],
     sizes: &mut [u8],
@@ -85,7 +85,7 @@ fn sweep(
 }
 
 // Cuts until no right-hand side cuts any more.
-pub fn settle(
+pub(crate) fn settle(
     ins: &[u8],
     outs: &[u8],
     starts: &[u16],

@@ -3,13 +3,22 @@
 ghost use mathlib.Core.Path.{_≡_};
 ghost use Rattle.formats.specs.Refusal.{number};
 ghost use Rattle.exports.specs.Exported.{ExportsAlphabets, ExportsTree, ExportsFile, ExportsWriting, ExportsLinear, ExportsTranslation, ExportsSymbol};
-use formats::alphabet::{input_ranks, read_alphabets, AlphabetsRead};
-use formats::file::{read_transducer, write_transducer, FileRead, FileWritten};
+use formats::alphabet::AlphabetsRead;
+use formats::alphabet::input_ranks;
+use formats::alphabet::read_alphabets;
+use formats::file::FileRead;
+use formats::file::FileWritten;
+use formats::file::read_transducer;
+use formats::file::write_transducer;
 use formats::refusal::Refusal;
-use formats::tree::{read_tree, TreeRead};
-use transducer::address::{symbol_at, Found};
-use transducer::linear::{is_linear, LinearTest};
-use transducer::translate::{translate, Translation};
+use formats::tree::TreeRead;
+use formats::tree::read_tree;
+use transducer::address::Found;
+use transducer::address::symbol_at;
+use transducer::linear::LinearTest;
+use transducer::linear::is_linear;
+use transducer::translate::Translation;
+use transducer::translate::translate;
 
 // The number of a refusal.
 fn code(x: Refusal) -> u32

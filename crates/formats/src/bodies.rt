@@ -10,7 +10,7 @@ use crate::bytes::number;
 use crate::bytes::wide;
 
 // Whether the counts of `bodies` bodies are right, and the marks as many as they say.
-pub fn counts_right(counts: &[u8], bodies: usize, marks: &[u8]) -> bool
+pub(crate) fn counts_right(counts: &[u8], bodies: usize, marks: &[u8]) -> bool
     requires { ⌜ length (now counts) ≡ 2 * bodies ⌝ }
     ensures { λ b. ⌜ Decides (Summed (now (counts .entry)) (now (marks .entry)) bodies) b ⌝ }
 {
@@ -123,7 +123,7 @@ fn one_body(outs: &[u8], n: usize, r: usize, marks: &[u8], from: usize, to: usiz
 }
 
 // Whether every body is one tree of known marks.
-pub fn bodies_whole(ins: &[u8], outs: &[u8], n: usize, starts: &[u16], marks: &[u8]) -> bool
+pub(crate) fn bodies_whole(ins: &[u8], outs: &[u8], n: usize, starts: &[u16], marks: &[u8]) -> bool
     requires { ⌜ Laid (now ins) n (now starts) (now marks) ⌝ }
     ensures { λ b. ⌜ Decides (Wholes (now (ins .entry)) (now (outs .entry)) n (λ j. getD (now (starts .entry)) j 0) (now (marks .entry))) b ⌝ }
 {

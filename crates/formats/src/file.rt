@@ -39,7 +39,7 @@ pub fn counts_end(stock: &[u8], n: usize) -> usize
 }
 
 // Whether N, the counts and the marks are those of a transducer; else the refusal, 4 before 5.
-pub fn judge_parts(stock: &[u8], n: usize, counts: &[u8], marks: &[u8]) -> FileRead
+pub(crate) fn judge_parts(stock: &[u8], n: usize, counts: &[u8], marks: &[u8]) -> FileRead
     requires { ⌜ Alphabets (now stock) ⌝ }
     ensures { λ r. ⌜ JudgesParts (now (stock .entry)) n (now (counts .entry)) (now (marks .entry)) r ⌝ }
 {

@@ -22,7 +22,7 @@ pub enum TreeRead {
 }
 
 // Measures the tree at `at`, of at most `room` levels, and notes in `ends` where each of its subtrees ends.
-pub fn measure(ranks: &[u8], s: &[u8], at: usize, room: usize, ends: &mut [u16]) -> Extent
+pub(crate) fn measure(ranks: &[u8], s: &[u8], at: usize, room: usize, ends: &mut [u16]) -> Extent
     requires { ⌜ (length (now s) ≤ 4096) × (length (now s) ≤ length (now ends)) ⌝ }
     ensures { λ r. ⌜ Extents (now (ranks .entry)) (now (s .entry)) at room (now (ends .entry)) (now (ends .exit)) r ⌝ }
 {

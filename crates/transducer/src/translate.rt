@@ -24,7 +24,7 @@ pub enum Translation {
 }
 
 // The tree that stands n trees behind the one at `from`.
-pub fn skip(ends: &[u16], from: usize, n: usize) -> usize
+pub(crate) fn skip(ends: &[u16], from: usize, n: usize) -> usize
     requires { ⌜ ((k : ℕ) → k < n → hop (now ends) k from < length (now ends)) ⌝ }
     ensures { λ r. ⌜ r ≡ hop (now (ends .entry)) n from ⌝ }
 {
