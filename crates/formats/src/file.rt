@@ -120,7 +120,7 @@ pub fn copy_at(from: &[u8], area: &mut [u8], at: usize)
     ensures { λ _. ⌜ now (area .exit) ≡ sets (now (area .entry)) at (now (from .entry)) ⌝ }
 {
     let mut j = 0;
-    while j < from.len() {
+    while j + 1 <= from.len() {
         area[at + j] = from[j];
         j += 1;
     }

@@ -25,6 +25,9 @@ abbrev μ-loop : tie.MeasureT-loop
 loop-holds : tie.Need-loop-holds Inv-loop μ-loop
 loop-holds c = (omega arith, refl, rw add-zero)
 
+add-loop : tie.Need-add-loop Inv-loop μ-loop
+add-loop c = search needs
+
 shared-slice-read-area : tie.Need-shared-slice-read-area Inv-loop μ-loop
 shared-slice-read-area c = search needs
 
@@ -45,7 +48,7 @@ loop-again c =
     let a = c .before .before .before .args in
     let l = c .before .before .loop in
     let x = getD (now (a .from)) (l .j) 0 in
-    (omega arith, length-set (l .area) (a .at + l .j) x ∙ l .inv .1, l .inv .2 ∙ one-more (now (a .from)) (l .area) (a .at) (l .j) (c .before .loop-test .taken))
+    (omega arith, length-set (l .area) (a .at + l .j) x ∙ l .inv .1, l .inv .2 ∙ one-more (now (a .from)) (l .area) (a .at) (l .j) (omega (arith, c .before .loop-test .taken)))
 
 same-length : tie.Need-same-length Inv-loop μ-loop
 same-length c = c .before .loop .inv .1
@@ -53,7 +56,7 @@ same-length c = c .before .loop .inv .1
 returns : tie.Need-returns Inv-loop μ-loop
 returns c =
     let l = c .before .loop in
-    sym (l .inv .2 ∙ ap (sets (l .area) (c .before .before .args .at + l .j)) (drop-of-length-le (now (c .before .before .args .from)) (c .loop-test .left)))
+    sym (l .inv .2 ∙ ap (sets (l .area) (c .before .before .args .at + l .j)) (drop-of-length-le (now (c .before .before .args .from)) {i = l .j} (omega (arith, c .loop-test .left))))
 
 pub copy-at-spec : {M : Type 1} → statement M
 copy-at-spec =
@@ -62,6 +65,7 @@ copy-at-spec =
     Inv-loop
     μ-loop
     loop-holds
+    add-loop
     shared-slice-read-area
     add-area
     slice-write-area
