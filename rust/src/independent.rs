@@ -1,6 +1,6 @@
-//! Top-down tree transducers over files of bytes, written from the paper alone.
+//! Top-down tree transducers over files of bytes, written from the paper.
 //!
-//! Nothing here calls the proved library, and nothing is taken from its code: the two share the
+//! Nothing here calls the proved library or is copied from it (docs/DECISIONS.md): the two share the
 //! paper and no more, so that `tests/compare.rs` can hold one against the other and
 //! `src/bin/bench.rs` has a plain Rust program to measure against.
 //!
