@@ -1,0 +1,3 @@
+// The earliest form of a transducer (01: trimmed sheet).
+pub mod early;
+pub mod expand;

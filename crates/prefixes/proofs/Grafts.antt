@@ -1,0 +1,374 @@
+-- Patterns as bytes: each is read back from its code; a right-hand side with the patterns of the states for its calls is the code of its graft; and what a cut does to the table of patterns.
+-- Assumes nothing.
+use Prim.Native.Nat.{ℕ, suc, _+_, _-_, _*_, _≤_, _<_}
+use native.Mathlib.Decide.{decLt, ℕ-discrete}
+use native.Mathlib.Omega.{arith}
+use mathlib.Core.Bool.{Bool, true, false}
+use mathlib.Core.Logic.{_≢_, by-cases}
+use mathlib.Core.Path.{_≡_, refl, sym, ap, ap₂, _∙_}
+use mathlib.Core.List.{List, [], _∷_, _++_}
+use lib.Dec.{ltb, eqb}
+use lib.ListN.{length, getD, take, drop, set, length-append, length-set, List·getD-eq-default}
+use lib.Seq.{slice, slice-empty, length-slice, length-take-le, take-add, take-at, drop-at, take-take, drop-drop, take-append-le, sets-eq, getD-set-same, getD-set-other}
+use borrow.Rule.Slice.PartMut.{putMid, postOf, same-len-mid, mid-len, take-put, drop-put}
+use borrow.Author.Tests.{lt-ltb, le-ltb, eqb-true}
+use Rattle.theory.specs.Lcp.{lcp}
+use Rattle.theory.specs.Pref.{graft}
+use Rattle.theory.specs.Prefix.{Pattern, Patterns, Prefix, any, keeps, Prefixes, no-more, also}
+use Rattle.theory.specs.Term.{Term, var, node, Terms, none, more, count, bind, binds}
+use Rattle.theory.proofs.Lcps.{lcp-left}
+use Rattle.theory.proofs.Terms.{conflict, count-binds}
+use Rattle.formats.specs.Code.{Ranked, AllRanked, Call, Mark}
+use Rattle.formats.specs.Inner.Decode.{call, symbol, Over, AllOver, Whole}
+use Rattle.formats.specs.Inner.Layout.{pairs, markAt, markOf}
+use Rattle.formats.specs.Inner.Judging.{Put}
+use Rattle.formats.specs.Inner.Marked.{part}
+use Rattle.formats.proofs.Codes.{Faithful, exactly, reads-back, code-whole, flat-bind}
+use Rattle.formats.proofs.Deciding.{decides-same}
+use Rattle.formats.proofs.Pairs.{getD-slice, pairs-at, pairs-length, part-cons}
+use Rattle.formats.proofs.Sheets.{whole-ranked}
+use Rattle.transducer.specs.Inner.Written.{spell}
+use Rattle.transducer.proofs.Meaning.{body-read}
+use Rattle.transducer.proofs.Walks.{spell-same}
+use Rattle.prefixes.specs.Inner.Patterns.{top, topIf, topOf, patternCode, IsPattern, readPattern, headAt, grafted, Graftable, Met}
+use Rattle.prefixes.specs.Inner.Heads.{Heads, headOf, bodyTerm, Cuttable, CutBy}
+
+-- ---- a byte of a pattern
+-- p is over the output alphabet
+abbrev pub OverTop : List ℕ → Pattern → Type 0
+OverTop outs p = Over (topOf outs) (λ u. top) (λ k. k) p
+
+-- which byte a letter was read from
+symbol-byte : (outs : List ℕ) (x k n : ℕ) → topOf outs x ≡ symbol k n → k ≡ x
+unfolding topOf
+symbol-byte outs x k n e = go (ltb x (length outs)) (eqb x top) e
+  where
+    go : (b t : Bool) → topIf b t x (getD outs x 0) ≡ symbol k n → k ≡ x
+    go true t e = cc
+    go false true e = conflict (cc)
+    go false false e = conflict (cc)
+
+top-byte : (outs : List ℕ) (x : ℕ) (u : Unit {0}) → topOf outs x ≡ call u → top ≡ x
+unfolding topOf
+top-byte outs x u e = go (ltb x (length outs)) (eqb x top) refl e
+  where
+    go : (b t : Bool) → eqb x top ≡ t → topIf b t x (getD outs x 0) ≡ call u → top ≡ x
+    go true t h e = conflict (cc)
+    go false true h e = sym (eqb-true x top h)
+    go false false h e = conflict (cc)
+
+-- each byte of a pattern is the letter of one symbol, or that of ⊤
+pub faithful-top : (outs : List ℕ) → Faithful (topOf outs) (λ u. top) (λ k. k)
+faithful-top outs = record { calls = λ x u e. top-byte outs x u e; symbols = λ x k n e. symbol-byte outs x k n e }
+
+symbol-letter : (outs : List ℕ) (k : ℕ) → k < length outs → topOf outs k ≡ symbol k (getD outs k 0)
+unfolding topOf
+symbol-letter outs k h = simp (lt-ltb k (length outs) h)
+
+-- ---- the code of a pattern
+module _ (outs : List ℕ) where
+  -- a pattern that is over the alphabet is read back from its code
+  pub pattern-back : (p : Pattern) → OverTop outs p → IsPattern outs (patternCode p) × (readPattern outs (patternCode p) ≡ p)
+  unfolding readPattern
+  pattern-back p o = (code-whole (topOf outs) (λ u. top) (λ k. k) p o, reads-back (topOf outs) (λ u. top) (λ k. k) p o)
+
+  -- the pattern that is read from a code is over the alphabet, and has that code
+  pub pattern-read : (s : List ℕ) → IsPattern outs s → OverTop outs (readPattern outs s) × (patternCode (readPattern outs s) ≡ s)
+  pattern-read s W =
+      let w = exactly (topOf outs) (λ u. top) (λ k. k) (faithful-top outs) 0 s .0 W in
+      let e : readPattern outs s ≡ w .0 = ap (readPattern outs) (sym (w .2)) ∙ pattern-back (w .0) (w .1) .1 in
+      (rw e (w .1), ap patternCode e ∙ w .2)
+
+-- ---- what two patterns share
+module _ (outs : List ℕ) (few : length outs ≤ 64) where
+  pub top-letter : (u : Unit {0}) → topOf outs top ≡ call u
+  unfolding topOf
+  top-letter u = simp (le-ltb top (length outs) (omega arith))
+
+  mutual
+    unfolding Over count
+
+    -- a prefix of a pattern over the alphabet is over it
+    over-prefix : {p t : Pattern} → Prefix p t → OverTop outs t → OverTop outs p
+    over-prefix (any {a}) o = top-letter a
+    over-prefix (keeps {k} ps) o = let r = over-prefixes ps (o .1) in (o .0 ∙ ap (symbol k) (sym (r .0)), r .1)
+
+    over-prefixes : {ps ts : Patterns} → Prefixes ps ts → AllOver (topOf outs) (λ u. top) (λ k. k) ts → (count ps ≡ count ts) × AllOver (topOf outs) (λ u. top) (λ k. k) ps
+    over-prefixes no-more o = (refl, tt)
+    over-prefixes (also p ps) o = let r = over-prefixes ps (o .1) in (ap suc (r .0), (over-prefix p (o .0), r .1))
+
+  -- what a pattern over the alphabet shares with another is over it
+  pub over-lcp : (p t : Pattern) → OverTop outs p → OverTop outs (lcp p t)
+  over-lcp p t o = over-prefix (lcp-left p t) o
+
+-- what two codes of patterns share
+abbrev pub sharedOf : List ℕ → List ℕ → List ℕ → Pattern
+sharedOf outs x y = lcp (readPattern outs x) (readPattern outs y)
+
+-- its code is a pattern, and is read back
+pub shared-back : (outs : List ℕ) → length outs ≤ 64 → (x y : List ℕ) → IsPattern outs x → IsPattern outs (patternCode (sharedOf outs x y)) × (readPattern outs (patternCode (sharedOf outs x y)) ≡ sharedOf outs x y)
+shared-back outs few x y W = pattern-back outs (sharedOf outs x y) (over-lcp outs few (readPattern outs x) (readPattern outs y) (pattern-read outs x W .0))
+
+-- ---- the graft of a right-hand side over n states and r children
+module _ (outs : List ℕ) (n r : ℕ) (h : ℕ → Pattern) (all : (q : ℕ) → q < n → OverTop outs (h q)) where
+  mutual
+    unfolding Over Ranked bind
+
+    over-bind : (t : Term (ℕ × ℕ)) → Ranked (Call n r) outs t → OverTop outs (bind t (λ e. h (e .1)))
+    over-bind (var e) c = all (e .1) (c .state)
+    over-bind (node k ts) c = (symbol-letter outs k (c .0) ∙ ap (symbol k) (sym (count-binds ts (λ e. h (e .1)) ∙ c .1)), over-binds ts (c .2))
+
+    over-binds : (ts : Terms (ℕ × ℕ)) → AllRanked (Call n r) outs ts → AllOver (topOf outs) (λ u. top) (λ k. k) (binds ts (λ e. h (e .1)))
+    over-binds none c = tt
+    over-binds (more t ts) c = (over-bind t (c .0), over-binds ts (c .1))
+
+  -- the graft of patterns over the alphabet into a ranked term is over it
+  pub over-graft : (t : Term (ℕ × ℕ)) → Ranked (Call n r) outs t → OverTop outs (graft h t)
+  unfolding graft
+  over-graft t c = over-bind t c
+
+-- the patterns of a table, grafted into a whole body: the code of the graft, which is read back
+pub record GraftRead (outs heads sizes bytes : List ℕ) (from to r : ℕ) : Type 0 where
+  pub pattern : IsPattern outs (grafted heads sizes bytes from to)
+  pub read : readPattern outs (grafted heads sizes bytes from to) ≡ graft (headOf outs heads sizes) (bodyTerm outs sizes r bytes from to)
+
+module _ {outs heads sizes : List ℕ} (T : Heads outs heads sizes) (bytes : List ℕ) (from to r : ℕ) (W : Whole (markOf outs (length sizes) r) (part bytes from to)) where
+  -- the bytes that are grafted are the code of the graft
+  pub grafted-code : grafted heads sizes bytes from to ≡ patternCode (graft (headOf outs heads sizes) (bodyTerm outs sizes r bytes from to))
+  unfolding graft headOf
+  grafted-code =
+      let h = headOf outs heads sizes in
+      let R = body-read outs (length sizes) r (part bytes from to) W in
+      spell-same (λ i q. headAt heads sizes q) (λ i q. patternCode (h q)) (length sizes) r (part bytes from to) (R .callable) (λ i q p l s. sym (pattern-read outs (headAt heads sizes q) (T .each q s) .1))
+      ∙ sym (R .spelled (λ e. patternCode (h (e .1))))
+      ∙ sym (flat-bind (λ u. top ∷ []) (λ k. k) (λ e. h (e .1)) (bodyTerm outs sizes r bytes from to))
+
+  pub graft-read : GraftRead outs heads sizes bytes from to r
+  unfolding headOf
+  graft-read =
+      let o = over-graft outs (length sizes) r (headOf outs heads sizes) (λ q s. pattern-read outs (headAt heads sizes q) (T .each q s) .0) (bodyTerm outs sizes r bytes from to) (whole-ranked outs (length sizes) r (part bytes from to) W .0) in
+      let b = pattern-back outs (graft (headOf outs heads sizes) (bodyTerm outs sizes r bytes from to)) o in
+      record { pattern = rw grafted-code (b .0); read = ap (readPattern outs) grafted-code ∙ b .1 }
+
+-- ---- a pattern of the table
+-- the k elements from index f on
+pub slice-from : (l : List ℕ) (f k : ℕ) → f ≤ length l → slice f (f + k) l ≡ take k (drop f l)
+slice-from l f k h = ap (drop f) (take-add f k l) ∙ drop-at (take f l) (take k (drop f l)) f (length-take-le f l h)
+
+-- the n bytes that are lent for the pattern of state q, and the table with them put back as ys
+abbrev pub lentHead : List ℕ → ℕ → ℕ → List ℕ
+lentHead heads q n = take (64 * q + n - 64 * q) (drop (64 * q) heads)
+
+abbrev pub putHead : List ℕ → ℕ → ℕ → List ℕ → List ℕ
+putHead heads q n ys = putMid (64 * q) (64 * q + n - 64 * q) heads ys
+
+-- with the size of its pattern they are that pattern
+pub head-lent : (heads sizes : List ℕ) (q : ℕ) {size : ℕ} → size ≡ getD sizes q 0 → 64 * q ≤ length heads → lentHead heads q size ≡ headAt heads sizes q
+head-lent heads sizes q {size} e h =
+    let k : 64 * q + size - 64 * q ≡ getD sizes q 0 = omega arith in
+    ap (λ n. take n (drop (64 * q) heads)) k ∙ sym (slice-from heads (64 * q) (getD sizes q 0) h)
+
+-- a pattern is as long as its size says
+pub head-length : (heads sizes : List ℕ) (q : ℕ) → 64 * q + getD sizes q 0 ≤ length heads → length (headAt heads sizes q) ≡ getD sizes q 0
+head-length heads sizes q h = length-slice (64 * q) (64 * q + getD sizes q 0) heads h ∙ omega arith
+
+-- ---- mark by mark
+-- the first mark
+module _ (heads sizes bytes : List ℕ) (j to : ℕ) (less : j < to) (inside : 2 * to ≤ length bytes) where
+  -- a symbol writes itself
+  pub graft-symbol : getD bytes (2 * j) 0 ≡ 0 → grafted heads sizes bytes j to ≡ getD bytes (2 * j + 1) 0 ∷ grafted heads sizes bytes (j + 1) to
+  unfolding spell
+  graft-symbol e = rw (part-cons bytes j to less inside, e)
+
+  -- a call writes the pattern of its state
+  pub graft-call : (getD bytes (2 * j) 0 ≡ 0 → ⊥) → grafted heads sizes bytes j to ≡ headAt heads sizes (getD bytes (2 * j + 1) 0) ++ grafted heads sizes bytes (j + 1) to
+  unfolding spell
+  graft-call some = go (getD bytes (2 * j) 0) refl
+    where
+      go : (i : ℕ) → getD bytes (2 * j) 0 ≡ i → grafted heads sizes bytes j to ≡ headAt heads sizes (getD bytes (2 * j + 1) 0) ++ grafted heads sizes bytes (j + 1) to
+      go ℕ.zero e = absurd (some e)
+      go (suc i) e = rw (part-cons bytes j to less inside, e)
+
+-- no mark is left
+pub graft-end : (heads sizes bytes : List ℕ) (j to : ℕ) → j ≤ to → to ≤ j → grafted heads sizes bytes j to ≡ []
+unfolding spell
+graft-end heads sizes bytes j to h g = let e : j ≡ to = omega arith in rw (e, slice-empty to (pairs bytes))
+
+-- the pattern of the state q, which mark j calls
+pub record Called (heads sizes bytes : List ℕ) (j to q : ℕ) : Type 0 where
+  pub state : q < length sizes
+  pub small : getD sizes q 0 ≤ 64
+  pub inside : 64 * q + 64 ≤ length heads
+  pub long : length (headAt heads sizes q) ≡ getD sizes q 0
+  pub next : grafted heads sizes bytes j to ≡ headAt heads sizes q ++ grafted heads sizes bytes (j + 1) to
+
+module _ {heads sizes bytes out : List ℕ} {from to : ℕ} (G : Graftable heads sizes bytes from to out) where
+  -- each call has one
+  pub called : (j : ℕ) → from ≤ j → j < to → (getD bytes (2 * j) 0 ≡ 0 → ⊥) → {q : ℕ} → q ≡ getD bytes (2 * j + 1) 0 → Called heads sizes bytes j to q
+  called j h g some {q} e =
+      let m = rw (pairs-at bytes j (omega (arith, G .inside))) at (G .there j h g) in
+      let t = m (omega arith) in
+      let s : getD sizes q 0 ≤ 64 = rw e (t .1) in
+      let i : 64 * q + 64 ≤ length heads = omega (arith, t .2) in
+      record {
+        state = omega (arith, t .0);
+        small = s;
+        inside = i;
+        long = head-length heads sizes q (omega arith);
+        next = rw e (graft-call heads sizes bytes j to g (G .inside) some);
+      }
+
+-- a word is at most 64 times as long as the marks that spell it, if each call gives at most 64 bytes
+spell-short : (g : ℕ → ℕ → List ℕ) (ms : List Mark) → ((j : ℕ) → j < length ms → 0 < getD ms j (0, 0) .0 → length (g (getD ms j (0, 0) .0) (getD ms j (0, 0) .1)) ≤ 64) → length (spell g ms) ≤ 64 * length ms
+unfolding spell
+spell-short g [] k = omega arith
+spell-short g ((ℕ.zero, b) ∷ ms) k = omega (arith, spell-short g ms (λ j h. k (suc j) (omega arith)))
+spell-short g ((suc i, q) ∷ ms) k = omega (arith, length-append (g (suc i) q) (spell g ms), k 0 (omega arith) (omega arith), spell-short g ms (λ j h. k (suc j) (omega arith)))
+
+-- what is grafted has room in the area
+pub grafted-short : {heads sizes bytes out : List ℕ} {from to : ℕ} → Graftable heads sizes bytes from to out → length (grafted heads sizes bytes from to) ≤ length out
+grafted-short {heads} {sizes} {bytes} {out} {from} {to} G =
+    let p = pairs-length bytes to (G .inside) in
+    let s = spell-short (λ i q. headAt heads sizes q) (part bytes from to) (λ j h.
+    let d = getD-slice from to j (pairs bytes) p h in
+    rw (d .1) (λ some. let t = G .there (from + j) (omega arith) (d .0) some in
+    omega (arith, t .1, t .2, head-length heads sizes (markAt bytes (from + j) .1) (omega (arith, t .1, t .2))))) in
+    omega (arith, length-slice from to (pairs bytes) p, G .few, G .room)
+
+-- a state that is not there has no bytes
+head-none : (heads sizes : List ℕ) (p : ℕ) → length sizes ≤ p → headAt heads sizes p ≡ []
+head-none heads sizes p h = let e : 64 * p + getD sizes p 0 ≡ 64 * p = omega (arith, List·getD-eq-default sizes 0 h) in rw e (slice-empty (64 * p) heads)
+
+-- ---- a part that was lent, from index f up to e, put back as ys
+module _ (l ys : List ℕ) (f e : ℕ) (ordered : f ≤ e) (fits : e ≤ length l) (same : length ys ≡ e - f) where
+  put-length : length (putMid f (e - f) l ys) ≡ length l
+  put-length = same-len-mid f (e - f) l ys (same ∙ sym (mid-len f e l fits))
+
+  -- what stands before it is as it was
+  put-before : (b c : ℕ) → c ≤ f → slice b c (putMid f (e - f) l ys) ≡ slice b c l
+  put-before b c h = ap (drop b) (sym (take-take c f (putMid f (e - f) l ys) h) ∙ ap (take c) (take-put f (e - f) l ys (omega arith)) ∙ take-take c f l h)
+
+  -- so is what stands behind it
+  put-behind : (b n : ℕ) → e ≤ b → b ≤ length l → slice b (b + n) (putMid f (e - f) l ys) ≡ slice b (b + n) l
+  put-behind b n h g =
+      let k : e + (b - e) ≡ b = omega arith in
+      let d : drop (e + (b - e)) (putMid f (e - f) l ys) ≡ drop (e + (b - e)) l = sym (drop-drop (b - e) e (putMid f (e - f) l ys)) ∙ ap (drop (b - e)) (drop-put f e l ys ordered fits same) ∙ drop-drop (b - e) e l in
+      slice-from (putMid f (e - f) l ys) b n (omega (arith, put-length)) ∙ ap (take n) (rw k at d) ∙ sym (slice-from l b n g)
+
+  -- and in its place stands ys
+  put-here : (n : ℕ) → n ≤ length ys → slice f (f + n) (putMid f (e - f) l ys) ≡ take n ys
+  put-here n h =
+      slice-from (putMid f (e - f) l ys) f n (omega (arith, put-length))
+      ∙ ap (take n) (drop-at (take f l) (ys ++ postOf f (e - f) l) f (length-take-le f l (omega arith)))
+      ∙ take-append-le n ys (postOf f (e - f) l) h
+
+-- the first r bytes of an area, as they are lent
+abbrev pub lentArea : ℕ → List ℕ → List ℕ
+lentArea r area = take (r - 0) area
+
+-- what was written from the start of the area is what is read there
+put-read : {w before after : List ℕ} {r : ℕ} → Put w before after r → length w ≤ length before → lentArea r after ≡ w
+put-read {w} {before} {after} {r} P h =
+    let z : r - 0 ≡ length w = omega (arith, P .size) in
+    rw (z, P .wrote, sets-eq w before 0 (omega arith)) (take-at w (drop (0 + length w) before) (length w) refl)
+
+-- ---- a cut of the table: the part of state q is lent, and put back as after, of which size bytes count
+module _ {outs heads sizes : List ℕ} (T : Heads outs heads sizes) (q : ℕ) (state : q < length sizes) {n : ℕ} (right : n ≡ getD sizes q 0)
+    (after : List ℕ) (same : length after ≡ length (lentHead heads q n)) (size : ℕ) (short : size ≤ length after) where
+  fits-q : 64 * q + n ≤ length heads
+  fits-q = omega (arith, T .long, T .small q state)
+
+  same-q : length after ≡ 64 * q + n - 64 * q
+  same-q = same ∙ mid-len (64 * q) (64 * q + n) heads fits-q
+
+  -- the bytes of q are the first ones that were put back
+  head-cut : headAt (putHead heads q n after) (set sizes q size) q ≡ take size after
+  head-cut = rw (getD-set-same sizes q size 0 state) (put-here heads after (64 * q) (64 * q + n) (omega arith) fits-q same-q size short)
+
+  -- those of the other states stay
+  head-kept : (p : ℕ) → p < length sizes → p ≢ q → headAt (putHead heads q n after) (set sizes q size) p ≡ headAt heads sizes p
+  head-kept p h g = rw (getD-set-other sizes q p size 0 g) (by-cases (decLt p q)
+      (λ l. put-before heads after (64 * q) (64 * q + n) (omega arith) fits-q same-q (64 * p) (64 * p + getD sizes p 0) (omega (arith, T .small p h)))
+      (λ l. put-behind heads after (64 * q) (64 * q + n) (omega arith) fits-q same-q (64 * p) (getD sizes p 0) (omega (arith, T .small q state)) (omega (arith, T .long))))
+
+-- what a cut asks of grafting and of sharing, and what it comes to
+module _ {outs heads sizes bytes other : List ℕ} {from to q : ℕ} (C : Cuttable outs heads sizes bytes from to q other) where
+  -- each state that the marks call has a pattern in the table
+  pub graftable : Graftable heads sizes bytes from to other
+  graftable =
+      let T = C .table in
+      let l = pairs-length bytes to (C .inside) in
+      let R = body-read outs (length sizes) (C .children) (part bytes from to) (C .whole) in
+      record {
+        ordered = C .ordered;
+        inside = C .inside;
+        few = C .few;
+        there = λ j h g some.
+            let k : from + (j - from) ≡ j = omega arith in
+            let i : j - from < length (part bytes from to) = omega (arith, length-slice from to (pairs bytes) l) in
+            let m = rw (getD-slice from to (j - from) (pairs bytes) l i .1, k) at (R .callable (j - from) i) in
+            let s = m some .1 in
+            (s, T .small (markAt bytes j .1) s, omega (arith, T .long));
+        room = C .room;
+      }
+
+  module _ {len n : ℕ} {other′ : List ℕ} (P : Put (grafted heads sizes bytes from to) other other′ len) (right : n ≡ getD sizes q 0) where
+    -- the part of state q, and what was grafted
+    lent-head : lentHead heads q n ≡ headAt heads sizes q
+    lent-head = head-lent heads sizes q right (omega (arith, C .table .long, C .state))
+
+    lent-graft : lentArea len other′ ≡ grafted heads sizes bytes from to
+    lent-graft = put-read P (grafted-short graftable)
+
+    -- both are patterns
+    pub to-meet : IsPattern outs (lentHead heads q n) × IsPattern outs (lentArea len other′)
+    to-meet = (rw lent-head (C .table .each q (C .state)), rw lent-graft (graft-read (C .table) bytes from to (C .children) (C .whole) .pattern))
+
+    -- the part and the room that are lent
+    pub lent-inside : (64 * q + n ≤ length heads) × (len ≤ length other)
+    lent-inside = (omega (arith, C .table .long, C .state, C .table .small q (C .state)), omega (arith, P .size, grafted-short graftable))
+
+    module _ {after : List ℕ} {size : ℕ} {b : Bool} (same : length after ≡ length (lentHead heads q n))
+        (M : Met outs (lentHead heads q n) (lentArea len other′) after size b) where
+      -- the new size fits a byte
+      pub size-small : size ≤ 64
+      size-small = omega (arith, M .short, ap length lent-head, head-length heads sizes q (omega (arith, lent-inside .0)), C .table .small q (C .state))
+
+      -- the code of the new pattern of q
+      new-head : headAt (putHead heads q n after) (set sizes q size) q ≡ patternCode (sharedOf outs (lentHead heads q n) (lentArea len other′))
+      new-head = head-cut (C .table) q (C .state) right after same size (omega (arith, M .short)) ∙ M .shared
+
+      -- so it is a pattern, and which
+      new-back : IsPattern outs (headAt (putHead heads q n after) (set sizes q size) q)
+          × (headOf outs (putHead heads q n after) (set sizes q size) q ≡ sharedOf outs (lentHead heads q n) (lentArea len other′))
+      unfolding headOf
+      new-back =
+          let k = shared-back outs (C .few-symbols) (lentHead heads q n) (lentArea len other′) (to-meet .0) in
+          (rw new-head (k .0), ap (readPattern outs) new-head ∙ k .1)
+
+      -- the old one
+      old-head : readPattern outs (lentHead heads q n) ≡ headOf outs heads sizes q
+      unfolding headOf
+      old-head = ap (readPattern outs) lent-head
+
+      -- those of the other states
+      kept : (p : ℕ) → p < length sizes → p ≢ q → headAt (putHead heads q n after) (set sizes q size) p ≡ headAt heads sizes p
+      kept p h g = head-kept (C .table) q (C .state) right after same size (omega (arith, M .short)) p h g
+
+      -- the contract of `cut_by`
+      pub cut-by : CutBy outs bytes from to q heads sizes (putHead heads q n after) (set sizes q size) b
+      unfolding headOf
+      cut-by = record {
+        table = record {
+          long = rw (length-set, same-len-mid (64 * q) (64 * q + n - 64 * q) heads after same) (C .table .long);
+          small = λ p h. by-cases (ℕ-discrete p q)
+              (λ e. rw (e, getD-set-same sizes q size 0 (C .state)) size-small)
+              (λ g. rw (getD-set-other sizes q p size 0 g) (C .table .small p (rw length-set at h)));
+          each = λ p h. by-cases (ℕ-discrete p q)
+              (λ e. rw e (new-back .0))
+              (λ g. rw (kept p (rw length-set at h) g) (C .table .each p (rw length-set at h)));
+        };
+        cut = λ r W. new-back .1 ∙ ap₂ lcp old-head (ap (readPattern outs) lent-graft ∙ graft-read (C .table) bytes from to r W .read);
+        others = λ p g. ap (readPattern outs) (by-cases (decLt p (length sizes)) (λ h. kept p h g) (λ h. head-none (putHead heads q n after) (set sizes q size) p (omega (arith, length-set sizes q size)) ∙ sym (head-none heads sizes p (omega arith))));
+        told = decides-same (λ f e. f (sym (new-back .1) ∙ e ∙ sym old-head)) (λ f e. f (new-back .1 ∙ e ∙ old-head)) (M .told);
+      }

@@ -1,0 +1,292 @@
+-- Cut upon cut: what one cut does to the patterns, what many do, and that the patterns are the common prefixes when no cut takes anything away.
+-- Assumes nothing.
+use Prim.Native.Nat.{ℕ, suc, _+_, _≤_, _<_}
+use native.Mathlib.Decide.{ℕ-discrete}
+use native.Mathlib.Nat.{mul-le-mul}
+use native.Mathlib.Omega.{arith}
+use mathlib.Core.Bool.{Bool, true, false}
+use mathlib.Core.List.{List}
+use mathlib.Core.Logic.{_≢_, by-cases, ⊎-elim}
+use mathlib.Core.Option.{some}
+use mathlib.Core.Path.{_≡_, refl, sym, ap, _∙_, fun-ext}
+use lib.ListN.{length, getD, replicate}
+use borrow.Author.Count.{below-more}
+use Rattle.theory.specs.Lcp.{lcp}
+use Rattle.theory.specs.Pref.{graft, Prefs}
+use Rattle.theory.specs.Prefix.{Pattern}
+use Rattle.theory.specs.Size.{size}
+use Rattle.theory.specs.Transducer.{Transducer}
+use Rattle.theory.specs.Wf.{nth, Wf}
+use Rattle.theory.proofs.Cut.{cut-step, cut-done}
+use Rattle.theory.proofs.PrefsExist.{total, total-falls}
+use Rattle.theory.proofs.Sizes.{lcp-smaller}
+use Rattle.theory.proofs.Terms.{conflict}
+use Rattle.theory.proofs.Vars.{all-map}
+use Rattle.formats.specs.Alphabets.{Leaf}
+use Rattle.formats.specs.Inner.Decode.{Whole}
+use Rattle.formats.specs.Inner.Layout.{markOf, body, bodyNumber, transducer, Wholes}
+use Rattle.formats.specs.Inner.Marked.{part}
+use Rattle.formats.specs.Refusal.{Decides}
+use Rattle.formats.proofs.Pairs.{number-less}
+use Rattle.formats.proofs.Sheets.{transducer-over}
+use Rattle.transducer.specs.Linear.{oneIf}
+use Rattle.transducer.proofs.Outputs.{ranked-vars}
+use Rattle.prefixes.specs.Alphabet.{alphabet, children-inside, children-of}
+use Rattle.prefixes.specs.Inner.Heads.{Heads, headOf, Cuttable, CutBy, machine, Layout, Bodies, FixedAt, AllAbove, Cuts, CutState, Swept, Settled}
+
+-- ---- the transducer of whole bodies is well-formed over the alphabet
+nth-sort : (r i : ℕ) → 1 ≤ i → i ≤ r → nth {A = ℕ} (replicate r 0) i ≡ some 0
+unfolding nth
+nth-sort ℕ.zero i p h = absurd (omega arith)
+nth-sort (suc r) ℕ.zero p h = absurd (omega arith)
+nth-sort (suc r) (suc ℕ.zero) p h = refl
+nth-sort (suc r) (suc (suc i)) p h = nth-sort r (suc i) (omega arith) (omega arith)
+
+pub machine-wf : {ins outs : List ℕ} {n : ℕ} {start : ℕ → ℕ} {bytes : List ℕ} (l : Leaf ins) → Wholes ins outs n start bytes → Wf (alphabet ins l) (transducer ins outs n start bytes) (λ q. q < n)
+unfolding alphabet transducer nth
+machine-wf {ins} {outs} {n} {start} {bytes} l W =
+    let O = transducer-over ins outs n start bytes W in
+    let M = transducer ins outs n start bytes in
+    record {
+      initial = all-map (λ e c. record { valid = c .state; sort = nth-sort 1 (e .0) (c .from-one) (c .child) }) (ranked-vars outs n 1 (M .initial) (O .initial));
+      rhs = λ q a {sorts} h k.
+          let c = children-inside ins a k in
+          all-map (λ e m. record { valid = m .state; sort = ap (λ z. nth z (e .0)) (c .1) ∙ nth-sort (getD ins a 0) (e .0) (m .from-one) (m .child) })
+          (ranked-vars outs n (getD ins a 0) (M .rhs q a) (O .rhs q a h (c .0)));
+    }
+
+-- ---- one cut
+module _ {ins : List ℕ} {M : Transducer ℕ} {n : ℕ} (W : (l : Leaf ins) → Wf (alphabet ins l) M (λ q. q < n))
+    {h h′ : ℕ → Pattern} (q a : ℕ) (state : q < n) (there : a < length ins) (e : h′ q ≡ lcp (h q) (graft h (M .rhs q a))) (others : (p : ℕ) → p ≢ q → h′ p ≡ h p) {b : Bool} (told : Decides (h′ q ≡ h q → ⊥) b) where
+  -- the pattern of q stays, or loses symbols
+  stays : b ≡ false → h′ q ≡ h q
+  stays f = ⊎-elim (λ s. e ∙ s) (λ l. conflict (let z = told .complete (λ k. omega (arith, ap size (sym e ∙ k))) in let x = sym f ∙ z in cc)) (lcp-smaller (h q) (graft h (M .rhs q a)))
+
+  loses : b ≡ true → size (h′ q) < size (h q)
+  loses t = ⊎-elim (λ s. absurd (told .sound t (e ∙ s))) (λ l. omega (arith, ap size e)) (lcp-smaller (h q) (graft h (M .rhs q a)))
+
+  pub one-cut : Cuts ins M n h h′ b
+  unfolding alphabet
+  one-cut = record {
+    above = λ l all. cut-step (W l) h all h′ q a state (children-of ins a there) e others;
+    less = λ t. total-falls h h′ q n state others (loses t);
+    kept = λ f p. by-cases (ℕ-discrete p q) (λ z. rw z (stays f)) (others p);
+  }
+
+  pub one-fixed : b ≡ false → lcp (h q) (graft h (M .rhs q a)) ≡ h q
+  one-fixed f = sym e ∙ stays f
+
+-- ---- many
+pub no-cut : {ins : List ℕ} {M : Transducer ℕ} {n : ℕ} (h : ℕ → Pattern) → Cuts ins M n h h false
+no-cut h = record { above = λ l a. a; less = λ e. conflict (cc); kept = λ e p. refl }
+
+pub same-patterns : {ins : List ℕ} {M : Transducer ℕ} {n : ℕ} {h h′ : ℕ → Pattern} {b : Bool} → Cuts ins M n h h′ b → b ≡ false → h′ ≡ h
+same-patterns C e = fun-ext (C .kept e)
+
+module _ {ins : List ℕ} {M : Transducer ℕ} {n : ℕ} {h h₁ : ℕ → Pattern} {any : Bool} (C : Cuts ins M n h h₁ any) where
+  -- no more than before
+  not-more : total h₁ n ≤ total h n
+  not-more = go any refl
+    where
+      go : (b : Bool) → any ≡ b → total h₁ n ≤ total h n
+      go true e = omega (arith, C .less e)
+      go false e = omega (arith, ap (λ k. total k n) (same-patterns C e))
+
+  pub then-cut : {h₂ : ℕ → Pattern} {b : Bool} → b ≡ true → Cuts ins M n h₁ h₂ b → Cuts ins M n h h₂ true
+  then-cut t D = record { above = λ l a. D .above l (C .above l a); less = λ e. omega (arith, D .less t, not-more); kept = λ e. conflict (cc) }
+
+  pub then-none : {h₂ : ℕ → Pattern} {b : Bool} → b ≡ false → Cuts ins M n h₁ h₂ b → Cuts ins M n h h₂ any
+  then-none f D = record {
+    above = λ l a. D .above l (C .above l a);
+    less = λ e. omega (arith, C .less e, ap (λ k. total k n) (same-patterns D f));
+    kept = λ e p. D .kept f p ∙ C .kept e p;
+  }
+
+-- ---- the end
+pub all-fixed : {ins : List ℕ} {M : Transducer ℕ} {n : ℕ} (l : Leaf ins) → Wf (alphabet ins l) M (λ q. q < n) → {h : ℕ → Pattern} → AllAbove ins l M n h → ((q : ℕ) → q < n → FixedAt ins M h q) → Prefs (alphabet ins l) M (λ q. q < n) h
+unfolding alphabet
+all-fixed {ins} l W {h} all fix = cut-done W h all (λ q a sorts v k. fix q v a (children-inside ins a k .0))
+
+-- ---- the bodies of a state
+module _ {ins outs starts bytes heads₀ sizes₀ other₀ : List ℕ} (B : Bodies ins outs starts bytes heads₀ sizes₀ other₀) (q a : ℕ) (state : q < length sizes₀) (there : a < length ins)
+    {heads sizes : List ℕ} (T : Heads outs heads sizes) (same : length sizes ≡ length sizes₀)
+    {from to : ℕ} (f : from ≡ getD starts (bodyNumber ins q a) 0) (t : to ≡ getD starts (bodyNumber ins q a + 1) 0) where
+  -- the body of q and a is whole, and can be cut by
+  body-whole : Whole (markOf outs (length sizes) (getD ins a 0)) (part bytes from to)
+  unfolding body
+  body-whole = rw (f, t, same) (B .layout .wholes .rhs q a state there)
+
+  pub can-cut : {other : List ℕ} → length other ≡ length other₀ → Cuttable outs heads sizes bytes from to q other
+  unfolding body
+  can-cut room =
+      let less = number-less ins q (length sizes₀) a state there in
+      record {
+        table = T;
+        few-symbols = B .layout .few-symbols;
+        state = omega arith;
+        ordered = omega (arith, B .layout .laid .ordered (bodyNumber ins q a) less);
+        inside = omega (arith, B .layout .laid .inside (bodyNumber ins q a + 1) (omega arith));
+        few = omega (arith, B .layout .few (bodyNumber ins q a) less);
+        children = getD ins a 0;
+        whole = body-whole;
+        room = omega (arith, B .room);
+      }
+
+  module _ {heads′ sizes′ : List ℕ} {b : Bool} (C : CutBy outs bytes from to q heads sizes heads′ sizes′ b) where
+    cut-eq : headOf outs heads′ sizes′ q ≡ lcp (headOf outs heads sizes q) (graft (headOf outs heads sizes) (machine ins outs starts bytes (length sizes₀) .rhs q a))
+    unfolding transducer body
+    cut-eq = rw (f, t, same) at (C .cut (getD ins a 0) body-whole)
+
+    pub body-cut : Cuts ins (machine ins outs starts bytes (length sizes₀)) (length sizes₀) (headOf outs heads sizes) (headOf outs heads′ sizes′) b
+    body-cut = one-cut (λ l. machine-wf l (B .layout .wholes)) q a state there cut-eq (C .others) (C .told)
+
+    pub body-fixed : b ≡ false → lcp (headOf outs heads sizes q) (graft (headOf outs heads sizes) (machine ins outs starts bytes (length sizes₀) .rhs q a)) ≡ headOf outs heads sizes q
+    body-fixed = one-fixed (λ l. machine-wf l (B .layout .wholes)) q a state there cut-eq (C .others) (C .told)
+
+-- ---- the loop over the right-hand sides of q: those before a are passed
+pub record StateLoop (ins outs starts bytes : List ℕ) (q : ℕ) (heads₀ sizes₀ other₀ heads sizes other : List ℕ) (any : Bool) (a : ℕ) : Type 0 where
+  pub inside : a ≤ length ins
+  pub table : Heads outs heads sizes
+  pub same-heads : length heads ≡ length heads₀
+  pub same-sizes : length sizes ≡ length sizes₀
+  pub same-other : length other ≡ length other₀
+  pub cuts : Cuts ins (machine ins outs starts bytes (length sizes₀)) (length sizes₀) (headOf outs heads₀ sizes₀) (headOf outs heads sizes) any
+  pub passed : any ≡ false → (b : ℕ) → b < a → lcp (headOf outs heads₀ sizes₀ q) (graft (headOf outs heads₀ sizes₀) (machine ins outs starts bytes (length sizes₀) .rhs q b)) ≡ headOf outs heads₀ sizes₀ q
+
+pub state-start : {ins outs starts bytes heads sizes other : List ℕ} (q : ℕ) → Heads outs heads sizes → StateLoop ins outs starts bytes q heads sizes other heads sizes other false 0
+state-start q T = record { inside = omega arith; table = T; same-heads = refl; same-sizes = refl; same-other = refl; cuts = no-cut _; passed = λ e b h. absurd (omega arith) }
+
+module _ {ins outs starts bytes heads₀ sizes₀ other₀ : List ℕ} (B : Bodies ins outs starts bytes heads₀ sizes₀ other₀) {q : ℕ} (state : q < length sizes₀)
+    {heads sizes other : List ℕ} {any : Bool} {a : ℕ} (L : StateLoop ins outs starts bytes q heads₀ sizes₀ other₀ heads sizes other any a) where
+  module _ (there : a < length ins) {from to : ℕ} (f : from ≡ getD starts (bodyNumber ins q a) 0) (t : to ≡ getD starts (bodyNumber ins q a + 1) 0) where
+    pub loop-cuttable : Cuttable outs heads sizes bytes from to q other
+    loop-cuttable = can-cut B q a state there (L .table) (L .same-sizes) f t (L .same-other)
+
+    module _ {heads′ sizes′ other′ : List ℕ} {b : Bool} (C : CutBy outs bytes from to q heads sizes heads′ sizes′ b) (sh : length heads′ ≡ length heads) (ss : length sizes′ ≡ length sizes) (so : length other′ ≡ length other) where
+      pub loop-cut : b ≡ true → {now : Bool} → now ≡ true → StateLoop ins outs starts bytes q heads₀ sizes₀ other₀ heads′ sizes′ other′ now (a + 1)
+      loop-cut e z = rw z (record {
+        inside = omega arith;
+        table = C .table;
+        same-heads = sh ∙ L .same-heads;
+        same-sizes = ss ∙ L .same-sizes;
+        same-other = so ∙ L .same-other;
+        cuts = then-cut (L .cuts) e (body-cut B q a state there (L .table) (L .same-sizes) f t C);
+        passed = λ z. conflict (cc);
+      })
+
+      pub loop-none : b ≡ false → {now : Bool} → now ≡ any → StateLoop ins outs starts bytes q heads₀ sizes₀ other₀ heads′ sizes′ other′ now (a + 1)
+      loop-none e y = rw y (record {
+        inside = omega arith;
+        table = C .table;
+        same-heads = sh ∙ L .same-heads;
+        same-sizes = ss ∙ L .same-sizes;
+        same-other = so ∙ L .same-other;
+        cuts = then-none (L .cuts) e (body-cut B q a state there (L .table) (L .same-sizes) f t C);
+        passed = λ z. below-more (λ b. lcp (headOf outs heads₀ sizes₀ q) (graft (headOf outs heads₀ sizes₀) (machine ins outs starts bytes (length sizes₀) .rhs q b)) ≡ headOf outs heads₀ sizes₀ q) a (L .passed z) (rw (← same-patterns (L .cuts) z) (body-fixed B q a state there (L .table) (L .same-sizes) f t C e));
+      })
+
+  pub state-end : length ins ≤ a → CutState ins outs starts bytes q heads₀ sizes₀ heads sizes any
+  state-end h = record { table = L .table; cuts = L .cuts; fixed = λ e b g. L .passed e b (omega arith) }
+
+-- the number of a body, and of the next, are in the table of starts
+pub number-fits : {ins outs starts bytes : List ℕ} {n : ℕ} → Layout ins outs starts bytes n → {q a : ℕ} → q < n → a < length ins → (bodyNumber ins q a < 2049) × (bodyNumber ins q a + 1 < length starts)
+number-fits {ins} {n = n} L {q} {a} h g =
+    let l = number-less ins q n a h g in
+    (omega (arith, mul-le-mul (L .few-states) (L .few-inputs)), omega (arith, L .laid .long))
+
+-- ---- the loop over the states: those before q are passed
+pub record SweepLoop (ins outs starts bytes heads₀ sizes₀ other₀ heads sizes other : List ℕ) (any : Bool) (q : ℕ) : Type 0 where
+  pub inside : q ≤ length sizes₀
+  pub table : Heads outs heads sizes
+  pub same-heads : length heads ≡ length heads₀
+  pub same-sizes : length sizes ≡ length sizes₀
+  pub same-other : length other ≡ length other₀
+  pub cuts : Cuts ins (machine ins outs starts bytes (length sizes₀)) (length sizes₀) (headOf outs heads₀ sizes₀) (headOf outs heads sizes) any
+  pub passed : any ≡ false → (p : ℕ) → p < q → FixedAt ins (machine ins outs starts bytes (length sizes₀)) (headOf outs heads₀ sizes₀) p
+
+pub sweep-start : {ins outs starts bytes heads sizes other : List ℕ} → Heads outs heads sizes → SweepLoop ins outs starts bytes heads sizes other heads sizes other false 0
+sweep-start T = record { inside = omega arith; table = T; same-heads = refl; same-sizes = refl; same-other = refl; cuts = no-cut _; passed = λ e p h. absurd (omega arith) }
+
+-- bodies, with another table of the same length
+pub other-table : {ins outs starts bytes heads₀ sizes₀ other₀ : List ℕ} → Bodies ins outs starts bytes heads₀ sizes₀ other₀ → {heads sizes other : List ℕ} → Heads outs heads sizes → length sizes ≡ length sizes₀ → length other ≡ length other₀ → Bodies ins outs starts bytes heads sizes other
+other-table B T e f = record { table = T; layout = rw e (B .layout); room = omega (arith, B .room) }
+
+module _ {ins outs starts bytes heads₀ sizes₀ other₀ : List ℕ} (B : Bodies ins outs starts bytes heads₀ sizes₀ other₀)
+    {heads sizes other : List ℕ} {any : Bool} {q : ℕ} (L : SweepLoop ins outs starts bytes heads₀ sizes₀ other₀ heads sizes other any q) where
+  pub sweep-bodies : Bodies ins outs starts bytes heads sizes other
+  sweep-bodies = other-table B (L .table) (L .same-sizes) (L .same-other)
+
+  module _ (there : q < length sizes) {heads′ sizes′ : List ℕ} {b : Bool} (C : CutState ins outs starts bytes q heads sizes heads′ sizes′ b) (sh : length heads′ ≡ length heads) (ss : length sizes′ ≡ length sizes) where
+    cuts-here : Cuts ins (machine ins outs starts bytes (length sizes₀)) (length sizes₀) (headOf outs heads sizes) (headOf outs heads′ sizes′) b
+    cuts-here = rw (← L .same-sizes) (C .cuts)
+
+    pub sweep-cut : {other′ : List ℕ} → length other′ ≡ length other → b ≡ true → {now : Bool} → now ≡ true → SweepLoop ins outs starts bytes heads₀ sizes₀ other₀ heads′ sizes′ other′ now (q + 1)
+    sweep-cut so e z = rw z (record {
+      inside = omega (arith, L .same-sizes);
+      table = C .table;
+      same-heads = sh ∙ L .same-heads;
+      same-sizes = ss ∙ L .same-sizes;
+      same-other = so ∙ L .same-other;
+      cuts = then-cut (L .cuts) e cuts-here;
+      passed = λ z. conflict (cc);
+    })
+
+    pub sweep-none : {other′ : List ℕ} → length other′ ≡ length other → b ≡ false → {now : Bool} → now ≡ any → SweepLoop ins outs starts bytes heads₀ sizes₀ other₀ heads′ sizes′ other′ now (q + 1)
+    sweep-none so e y = rw y (record {
+      inside = omega (arith, L .same-sizes);
+      table = C .table;
+      same-heads = sh ∙ L .same-heads;
+      same-sizes = ss ∙ L .same-sizes;
+      same-other = so ∙ L .same-other;
+      cuts = then-none (L .cuts) e cuts-here;
+      passed = λ z. below-more (λ p. FixedAt ins (machine ins outs starts bytes (length sizes₀)) (headOf outs heads₀ sizes₀) p) q (L .passed z) (rw (← same-patterns (L .cuts) z, ← L .same-sizes) (C .fixed e));
+    })
+
+  pub sweep-end : length sizes ≤ q → Swept ins outs starts bytes heads₀ sizes₀ heads sizes any
+  sweep-end h = record { table = L .table; cuts = L .cuts; fixed = λ e p g. L .passed e p (omega (arith, L .same-sizes)) }
+
+-- ---- the loop until nothing is cut
+pub record SettleLoop (ins outs starts bytes heads₀ sizes₀ other₀ heads sizes other : List ℕ) (again : Bool) : Type 0 where
+  pub table : Heads outs heads sizes
+  pub same-heads : length heads ≡ length heads₀
+  pub same-sizes : length sizes ≡ length sizes₀
+  pub same-other : length other ≡ length other₀
+  pub above : (l : Leaf ins) → AllAbove ins l (machine ins outs starts bytes (length sizes₀)) (length sizes₀) (headOf outs heads₀ sizes₀) → AllAbove ins l (machine ins outs starts bytes (length sizes₀)) (length sizes₀) (headOf outs heads sizes)
+  pub fixed : again ≡ false → (q : ℕ) → q < length sizes₀ → FixedAt ins (machine ins outs starts bytes (length sizes₀)) (headOf outs heads sizes) q
+
+-- what is left to cut, and one turn that finds nothing
+pub left : List ℕ → List ℕ → List ℕ → Bool → ℕ
+left outs heads sizes again = total (headOf outs heads sizes) (length sizes) + oneIf again
+
+pub settle-start : {ins outs starts bytes heads sizes other : List ℕ} → Heads outs heads sizes → SettleLoop ins outs starts bytes heads sizes other heads sizes other true
+settle-start T = record { table = T; same-heads = refl; same-sizes = refl; same-other = refl; above = λ l a. a; fixed = λ e. conflict (cc) }
+
+module _ {ins outs starts bytes heads₀ sizes₀ other₀ : List ℕ} (B : Bodies ins outs starts bytes heads₀ sizes₀ other₀)
+    {heads sizes other : List ℕ} {again : Bool} (L : SettleLoop ins outs starts bytes heads₀ sizes₀ other₀ heads sizes other again) where
+  pub settle-bodies : Bodies ins outs starts bytes heads sizes other
+  settle-bodies = other-table B (L .table) (L .same-sizes) (L .same-other)
+
+  module _ {heads′ sizes′ : List ℕ} {b : Bool} (C : Swept ins outs starts bytes heads sizes heads′ sizes′ b) (sh : length heads′ ≡ length heads) (ss : length sizes′ ≡ length sizes) where
+    swept-here : Cuts ins (machine ins outs starts bytes (length sizes₀)) (length sizes₀) (headOf outs heads sizes) (headOf outs heads′ sizes′) b
+    swept-here = rw (← L .same-sizes) (C .cuts)
+
+    pub settle-next : {other′ : List ℕ} → length other′ ≡ length other → SettleLoop ins outs starts bytes heads₀ sizes₀ other₀ heads′ sizes′ other′ b
+    settle-next so = record {
+      table = C .table;
+      same-heads = sh ∙ L .same-heads;
+      same-sizes = ss ∙ L .same-sizes;
+      same-other = so ∙ L .same-other;
+      above = λ l a. swept-here .above l (L .above l a);
+      fixed = λ e q h. rw (same-patterns swept-here e, ← L .same-sizes) (C .fixed e q (omega (arith, L .same-sizes)));
+    }
+
+    pub settle-less : again ≡ true → left outs heads′ sizes′ b < left outs heads sizes again
+    unfolding left
+    settle-less t = go b refl
+      where
+        go : (x : Bool) → b ≡ x → total (headOf outs heads′ sizes′) (length sizes′) + oneIf b < total (headOf outs heads sizes) (length sizes) + oneIf again
+        go true e = rw (ss, t, e) (omega (arith, C .cuts .less e))
+        go false e = rw (ss, t, e) (omega (arith, ap (λ k. total k (length sizes)) (same-patterns (C .cuts) e)))
+
+  pub settle-end : again ≡ false → Settled ins outs starts bytes heads₀ sizes₀ heads sizes
+  settle-end e = record { table = L .table; prefs = λ l a. all-fixed l (machine-wf l (B .layout .wholes)) (L .above l a) (L .fixed e) }

@@ -1,0 +1,180 @@
+-- The samples of document 01 that need the normal forms of one transducer, as rows of one table, and that each row is so.
+-- Assumes nothing.
+use Prim.Native.Nat.{ℕ, suc, _<_}
+use native.Mathlib.Omega.{arith}
+use mathlib.Core.List.{List, List·Memᴰ, List·Memᴰ·head, List·Memᴰ·tail, [], _∷_}
+use mathlib.Core.Option.{some}
+use mathlib.Core.Path.{_≡_, refl, sym, ap, subst}
+use lib.ListN.{getD}
+use Rattle.theory.specs.Earliest.{Splits}
+use Rattle.theory.specs.Grammar.{Grammar, Allowed, rule, AllAllowed, end, next}
+use Rattle.theory.specs.Pref.{IsPref}
+use Rattle.theory.specs.Prefix.{Prefix, any, keeps, no-more, also, Pattern, Patterns, Open}
+use Rattle.theory.specs.Term.{Term, var, node, Terms, none, more, Tree, bind, count, sub, subs, root, symbolAt}
+use Rattle.theory.specs.Transducer.{Transducer, output, closed, run, pick}
+use Rattle.theory.proofs.Terms.{conflict, subs-zero}
+use Rattle.formats.specs.Alphabets.{inputs, outputs, Leaf}
+use Rattle.formats.specs.Code.{Ranked, flat, Call}
+use Rattle.formats.specs.Sheet.{Sheet, countBytes, markBytes, bodyBytes, each, terms}
+use Rattle.transducer.proofs.Table.{below}
+use Rattle.prefixes.specs.Alphabet.{alphabet, childrenOf}
+
+-- ---- what a row says
+pub data Row : Type 0 where
+  -- pref(q) of this state of the transducer of the sheet is the pattern (01: its head)
+  prefix : (stock sheet : List ℕ) (state : ℕ) (pattern : Pattern) → Row
+
+-- what a row claims, by the definitions that the promises are made of
+abbrev pub Says : Row → Type 0
+Says (prefix stock sheet state pattern) = (n : ℕ) × ((M : Transducer ℕ) × (Sheet (inputs stock) (outputs stock) sheet n M × (state < n) × ((l : Leaf (inputs stock)) → IsPref (alphabet (inputs stock) l) M state pattern)))
+
+-- ---- the files and the rows
+-- two input symbols, a with two children and the leaf e; two output symbols, d with two children and the leaf e
+abbrev pub pairs : List ℕ
+pairs = 2 ∷ 2 ∷ 0 ∷ 2 ∷ 2 ∷ 0 ∷ []
+
+-- initial term q(x); q(a(x, y)) = d(q(x), d(q(x), e)), q(e) = d(d(e, e), d(e, e))
+abbrev pub M : List ℕ
+M = 1 ∷ 0 ∷ 1 ∷ 0 ∷ 5 ∷ 0 ∷ 7 ∷ 1 ∷ 0 ∷ 0 ∷ 0 ∷ 1 ∷ 0 ∷ 0 ∷ 0 ∷ 1 ∷ 0 ∷ 0 ∷ 1 ∷ 0 ∷ 0 ∷ 0 ∷ 0 ∷ 0 ∷ 1 ∷ 0 ∷ 1 ∷ 0 ∷ 0 ∷ 0 ∷ 1 ∷ 0 ∷ 1 ∷ []
+
+-- d(s, t) and e, as output terms
+abbrev pub d : {A : Type 0} → Term A → Term A → Term A
+d s t = node 0 (more s (more t none))
+
+abbrev pub e : {A : Type 0} → Term A
+e = node 1 none
+
+-- pref(q) is d(d(⊤, ⊤), d(⊤, e))
+abbrev pub M-pref : Pattern
+M-pref = d (d (var tt) (var tt)) (d (var tt) e)
+
+abbrev pub rows : List Row
+rows = prefix pairs M 0 M-pref ∷ []
+
+-- ---- P holds of each address where the pattern has ⊤: so of whatever address is open
+abbrev mutual
+  pub EachOpen : Pattern → (List ℕ → Type 0) → Type 0
+  EachOpen (var x) P = P []
+  EachOpen (node k hs) P = EachOpens hs (λ i v. P (suc i ∷ v))
+
+  pub EachOpens : Patterns → (ℕ → List ℕ → Type 0) → Type 0
+  EachOpens none P = Unit {0}
+  EachOpens (more h hs) P = EachOpen h (P 0) × EachOpens hs (λ i. P (suc i))
+
+mutual
+  unfolding sub
+
+  pub at-open : (h : Pattern) (P : List ℕ → Type 0) → EachOpen h P → (v : List ℕ) → Open h v → P v
+  at-open (var x) P w [] o = w
+  at-open (var x) P w (i ∷ v) o = conflict (cc)
+  at-open (node k hs) P w [] o = conflict (cc)
+  at-open (node k hs) P w (ℕ.zero ∷ v) o = conflict (cc (subs-zero hs v))
+  at-open (node k hs) P w (suc i ∷ v) o = at-opens hs (λ i v. P (suc i ∷ v)) w i v o
+
+  at-opens : (hs : Patterns) (P : ℕ → List ℕ → Type 0) → EachOpens hs P → (i : ℕ) (v : List ℕ) → subs hs (suc i) v ≡ some (var tt) → P i v
+  at-opens none P w i v o = conflict (cc)
+  at-opens (more h hs) P w ℕ.zero v o = at-open h (P 0) (w .0) v o
+  at-opens (more h hs) P w (suc i) v o = at-opens hs (λ i. P (suc i)) (w .1) i v o
+
+-- ---- the transducer
+-- the right-hand sides of its one state
+unfoldable pub line : ℕ → Term (ℕ × ℕ)
+line ℕ.zero = d (var (1, 0)) (d (var (1, 0)) e)
+line (suc a) = d (d e e) (d e e)
+
+unfoldable pub M-machine : Transducer ℕ
+M-machine = record { sort = λ q. 0; initial = var (1, 0); rhs = λ q a. line a }
+
+line-ranked : (a : ℕ) → a < 2 → Ranked (Call 1 (getD (inputs pairs) a 0)) (outputs pairs) (line a)
+unfolding line inputs outputs Ranked count
+line-ranked = below 2 _ (omega arith)
+
+-- M is its file
+pub M-sheet : Sheet (inputs pairs) (outputs pairs) M 1 M-machine
+unfolding M-machine line inputs outputs Ranked count flat countBytes markBytes bodyBytes each terms
+M-sheet = record {
+  counts = 0 ∷ 1 ∷ 0 ∷ 5 ∷ 0 ∷ 7 ∷ [];
+  bytes = 1 ∷ 0 ∷ 0 ∷ 0 ∷ 1 ∷ 0 ∷ 0 ∷ 0 ∷ 1 ∷ 0 ∷ 0 ∷ 1 ∷ 0 ∷ 0 ∷ 0 ∷ 0 ∷ 0 ∷ 1 ∷ 0 ∷ 1 ∷ 0 ∷ 0 ∷ 0 ∷ 1 ∷ 0 ∷ 1 ∷ [];
+  coded = refl;
+  encodes = record {
+    over = record { initial = omega arith; rhs = λ q a h. line-ranked a; sort = λ q h. refl };
+    contents = record { states = omega arith; bodies = refl; some = below 3 _ (omega arith); few = below 3 _ (omega arith); all = omega arith };
+    counts-coded = refl;
+    marks-coded = refl;
+  };
+}
+
+-- ---- its common prefix
+-- d(d(s, t), d(u, e)) begins with the pattern
+shaped : {s t u : Tree} → Prefix M-pref (d (d s t) (d u e))
+shaped = keeps (also (keeps (also any (also any no-more))) (also (keeps (also any (also (keeps no-more) no-more))) no-more))
+
+-- where t begins with it, so does d(t, d(t, e))
+again : {t : Tree} → Prefix M-pref t → Prefix M-pref (d t (d t e))
+again (keeps (also x (also y no-more))) = shaped
+
+-- the input trees e and a(e, e)
+leaf : Tree
+leaf = node 1 none
+
+pair : Tree
+pair = node 0 (more leaf (more leaf none))
+
+module _ (l : Leaf (inputs pairs)) where
+  abbrev pub G : Grammar
+  G = alphabet (inputs pairs) l
+
+  -- every output begins with the pattern
+  mutual
+    unfolding M-machine line alphabet childrenOf inputs bind output closed run pick
+
+    begins : {s : ℕ} {t : Tree} → Allowed G s t → Prefix M-pref (output M-machine t 0)
+    begins (rule {a = ℕ.zero} c As) = begins-a As c
+    begins (rule {a = suc a} c As) = shaped
+
+    begins-a : {sorts : List ℕ} {ts : Terms ⊥} → AllAllowed G sorts ts → childrenOf (inputs pairs) 0 ≡ some sorts → Prefix M-pref (output M-machine (node 0 ts) 0)
+    begins-a end c = conflict (cc)
+    begins-a (next A As) c = again (begins A)
+
+  leaf-allowed : Allowed G 0 leaf
+  unfolding leaf alphabet childrenOf inputs
+  leaf-allowed = rule refl end
+
+  pair-allowed : Allowed G 0 pair
+  unfolding pair alphabet childrenOf inputs
+  pair-allowed = rule refl (next leaf-allowed (next leaf-allowed end))
+
+  -- an address splits if e gives the symbol e there, and a(e, e) gives d
+  split : {v : List ℕ} → symbolAt (output M-machine leaf 0) v ≡ some (1, 0) → symbolAt (output M-machine pair 0) v ≡ some (0, 2) → Splits G M-machine 0 v
+  unfolding M-machine
+  split x y = record {
+    one = (1, 0);
+    two = (0, 2);
+    shows-one = record { tree = leaf; allowed = leaf-allowed; shown = x };
+    shows-two = record { tree = pair; allowed = pair-allowed; shown = y };
+    differ = λ s. omega (arith, ap (λ b. b .0) s);
+  }
+
+  -- so the three open addresses of the pattern split
+  opens-split : EachOpen M-pref (Splits G M-machine 0)
+  unfolding M-machine line leaf pair bind output closed run pick symbolAt root sub count
+  opens-split = ((split refl refl, (split refl refl, tt)), ((split refl refl, (tt, tt)), tt))
+
+  pub M-is-pref : IsPref G M-machine 0 M-pref
+  M-is-pref = record { common = λ t A. begins A; splits = at-open M-pref (Splits G M-machine 0) opens-split }
+
+-- ---- every row
+abbrev All : List Row → Type 0
+All [] = Unit {0}
+All (row ∷ rs) = Says row × All rs
+
+listed : {rs : List Row} {row : Row} → All rs → List·Memᴰ row rs → Says row
+listed w (List·Memᴰ·head x) = subst Says (sym x) (w .0)
+listed w (List·Memᴰ·tail m) = listed (w .1) m
+
+all-rows : All rows
+all-rows = ((1, (M-machine, (M-sheet, omega arith, M-is-pref))), tt)
+
+-- each row of the table is so
+pub table : (row : Row) → List·Memᴰ row rows → Says row
+table row m = listed all-rows m

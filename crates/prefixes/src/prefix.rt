@@ -1,0 +1,171 @@
+// The common prefixes of the states (01: heads): a table of patterns, cut until no right-hand side cuts any more.
+ghost use Prim.Native.Nat.{_<_};
+ghost use mathlib.Core.Path.{_≡_};
+ghost use lib.ListN.{length, getD};
+ghost use Rattle.formats.specs.Alphabets.{Leaf};
+ghost use Rattle.prefixes.specs.Inner.Heads.{Cuttable, CutBy, Bodies, CutState, Swept, Settled, Startable, Started, AllStartable, AllStarted, Prefixable, Prefixes};
+use crate::pattern::graft;
+use crate::pattern::meet;
+use formats::bytes::number;
+use formats::bytes::wide;
+
+// Cuts the pattern of state q by the right-hand side of the marks number `from` up to `to`, and says whether that took anything away.
+pub(crate) fn cut_by(
+    outs: &[u8],
+    heads: &mut [u8],
+    sizes: &mut [u8],
+    marks: &[u8],
+    from: usize,
+    to: usize,
+    q: usize,
+    other: &mut [u8],
+) -> bool
+    requires { ⌜ Cuttable (now outs) (now heads) (now sizes) (now marks) from to q (now other) ⌝ }
+    ensures { λ b. ⌜ CutBy (now (outs .entry)) (now (marks .entry)) from to q (now (heads .entry)) (now (sizes .entry)) (now (heads .exit)) (now (sizes .exit)) b ⌝ }
+{
+    let len = graft(heads, sizes, marks, from, to, other);
+    let start = 64 * q;
+    let end = start + wide(sizes[q]);
+    let shared = meet(outs, &mut heads[start..end], &other[0..len]);
+    let size = shared.size;
+    sizes[q] = size as u8;
+    shared.cut
+}
+
+// Cuts the pattern of state q by each of its right-hand sides, and says whether that took anything away.
+fn cut_state(
+    ins: &[u8],
+    outs: &[u8],
+    starts: &[u16],
+    marks: &[u8],
+    heads: &mut [u8],
+    sizes: &mut [u8],
+    q: usize,
+    other: &mut [u8],
+) -> bool
+    requires { ⌜ Bodies (now ins) (now outs) (now starts) (now marks) (now heads) (now sizes) (now other) × (q < length (now sizes)) ⌝ }
+    ensures { λ b. ⌜ CutState (now (ins .entry)) (now (outs .entry)) (now (starts .entry)) (now (marks .entry)) q (now (heads .entry)) (now (sizes .entry)) (now (heads .exit)) (now (sizes .exit)) b ⌝ }
+{
+    let mut any = false;
+    let mut a = 0;
+    while a < ins.len() {
+        let b = 1 + q * ins.len() + a;
+        let from = number(starts[b]);
+        let to = number(starts[b + 1]);
+        if cut_by(outs, heads, sizes, marks, from, to, q, other) {
+            any = true;
+        }
+        a += 1;
+    }
+    any
+}
+
+// Cuts the pattern of every state once.
+fn sweep(
+    ins: &[u8],
+    outs: &[u8],
+    starts: &[u16],
+    marks: &[u8],
+    heads: &mut [u8],
+    sizes: &mut [u8],
+    other: &mut [u8],
+) -> bool
+    requires { ⌜ Bodies (now ins) (now outs) (now starts) (now marks) (now heads) (now sizes) (now other) ⌝ }
+    ensures { λ b. ⌜ Swept (now (ins .entry)) (now (outs .entry)) (now (starts .entry)) (now (marks .entry)) (now (heads .entry)) (now (sizes .entry)) (now (heads .exit)) (now (sizes .exit)) b ⌝ }
+{
+    let mut any = false;
+    let mut q = 0;
+    while q < sizes.len() {
+        if cut_state(ins, outs, starts, marks, heads, sizes, q, other) {
+            any = true;
+        }
+        q += 1;
+    }
+    any
+}
+
+// Cuts until no right-hand side cuts any more.
+pub(crate) fn settle(
+    ins: &[u8],
+    outs: &[u8],
+    starts: &[u16],
+    marks: &[u8],
+    heads: &mut [u8],
+    sizes: &mut [u8],
+    other: &mut [u8],
+)
+    requires { ⌜ Bodies (now ins) (now outs) (now starts) (now marks) (now heads) (now sizes) (now other) ⌝ }
+    ensures { λ _. ⌜ Settled (now (ins .entry)) (now (outs .entry)) (now (starts .entry)) (now (marks .entry)) (now (heads .entry)) (now (sizes .entry)) (now (heads .exit)) (now (sizes .exit)) ⌝ }
+{
+    let mut more = true;
+    while more {
+        more = sweep(ins, outs, starts, marks, heads, sizes, other);
+    }
+}
+
+// The first input symbol of rank 0.
+fn leaf_symbol(ins: &[u8]) -> usize
+    requires { ⌜ Leaf (now ins) ⌝ }
+    ensures { λ r. ⌜ (r < length (now (ins .entry))) × (getD (now (ins .entry)) r 0 ≡ 0) ⌝ }
+{
+    let mut a = 0;
+    while ins[a] != 0 {
+        a += 1;
+    }
+    a
+}
+
+// Makes the marks number `from` up to `to`, which are symbols, the pattern of state q.
+fn start_state(marks: &[u8], from: usize, to: usize, heads: &mut [u8], sizes: &mut [u8], q: usize)
+    requires { ⌜ Startable (now marks) from to (now heads) (now sizes) q ⌝ }
+    ensures { λ _. ⌜ Started (now (marks .entry)) from to (now (heads .entry)) (now (sizes .entry)) q (now (heads .exit)) (now (sizes .exit)) ⌝ }
+{
+    let mut w = 64 * q;
+    let mut j = from;
+    while j < to {
+        heads[w] = marks[2 * j + 1];
+        w += 1;
+        j += 1;
+    }
+    sizes[q] = (to - from) as u8;
+}
+
+// Makes the right-hand side of each state for the leaf its pattern: a leaf has no children to call a state on.
+fn start_heads(
+    ins: &[u8],
+    starts: &[u16],
+    marks: &[u8],
+    leaf: usize,
+    heads: &mut [u8],
+    sizes: &mut [u8],
+)
+    requires { ⌜ AllStartable (now ins) (now starts) (now marks) leaf (now heads) (now sizes) ⌝ }
+    ensures { λ _. ⌜ AllStarted (now (ins .entry)) (now (starts .entry)) (now (marks .entry)) leaf (now (sizes .entry)) (now (heads .exit)) (now (sizes .exit)) ⌝ }
+{
+    let mut q = 0;
+    while q < sizes.len() {
+        let b = 1 + q * ins.len() + leaf;
+        let from = number(starts[b]);
+        let to = number(starts[b + 1]);
+        start_state(marks, from, to, heads, sizes, q);
+        q += 1;
+    }
+}
+
+// The common prefixes of all states.
+pub fn prefixes(
+    ins: &[u8],
+    outs: &[u8],
+    starts: &[u16],
+    marks: &[u8],
+    heads: &mut [u8],
+    sizes: &mut [u8],
+    other: &mut [u8],
+)
+    requires { ⌜ Prefixable (now ins) (now outs) (now starts) (now marks) (now heads) (now sizes) (now other) ⌝ }
+    ensures { λ _. ⌜ Prefixes (now (ins .entry)) (now (outs .entry)) (now (starts .entry)) (now (marks .entry)) (now (sizes .entry)) (now (heads .exit)) (now (sizes .exit)) ⌝ }
+{
+    let leaf = leaf_symbol(ins);
+    start_heads(ins, starts, marks, leaf, heads, sizes);
+    settle(ins, outs, starts, marks, heads, sizes, other);
+}
