@@ -55,28 +55,34 @@ unfoldable pub joined : {A : Type 0} → Terms A → Terms A → Terms A
 joined none us = us
 joined (more t ts) us = more t (joined ts us)
 
+-- the first of the trees ts, if there is one for the first of the patterns hs
+unfoldable pub firstUnder : {A B : Type 0} → Terms A → Terms B → Term B
+firstUnder none ts = node 0 none
+firstUnder (more h hs) none = node 0 none
+firstUnder (more h hs) (more t ts) = t
+
 -- of the trees ts, the subtree that stands where letter m of the patterns hs does, counted in preorder from 0
-unfoldable pub under : {A B : Type 0} → Terms A → Terms B → ℕ → Term B
-under none ts m = node 0 none
-under (more h hs) none m = node 0 none
-under (more h hs) (more t ts) ℕ.zero = t
-under (more (var a) hs) (more t ts) (suc m) = under hs ts m
-under (more (node k cs) hs) (more (var b) ts) (suc m) = node 0 none
-under (more (node k cs) hs) (more (node j ds) ts) (suc m) = under (joined cs hs) (joined ds ts) m
+unfoldable pub under : {A B : Type 0} → ℕ → Terms A → Terms B → Term B
+under ℕ.zero hs ts = firstUnder hs ts
+under (suc m) none ts = node 0 none
+under (suc m) (more h hs) none = node 0 none
+under (suc m) (more (var a) hs) (more t ts) = under m hs ts
+under (suc m) (more (node k cs) hs) (more (var b) ts) = node 0 none
+under (suc m) (more (node k cs) hs) (more (node j ds) ts) = under m (joined cs hs) (joined ds ts)
 
 -- the earliest form, its states as numbers
 unfoldable pub early : List ℕ → List ℕ → List ℕ → List ℕ → List ℕ → List ℕ → Transducer ℕ
 early ins outs starts bytes heads sizes = record {
   sort = λ c. 0;
   initial = first (forest (letterOf outs) (expandedBody starts bytes heads sizes 0));
-  rhs = λ c a. under (forest (topOf outs) (headAt heads sizes (c / 64))) (forest (letterOf outs) (expandedBody starts bytes heads sizes (bodyNumber ins (c / 64) a))) (c % 64);
+  rhs = λ c a. under (c % 64) (forest (topOf outs) (headAt heads sizes (c / 64))) (forest (letterOf outs) (expandedBody starts bytes heads sizes (bodyNumber ins (c / 64) a)));
 }
 
 -- c is one of its states: a ⊤ stands at byte c
 pub record State (heads sizes : List ℕ) (c : ℕ) : Type 0 where
   pub state : c / 64 < length sizes
   pub inside : c % 64 < getD sizes (c / 64) 0
-  pub open : getD heads c 0 ≡ top
+  pub is-top : getD heads c 0 ≡ top
 
 -- the right-hand sides of a transducer and a pattern for each of its states, which is a prefix of each of its expanded right-hand sides
 pub record Expanding (ins outs starts bytes heads sizes : List ℕ) : Type 0 where
@@ -109,4 +115,4 @@ pub record Locatable (outs head s : List ℕ) (m : ℕ) : Type 0 where
 -- the tree under it stands at position p
 pub record LocatedAt (outs head s : List ℕ) (m p : ℕ) : Type 0 where
   pub some : 0 < count (forest (letterOf outs) (drop p s))
-  pub tree : first (forest (letterOf outs) (drop p s)) ≡ under (forest (topOf outs) head) (forest (letterOf outs) s) m
+  pub tree : first (forest (letterOf outs) (drop p s)) ≡ under m (forest (topOf outs) head) (forest (letterOf outs) s)
