@@ -58,7 +58,14 @@ fn same_states(ins: &[u8], starts: &[u16], marks: &[u8], classes: &[u8], p: usiz
 {
     let mut a = 0;
     while a < ins.len() {
-        if !same_bodies(ins, starts, marks, classes, 1 + p * ins.len() + a, 1 + q * ins.len() + a) {
+        if !same_bodies(
+            ins,
+            starts,
+            marks,
+            classes,
+            1 + p * ins.len() + a,
+            1 + q * ins.len() + a,
+        ) {
             return false;
         }
         a += 1;
@@ -125,7 +132,10 @@ fn refine(
         }
         p += 1;
     }
-    Step { count: count, changed: changed }
+    Step {
+        count: count,
+        changed: changed,
+    }
 }
 
 // The classes of equivalent states, and the least member of each; says how many classes there are. `old` holds zeros.

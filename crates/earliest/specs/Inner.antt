@@ -1,4 +1,7 @@
 -- What only inner functions and their proofs speak of.
 pub mod Letters
 pub mod Queue
+pub mod Packed
 pub mod Grown
+pub mod Growing
+pub mod Forms

@@ -73,7 +73,7 @@ fn copy_marks(
 }
 
 // Adds the letters as body b, unless that is over the limits.
-fn add_body(
+pub(crate) fn add_body(
     s: &[u16],
     b: usize,
     starts: &mut [u16],

@@ -1,0 +1,36 @@
+-- A form in a table of starts and marks, and the file of it.
+use Prim.Native.Nat.{ℕ, _+_, _-_, _*_, _≤_, _<_}
+use mathlib.Core.List.{List}
+use mathlib.Core.Path.{_≡_}
+use lib.ListN.{length, getD}
+use lib.Seq.{sets}
+use Rattle.theory.specs.NormalForm.{Identical}
+use Rattle.theory.specs.Transducer.{Transducer}
+use Rattle.formats.specs.Alphabets.{Leaf, Alphabets, inputs, outputs}
+use Rattle.formats.specs.Inner.Layout.{bodyCount, countAt}
+use Rattle.formats.specs.Sheet.{longest, file, Encodes}
+use Rattle.prefixes.specs.Alphabet.{alphabet}
+use Rattle.prefixes.specs.Inner.Heads.{machine, Layout}
+use Rattle.earliest.specs.Inner.Packed.{Packed}
+
+-- the counts of m bodies by the table of their starts
+pub record FillsCounts (starts : List ℕ) (m : ℕ) (counts : List ℕ) : Type 0 where
+  pub each : (j : ℕ) → j < m → countAt counts j ≡ getD starts (j + 1) 0 - getD starts j 0
+
+-- what writing the form with k states asks
+pub record Writable (stock starts bytes : List ℕ) (k : ℕ) (area : List ℕ) : Type 0 where
+  pub alphabets : Alphabets stock
+  pub layout : Layout (inputs stock) (outputs stock) starts bytes k
+  pub packed : Packed (inputs stock) starts k
+  pub room : longest ≤ length area
+
+-- the area begins with the file of the form, whose length is r
+pub record WritesForm (stock starts bytes : List ℕ) (k : ℕ) (before after : List ℕ) (r : ℕ) : Type 0 where
+  pub counts : List ℕ
+  pub marks : List ℕ
+  pub form : Transducer ℕ
+  pub encodes : Encodes (inputs stock) (outputs stock) k counts marks form
+  pub same : (l : Leaf (inputs stock)) → Identical (alphabet (inputs stock) l) form (machine (inputs stock) (outputs stock) starts bytes k) k k
+  pub long : length marks ≡ 2 * getD starts (bodyCount (inputs stock) k) 0
+  pub size : r ≡ length (file k counts marks)
+  pub wrote : after ≡ sets before 0 (file k counts marks)
