@@ -1,5 +1,6 @@
 -- Laws of the earliest form. Ranks: ranked terms. Places: the letters of a term by number and by address. Expanding: expanded right-hand sides as letters and as terms.
 -- Numbers: the earliest form with numbers for its states is the earliest form of the theory.
+pub mod Queues
 pub mod Ranks
 pub mod Places
 pub mod Expanding

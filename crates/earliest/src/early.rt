@@ -6,7 +6,6 @@ ghost use lib.ListN.{length, getD};
 ghost use Rattle.earliest.specs.Inner.Queue.{Queue, Entered, Sayable, Copied};
 ghost use Rattle.earliest.specs.Inner.Grown.{AddsBody};
 use formats::bytes::number;
-use formats::bytes::wide;
 
 // How many states have been met, or that the form is over the limits of a file.
 pub enum Grown {
