@@ -5,3 +5,4 @@ pub mod Packed
 pub mod Grown
 pub mod Growing
 pub mod Forms
+pub mod Loaded

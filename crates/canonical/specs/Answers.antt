@@ -1,0 +1,36 @@
+-- What cleaning answers, and when two transducers are alike.
+use Prim.Native.Nat.{ℕ, _≤_, _<_}
+use mathlib.Core.List.{List}
+use mathlib.Core.Path.{_≡_}
+use lib.ListN.{length}
+use Rattle.theory.specs.NormalForm.{NormalForm}
+use Rattle.theory.specs.Term.{Tree}
+use Rattle.theory.specs.Transducer.{Transducer, translate}
+use Rattle.formats.specs.Alphabets.{Alphabets, inputs, outputs, alphabetCheck}
+use Rattle.formats.specs.Code.{Ranked}
+use Rattle.formats.specs.Refusal.{done, check, Judged}
+use Rattle.formats.specs.Sheet.{longest, Encodes, Sheet, sheetCheck}
+use Rattle.prefixes.specs.Alphabet.{alphabet}
+use Rattle.earliest.specs.Answers.{formCheck, formOf, FileOf}
+use Rattle.earliest.specs.declared.earliest.Formed.{Formed}
+
+-- two transducers over one input alphabet are equivalent (01: sew alike): they give equal output trees on every input tree, of any size
+pub record Alike (ins : List ℕ) (M M′ : Transducer ℕ) : Type 0 where
+  pub plans : (d : Tree) → Ranked (λ x. ⊥) ins d → translate M d ≡ translate M′ d
+
+-- k, the counts and the marks are those of the normal form (01: clean sheet) of the transducer of the file s
+pub record NormalFile (stock s : List ℕ) (k : ℕ) (counts bytes : List ℕ) : Type 0 where
+  pub alphabets : Alphabets stock
+  pub states : ℕ
+  pub machine : Transducer ℕ
+  pub sheet : Sheet (inputs stock) (outputs stock) s states machine
+  pub form : Transducer ℕ
+  pub normal : NormalForm (alphabet (inputs stock) (alphabets .leaf)) machine form k
+  pub encodes : Encodes (inputs stock) (outputs stock) k counts bytes form
+
+-- ---- cleaning: the file of the normal form
+abbrev pub Cleans : List ℕ → List ℕ → List ℕ → List ℕ → Formed → Type 0
+Cleans stock s before after r =
+    Judged (after ≡ before) (λ v. (counts : List ℕ) × ((bytes : List ℕ) × (NormalFile stock s (v .0) counts bytes × FileOf v counts bytes before after)))
+    (check 1 (longest ≤ length before) (alphabetCheck stock (sheetCheck stock s (formCheck stock s done))))
+    (formOf r)

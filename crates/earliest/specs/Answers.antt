@@ -1,0 +1,46 @@
+-- What making the earliest form answers.
+use Prim.Native.Nat.{ℕ, _*_, _≤_, _<_}
+use mathlib.Core.List.{List}
+use mathlib.Core.Path.{_≡_}
+use lib.ListN.{length}
+use lib.Seq.{sets}
+use Rattle.theory.specs.Transducer.{Transducer}
+use Rattle.theory.specs.Trimmed.{Trimmed}
+use Rattle.formats.specs.Alphabets.{Alphabets, inputs, outputs, alphabetCheck}
+use Rattle.formats.specs.Refusal.{number, Outcome, accepted, refused, Checks, done, check, Judged}
+use Rattle.formats.specs.Sheet.{longest, file, Encodes, Sheet, sheetCheck}
+use Rattle.prefixes.specs.Alphabet.{alphabet}
+use Rattle.earliest.specs.declared.earliest.Formed.{Formed}
+use Rattle.earliest.specs.declared.earliest.Formed.the-variants as formed
+
+-- k, the counts and the marks are those of the earliest form (01: trimmed sheet) of the transducer of the file s; so it is within the limits of a file
+pub record EarliestFile (stock s : List ℕ) (k : ℕ) (counts bytes : List ℕ) : Type 0 where
+  pub alphabets : Alphabets stock
+  pub states : ℕ
+  pub machine : Transducer ℕ
+  pub sheet : Sheet (inputs stock) (outputs stock) s states machine
+  pub form : Transducer ℕ
+  pub trimmed : Trimmed (alphabet (inputs stock) (alphabets .leaf)) machine (λ q. q < states) form k
+  pub encodes : Encodes (inputs stock) (outputs stock) k counts bytes form
+
+-- refusal 7
+abbrev pub formCheck : List ℕ → List ℕ → Checks → Checks
+formCheck stock s rest = check 7 ((k : ℕ) × ((counts : List ℕ) × ((bytes : List ℕ) × EarliestFile stock s k counts bytes))) rest
+
+-- a form: how many states and marks it has, and how long its file is
+abbrev pub formOf : Formed → Outcome (ℕ × ℕ × ℕ)
+formOf (formed.Form k m n) = accepted (k, m, n)
+formOf (formed.Refused r) = refused (number r)
+
+-- v says how many states and marks a form has and how long its file is, and the area begins with the file; the rest of the area stays
+pub record FileOf (v : ℕ × ℕ × ℕ) (counts bytes before after : List ℕ) : Type 0 where
+  pub marks : 2 * v .1 ≡ length bytes
+  pub size : v .2 ≡ length (file (v .0) counts bytes)
+  pub wrote : after ≡ sets before 0 (file (v .0) counts bytes)
+
+-- ---- the earliest form, as a file
+abbrev pub MakesEarliest : List ℕ → List ℕ → List ℕ → List ℕ → Formed → Type 0
+MakesEarliest stock s before after r =
+    Judged (after ≡ before) (λ v. (counts : List ℕ) × ((bytes : List ℕ) × (EarliestFile stock s (v .0) counts bytes × FileOf v counts bytes before after)))
+    (check 1 (longest ≤ length before) (alphabetCheck stock (sheetCheck stock s (formCheck stock s done))))
+    (formOf r)

@@ -1,0 +1,76 @@
+// The earliest form of the transducer of a file, as a file.
+ghost use Prim.Native.Nat.{_≤_};
+ghost use mathlib.Core.Path.{_≡_};
+ghost use lib.ListN.{length};
+ghost use Rattle.formats.specs.Sheet.{longest};
+ghost use Rattle.transducer.specs.Inner.Machine.{Machine};
+ghost use Rattle.earliest.specs.Answers.{MakesEarliest};
+ghost use Rattle.earliest.specs.Inner.Loaded.{EarliestBy, FormsFile};
+use crate::early::Grown;
+use crate::form::write_form;
+use crate::grow::early_form;
+use formats::alphabet::input_ranks;
+use formats::alphabet::output_ranks;
+use formats::bodies::fill_starts;
+use formats::bytes::number;
+use formats::file::FileRead;
+use formats::file::counts_end;
+use formats::file::read_transducer;
+use formats::refusal::Refusal;
+
+// How many states and marks a form has, and how long its file is; or the refusal.
+pub enum Formed {
+    Form(usize, usize, usize),
+    Refused(Refusal),
+}
+
+// The earliest form of the transducer whose n, counts and marks these are: `starts` says where its bodies start in `out`.
+pub fn earliest_by(
+    stock: &[u8],
+    n: usize,
+    counts: &[u8],
+    marks: &[u8],
+    starts: &mut [u16],
+    out: &mut [u8],
+) -> Grown
+    requires { ⌜ Machine (now stock) n (now counts) (now marks) × (2050 ≤ length (now starts)) × (length (now out) ≡ 16384) ⌝ }
+    ensures { λ r. ⌜ EarliestBy (now (stock .entry)) n (now (counts .entry)) (now (marks .entry)) (now (starts .exit)) (now (out .exit)) r ⌝ }
+{
+    let ins = input_ranks(stock);
+    let mut from = [0u16; 2050];
+    fill_starts(counts, 1 + n * ins.len(), &mut from);
+    early_form(ins, output_ranks(stock), &from, marks, n, starts, out)
+}
+
+// The file of the earliest form of the transducer whose n, counts and marks these are.
+fn form_file(stock: &[u8], n: usize, counts: &[u8], marks: &[u8], area: &mut [u8]) -> Formed
+    requires { ⌜ Machine (now stock) n (now counts) (now marks) × (longest ≤ length (now area)) ⌝ }
+    ensures { λ r. ⌜ FormsFile (now (stock .entry)) n (now (counts .entry)) (now (marks .entry)) (now (area .entry)) (now (area .exit)) r ⌝ }
+{
+    let mut starts = [0u16; 2050];
+    let mut out = [0u8; 16384];
+    match earliest_by(stock, n, counts, marks, &mut starts, &mut out) {
+        Grown::States(k) => {
+            let bytes = write_form(stock, &starts, &out, k, area);
+            let bodies = 1 + k * input_ranks(stock).len();
+            Formed::Form(k, number(starts[bodies]), bytes)
+        }
+        Grown::Over => Formed::Refused(Refusal::OverLimits),
+    }
+}
+
+// Writes the file of the earliest form of the transducer of the file `sheet` (01: the trimmed sheet).
+pub fn earliest_form(stock: &[u8], sheet: &[u8], area: &mut [u8]) -> Formed
+    ensures { λ r. ⌜ MakesEarliest (now (stock .entry)) (now (sheet .entry)) (now (area .entry)) (now (area .exit)) r ⌝ }
+{
+    if area.len() < 20483 {
+        return Formed::Refused(Refusal::ShortArea);
+    }
+    match read_transducer(stock, sheet) {
+        FileRead::States(n) => {
+            let from = counts_end(stock, n);
+            form_file(stock, n, &sheet[1..from], &sheet[from..], area)
+        }
+        FileRead::Refused(r) => Formed::Refused(r),
+    }
+}
