@@ -1,3 +1,4 @@
 -- What only inner functions and their proofs speak of.
 pub mod Classes
 pub mod Quotients
+pub mod Normal

@@ -1,2 +1,3 @@
--- The normal form of a transducer. Inner holds what only inner functions and their proofs speak of.
+-- The normal form of a transducer: Answers is what its entry point promises. Inner holds what only inner functions and their proofs speak of.
+pub mod Answers
 pub mod Inner

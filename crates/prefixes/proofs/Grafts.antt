@@ -173,26 +173,26 @@ pub head-length : (heads sizes : List ℕ) (q : ℕ) → 64 * q + getD sizes q 0
 head-length heads sizes q h = length-slice (64 * q) (64 * q + getD sizes q 0) heads h ∙ omega arith
 
 -- ---- mark by mark
--- the first mark
-module _ (heads sizes bytes : List ℕ) (j to : ℕ) (less : j < to) (inside : 2 * to ≤ length bytes) where
+-- the first mark, where the call (i, q) gives g i q
+module _ (g : ℕ → ℕ → List ℕ) (bytes : List ℕ) (j to : ℕ) (less : j < to) (inside : 2 * to ≤ length bytes) where
   -- a symbol writes itself
-  pub graft-symbol : getD bytes (2 * j) 0 ≡ 0 → grafted heads sizes bytes j to ≡ getD bytes (2 * j + 1) 0 ∷ grafted heads sizes bytes (j + 1) to
+  pub spell-symbol : getD bytes (2 * j) 0 ≡ 0 → spell g (part bytes j to) ≡ getD bytes (2 * j + 1) 0 ∷ spell g (part bytes (j + 1) to)
   unfolding spell
-  graft-symbol e = rw (part-cons bytes j to less inside, e)
+  spell-symbol e = rw (part-cons bytes j to less inside, e)
 
-  -- a call writes the pattern of its state
-  pub graft-call : (getD bytes (2 * j) 0 ≡ 0 → ⊥) → grafted heads sizes bytes j to ≡ headAt heads sizes (getD bytes (2 * j + 1) 0) ++ grafted heads sizes bytes (j + 1) to
+  -- a call writes what it gives
+  pub spell-call : (getD bytes (2 * j) 0 ≡ 0 → ⊥) → spell g (part bytes j to) ≡ g (getD bytes (2 * j) 0) (getD bytes (2 * j + 1) 0) ++ spell g (part bytes (j + 1) to)
   unfolding spell
-  graft-call some = go (getD bytes (2 * j) 0) refl
+  spell-call some = go (getD bytes (2 * j) 0) refl
     where
-      go : (i : ℕ) → getD bytes (2 * j) 0 ≡ i → grafted heads sizes bytes j to ≡ headAt heads sizes (getD bytes (2 * j + 1) 0) ++ grafted heads sizes bytes (j + 1) to
+      go : (i : ℕ) → getD bytes (2 * j) 0 ≡ i → spell g (part bytes j to) ≡ g i (getD bytes (2 * j + 1) 0) ++ spell g (part bytes (j + 1) to)
       go ℕ.zero e = absurd (some e)
       go (suc i) e = rw (part-cons bytes j to less inside, e)
 
 -- no mark is left
-pub graft-end : (heads sizes bytes : List ℕ) (j to : ℕ) → j ≤ to → to ≤ j → grafted heads sizes bytes j to ≡ []
+pub spell-end : (g : ℕ → ℕ → List ℕ) (bytes : List ℕ) (j to : ℕ) → j ≤ to → to ≤ j → spell g (part bytes j to) ≡ []
 unfolding spell
-graft-end heads sizes bytes j to h g = let e : j ≡ to = omega arith in rw (e, slice-empty to (pairs bytes))
+spell-end g bytes j to h l = let e : j ≡ to = omega arith in rw (e, slice-empty to (pairs bytes))
 
 -- the pattern of the state q, which mark j calls
 pub record Called (heads sizes bytes : List ℕ) (j to q : ℕ) : Type 0 where
@@ -215,7 +215,7 @@ module _ {heads sizes bytes out : List ℕ} {from to : ℕ} (G : Graftable heads
         small = s;
         inside = i;
         long = head-length heads sizes q (omega arith);
-        next = rw e (graft-call heads sizes bytes j to g (G .inside) some);
+        next = rw e (spell-call (λ i q. headAt heads sizes q) bytes j to g (G .inside) some);
       }
 
 -- a word is at most 64 times as long as the marks that spell it, if each call gives at most 64 bytes
@@ -225,15 +225,22 @@ spell-short g [] k = omega arith
 spell-short g ((ℕ.zero, b) ∷ ms) k = omega (arith, spell-short g ms (λ j h. k (suc j) (omega arith)))
 spell-short g ((suc i, q) ∷ ms) k = omega (arith, length-append (g (suc i) q) (spell g ms), k 0 (omega arith) (omega arith), spell-short g ms (λ j h. k (suc j) (omega arith)))
 
+-- so the marks number `from` up to `to` spell at most 64 bytes each
+pub spell-fits : (g : ℕ → ℕ → List ℕ) (bytes : List ℕ) (from to : ℕ) → 2 * to ≤ length bytes → ((j : ℕ) → from ≤ j → j < to → 0 < markAt bytes j .0 → length (g (markAt bytes j .0) (markAt bytes j .1)) ≤ 64) → length (spell g (part bytes from to)) ≤ 64 * (to - from)
+spell-fits g bytes from to inside k =
+    let p = pairs-length bytes to inside in
+    let s = spell-short g (part bytes from to) (λ j h.
+    let d = getD-slice from to j (pairs bytes) p h in
+    rw (d .1) (k (from + j) (omega arith) (d .0))) in
+    omega (arith, length-slice from to (pairs bytes) p)
+
 -- what is grafted has room in the area
 pub grafted-short : {heads sizes bytes out : List ℕ} {from to : ℕ} → Graftable heads sizes bytes from to out → length (grafted heads sizes bytes from to) ≤ length out
 grafted-short {heads} {sizes} {bytes} {out} {from} {to} G =
-    let p = pairs-length bytes to (G .inside) in
-    let s = spell-short (λ i q. headAt heads sizes q) (part bytes from to) (λ j h.
-    let d = getD-slice from to j (pairs bytes) p h in
-    rw (d .1) (λ some. let t = G .there (from + j) (omega arith) (d .0) some in
-    omega (arith, t .1, t .2, head-length heads sizes (markAt bytes (from + j) .1) (omega (arith, t .1, t .2))))) in
-    omega (arith, length-slice from to (pairs bytes) p, G .few, G .room)
+    let s = spell-fits (λ i q. headAt heads sizes q) bytes from to (G .inside) (λ j h g some.
+    let t = G .there j h g some in
+    omega (arith, t .1, t .2, head-length heads sizes (markAt bytes j .1) (omega (arith, t .1, t .2)))) in
+    omega (arith, G .few, G .room)
 
 -- a state that is not there has no bytes
 head-none : (heads sizes : List ℕ) (p : ℕ) → length sizes ≤ p → headAt heads sizes p ≡ []

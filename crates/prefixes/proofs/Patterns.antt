@@ -1,7 +1,6 @@
 -- Laws of patterns as bytes: what a byte says where a pattern begins, where the pattern ends, and what two patterns share.
 -- Assumes nothing.
 use Prim.Native.Nat.{ℕ, suc, _+_, _-_, _≤_, _<_}
-use native.Mathlib.Decide.{decLt}
 use native.Mathlib.Numerals.{add-one}
 use native.Mathlib.Omega.{arith}
 use mathlib.Core.Bool.{Bool, true, false}
@@ -10,19 +9,20 @@ use mathlib.Core.Path.{_≡_, refl, sym, ap, ap₂, _∙_}
 use mathlib.Core.List.{List, [], _∷_, _++_, append-assoc, append-nil}
 use lib.Dec.{leb, ltb, eqb}
 use lib.ListN.{length, getD, drop, take, set, length-drop, length-set, drop-of-length-le}
-use lib.Seq.{drop-cons, drop-drop, drop-set-lt, take-suc-set}
-use borrow.Author.Tests.{ltb-true, ltb-false, leb-true, eqb-true}
+use lib.Seq.{drop-drop, drop-set-lt, take-suc-set}
+use borrow.Author.Tests.{ltb-true, ltb-false, lt-ltb, le-ltb, leb-true, eqb-true}
 use Rattle.theory.specs.Term.{var, node, Terms, none, more, count}
 use Rattle.theory.specs.Prefix.{Patterns}
 use Rattle.theory.specs.Lcp.{lcp, lcps}
 use Rattle.theory.proofs.Lcps.{lcp-keeps, lcp-cuts}
 use Rattle.theory.proofs.Terms.{conflict}
 use Rattle.formats.specs.Code.{flat, flats}
-use Rattle.formats.specs.Inner.Decode.{lettersAll, Letter, call, symbol, unknown, firsts, rests, grown, put, forest}
+use Rattle.formats.specs.Inner.Decode.{lettersAll, firsts, rests, grown, put, forest}
 use Rattle.formats.specs.Refusal.{Decides}
 use Rattle.formats.proofs.Codes.{single}
-use Rattle.formats.proofs.Forest.{count-firsts, count-rests, rests-rests, all-drop}
+use Rattle.formats.proofs.Forest.{count-firsts, count-rests, all-drop}
 use Rattle.prefixes.specs.Inner.Patterns.{top, topIf, topOf, patternCode, IsPattern, readPattern, Ended, Met}
+use Rattle.prefixes.proofs.Ends.{taken, letter-put, Owing, owing-done, Ranks}
 
 -- the patterns that stand from position p on
 abbrev pub patternsAt : List ℕ → List ℕ → ℕ → Patterns
@@ -48,104 +48,25 @@ byte outs x G h = by-tests (ltb x (length outs)) (eqb x top) refl refl h
     by-tests false true e f h = free (ltb-false _ _ e) (eqb-true _ _ f)
     by-tests false false e f h = absurd (omega arith)
 
-module _ (outs s : List ℕ) (p : ℕ) (there : 0 < count (patternsAt outs s p)) where
-  -- where a pattern begins, the bytes have not ended
-  pub byte-inside : p < length s
-  unfolding forest count
-  byte-inside = by-case (decLt p (length s))
-    where
-      by-case : Dec (p < length s) → p < length s
-      by-case (yes h) = h
-      by-case (no n) = let e : drop p s ≡ [] = drop-of-length-le s {i = p} (omega arith) in absurd (omega (arith, ap (λ l. count (forest (topOf outs) l)) e))
-
-  -- and the byte says what begins
-  pub byte-at : Byte outs (getD s p 0) (patternsAt outs s (p + 1)) (patternsAt outs s p)
-  unfolding forest
-  byte-at =
-      let e : drop p s ≡ getD s p 0 ∷ drop (p + 1) s = rw add-one (drop-cons s p 0 byte-inside) in
-      rw e (byte outs (getD s p 0) (patternsAt outs s (p + 1)) (rw e at there))
+-- where a pattern begins, the byte says what begins
+pub byte-at : (outs s : List ℕ) (p : ℕ) → 0 < count (patternsAt outs s p) → Byte outs (getD s p 0) (patternsAt outs s (p + 1)) (patternsAt outs s p)
+byte-at outs s p there =
+    let e = letter-put (topOf outs) s p there in
+    rw e (byte outs (getD s p 0) (patternsAt outs s (p + 1)) (rw e at there))
 
 -- ---- the end of a pattern
--- a letter more is at most one tree more
-count-put : {A : Type 0} (l : Letter A) (G : Terms A) → count (put l G) ≤ suc (count G)
-unfolding put count
-count-put (call a) G = omega arith
-count-put (symbol k n) G = by-rank (leb n (count G))
+-- a symbol takes as many patterns as its rank says, and ⊤ none
+pub top-ranks : (outs : List ℕ) → Ranks (topOf outs) outs
+unfolding topOf
+top-ranks outs = record { named = λ x h. simp (lt-ltb x (length outs) h); free = λ x h. simp (le-ltb x (length outs) h) (other x (eqb x top)) }
   where
-    by-rank : (b : Bool) → count (grown b k n G) ≤ suc (count G)
-    by-rank true = omega (arith, count-rests n G)
-    by-rank false = omega arith
-count-put unknown G = omega arith
-
--- there are no more trees than letters
-pub count-letters : {A X : Type 0} (f : X → Letter A) (s : List X) → count (forest f s) ≤ length s
-unfolding forest count
-count-letters f [] = omega arith
-count-letters f (x ∷ s) = omega (arith, count-put (f x) (forest f s), count-letters f s)
-
--- The pattern at `at` is passed up to p: it ends where the next `owed` patterns end.
-pub record Owing (outs s : List ℕ) (at owed p : ℕ) : Type 0 where
-  pub further : at < p + owed
-  pub inside : p ≤ length s
-  pub enough : owed ≤ count (patternsAt outs s p)
-  pub behind : rests owed (patternsAt outs s p) ≡ rests 1 (patternsAt outs s at)
-
--- where a pattern begins, it alone is owed
-pub all-owed : (outs s : List ℕ) (at : ℕ) → 0 < count (patternsAt outs s at) → Owing outs s at 1 at
-all-owed outs s at h = record { further = omega arith; inside = omega (arith, byte-inside outs s at h); enough = h; behind = refl }
-
--- while something is owed, the bytes have not ended
-pub owing-inside : {outs s : List ℕ} {at n p : ℕ} → Owing outs s at n p → 0 < n → p < length s
-owing-inside {outs} {s} {p = p} O h = byte-inside outs s p (omega (arith, O .enough))
-
--- o is what is owed after a look at the byte x, where n were owed before
-pub record Counted (outs : List ℕ) (x n o : ℕ) : Type 0 where
-  pub named : x < length outs → o ≡ n + getD outs x 0
-  pub free : length outs ≤ x → o ≡ n
-
--- the byte, read as the number y, is a symbol, and its rank r was added
-pub counted-named : {outs : List ℕ} {x y n o r : ℕ} → y ≡ x → y < length outs → r ≡ getD outs y 0 → o ≡ n + r → Counted outs x n o
-counted-named {outs} e h f g = record { named = λ l. omega (arith, ap (λ k. getD outs k 0) e); free = λ l. absurd (omega arith) }
-
--- the byte is no symbol, and nothing was added
-pub counted-free : {outs : List ℕ} {x y n o : ℕ} → y ≡ x → length outs ≤ y → o ≡ n → Counted outs x n o
-counted-free e h g = record { named = λ l. absurd (omega arith); free = λ l. g }
-
--- all but one of them are behind the byte, and end where the n ended
-behind-byte : {outs : List ℕ} {x n o : ℕ} {G F : Patterns} → Byte outs x G F → Counted outs x (suc n) o → suc n ≤ count F → (o - 1 ≤ count G) × (rests (o - 1) G ≡ rests (suc n) F) × (suc n ≤ o)
-unfolding count rests
-behind-byte {outs} {x} {n} {o} {G} (named l e) C h =
-    let m = getD outs x 0 in
-    let q : o - 1 ≡ m + n = omega (arith, C .named l) in
-    (omega (arith, count-rests m G), ap (λ k. rests k G) q ∙ sym (rests-rests m n G), omega (arith, C .named l))
-behind-byte {outs} {x} {n} {o} {G} (free l e) C h =
-    let q : o - 1 ≡ n = omega (arith, C .free l) in
-    (omega arith, ap (λ k. rests k G) q, omega (arith, C .free l))
-
--- one byte further, and the sum is not large
-pub owing-next : {outs s : List ℕ} {at n o p : ℕ} → Owing outs s at n p → 0 < n → Counted outs (getD s p 0) n o → Owing outs s at (o - 1) (p + 1) × (o ≤ length s)
-owing-next {n = ℕ.zero} O h C = absurd (omega arith)
-owing-next {outs} {s} {n = suc n} {o} {p} O h C =
-    let there : 0 < count (patternsAt outs s p) = omega (arith, O .enough) in
-    let i = owing-inside O h in
-    let w = behind-byte (byte-at outs s p there) C (O .enough) in (
-      record {
-        further = omega (arith, O .further, w .2);
-        inside = omega arith;
-        enough = w .0;
-        behind = w .1 ∙ O .behind;
-      },
-      omega (arith, w .0, count-letters (topOf outs) (drop (p + 1) s), length-drop (p + 1) s),
-    )
+    other : (x : ℕ) (b : Bool) → taken (topIf false b x (getD outs x 0)) ≡ 0
+    other x true = refl
+    other x false = refl
 
 -- nothing is owed: the pattern has ended
-pub owing-done : {outs s : List ℕ} {at n p : ℕ} → Owing outs s at n p → n ≡ 0 → Ended outs s at p
-unfolding rests
-owing-done {outs} {s} {at} {n} {p} O z = record {
-  further = omega (arith, O .further);
-  inside = O .inside;
-  behind = sym (ap (λ k. rests k (patternsAt outs s p)) z) ∙ O .behind;
-}
+pub pattern-done : {outs s : List ℕ} {at n p : ℕ} → Owing (topOf outs) s at n p → n ≡ 0 → Ended outs s at p
+pattern-done O z = let w = owing-done O z in record { further = w .0; inside = w .1; behind = w .2 }
 
 -- ---- what some patterns share, one after the other
 abbrev pub patternCodes : Patterns → List ℕ
@@ -182,7 +103,7 @@ module _ {A : Type 0} where
   all-split k m F G e = same-split m F G (cc) (cc)
 
   -- the word of trees is that of the first m and that of the rest
-  flats-split : {Y : Type 0} (g : A → List Y) (y : ℕ → Y) (m : ℕ) (F : Terms A) → flats g y (firsts m F) ++ flats g y (rests m F) ≡ flats g y F
+  pub flats-split : {Y : Type 0} (g : A → List Y) (y : ℕ → Y) (m : ℕ) (F : Terms A) → flats g y (firsts m F) ++ flats g y (rests m F) ≡ flats g y F
   unfolding firsts rests flats
   flats-split g y ℕ.zero F = refl
   flats-split g y (suc m) none = refl
@@ -285,7 +206,7 @@ meeting-start outs x y X Y =
     }
 
 -- where there are letters, there is a tree
-all-there : {A : Type 0} (F : Terms A) → 0 < lettersAll F → 0 < count F
+pub all-there : {A : Type 0} (F : Terms A) → 0 < lettersAll F → 0 < count F
 unfolding lettersAll count
 all-there none h = absurd (omega arith)
 all-there (more t ts) h = omega arith

@@ -9,7 +9,7 @@ use lib.Seq.{sets}
 use denote.Ref.{now}
 use Rattle.formats.proofs.Writing.{Writing, begin, room, one-more, room-word, word-more, finish}
 use Rattle.prefixes.specs.Inner.Patterns.{headAt, grafted}
-use Rattle.prefixes.proofs.Grafts.{head-lent, graft-symbol, graft-end, Called, called, grafted-short}
+use Rattle.prefixes.proofs.Grafts.{head-lent, spell-symbol, spell-end, Called, called, grafted-short}
 use Rattle.prefixes.proofs.pattern.graft.Statement.{statement}
 use Rattle.prefixes.proofs.pattern.graft.Tie as tie
 
@@ -45,7 +45,7 @@ symbol-room c =
     let a = c .before .before .before .before .before .before .before .before .before .args in
     let l = c .before .before .before .before .loop in
     let G = c .before .before .before .before .before .before .before .before .before .pre in
-    room (l .inv .2) (graft-symbol (now (a .heads)) (now (a .sizes)) (now (a .marks)) (l .j) (a .to) (c .before .before .before .loop-test .taken) (G .inside) (c .if1 .taken)) (omega (arith, grafted-short G))
+    room (l .inv .2) (spell-symbol (λ i q. headAt (now (a .heads)) (now (a .sizes)) q) (now (a .marks)) (l .j) (a .to) (c .before .before .before .loop-test .taken) (G .inside) (c .if1 .taken)) (omega (arith, grafted-short G))
 
 -- the pattern that is called
 called-at : (c : tie.After-wide Inv-loop μ-loop) → Called (now (c .before .before .before .before .before .before .before .before .before .before .args .heads)) (now (c .before .before .before .before .before .before .before .before .before .before .args .sizes)) (now (c .before .before .before .before .before .before .before .before .before .before .args .marks)) (c .before .before .before .before .before .loop .j) (c .before .before .before .before .before .before .before .before .before .before .args .to) (c .wide .result)
@@ -117,7 +117,7 @@ loop-again c =
       omega arith,
       omega arith,
       ⊎-elim
-          (λ v. one-more (l .inv .2) (getD (now (a .marks)) (2 * l .j + 1) 0) rest (graft-symbol (now (a .heads)) (now (a .sizes)) (now (a .marks)) (l .j) (a .to) (c .before .before .before .loop-test .taken) (G .inside) (v .0 .taken)) (v .2) (v .1))
+          (λ v. one-more (l .inv .2) (getD (now (a .marks)) (2 * l .j + 1) 0) rest (spell-symbol (λ i q. headAt (now (a .heads)) (now (a .sizes)) q) (now (a .marks)) (l .j) (a .to) (c .before .before .before .loop-test .taken) (G .inside) (v .0 .taken)) (v .2) (v .1))
           (λ v. let q = v .1 .result in
           let C = called G (l .j) (l .inv .0) (c .before .before .before .loop-test .taken) (v .0 .left) (v .1 .ensures) in
           word-more (l .inv .2) (headAt (now (a .heads)) (now (a .sizes)) q) rest (C .next) (v .10 ∙ omega (arith, C .long, v .3 .ensures))
@@ -132,7 +132,7 @@ returns : tie.Need-returns Inv-loop μ-loop
 returns c =
     let a = c .before .before .before .before .before .before .args in
     let l = c .before .loop in
-    let f = finish (l .inv .2) (graft-end (now (a .heads)) (now (a .sizes)) (now (a .marks)) (l .j) (a .to) (l .inv .1) (c .loop-test .left)) in
+    let f = finish (l .inv .2) (spell-end (λ i q. headAt (now (a .heads)) (now (a .sizes)) q) (now (a .marks)) (l .j) (a .to) (l .inv .1) (c .loop-test .left)) in
     record { size = omega (arith, f .0); wrote = f .1 }
 
 pub graft-spec : {M : Type 1} → statement M

@@ -3,7 +3,8 @@ use Prim.Native.Nat.{_-_}
 use native.Mathlib.Omega.{arith}
 use mathlib.Core.Logic.{⊎-elim}
 use lib.ListN.{length}
-use Rattle.prefixes.proofs.Patterns.{byte-inside, Meeting, meeting-start, meeting-done, first-there, second-there, same-turn, other-turn}
+use Rattle.prefixes.proofs.Ends.{letter-inside}
+use Rattle.prefixes.proofs.Patterns.{Meeting, meeting-start, meeting-done, first-there, second-there, same-turn, other-turn}
 use Rattle.prefixes.proofs.pattern.meet.Statement.{statement}
 use Rattle.prefixes.proofs.pattern.meet.Tie as tie
 
@@ -22,7 +23,7 @@ slice-read-k c = omega arith
 shared-slice-read-if1 : tie.Need-shared-slice-read-if1 Inv-loop μ-loop
 shared-slice-read-if1 c =
     let l = c .before .before .before .loop in
-    byte-inside _ _ (l .j) (second-there (l .inv) (c .before .before .loop-test .taken))
+    letter-inside _ _ (l .j) (second-there (l .inv) (c .before .before .loop-test .taken))
 
 slice-write-x : tie.Need-slice-write-x Inv-loop μ-loop
 slice-write-x c = omega arith

@@ -5,18 +5,20 @@ use mathlib.Core.Logic.{⊎-elim}
 use mathlib.Core.Path.{refl}
 use lib.ListN.{length}
 use borrow.Author.Needs.{needs}
-use Rattle.prefixes.proofs.Patterns.{Owing, all-owed, owing-inside, counted-named, counted-free, owing-next, owing-done}
+use Rattle.prefixes.specs.Inner.Patterns.{topOf}
+use Rattle.prefixes.proofs.Ends.{Owing, all-owed, owing-inside, counted-named, counted-free, owing-next}
+use Rattle.prefixes.proofs.Patterns.{top-ranks, pattern-done}
 use Rattle.prefixes.proofs.pattern.pattern_end.Statement.{statement}
 use Rattle.prefixes.proofs.pattern.pattern_end.Tie as tie
 
 abbrev Inv-loop : tie.InvT-loop
-Inv-loop outs s at owed₀ p₀ owed p = Owing outs s at owed p
+Inv-loop outs s at owed₀ p₀ owed p = Owing (topOf outs) s at owed p
 
 abbrev μ-loop : tie.MeasureT-loop
 μ-loop outs s at owed₀ p₀ owed p = length s - p
 
 loop-holds : tie.Need-loop-holds Inv-loop μ-loop
-loop-holds c = all-owed _ _ _ (c .before .before .pre)
+loop-holds c = all-owed _ (c .before .before .pre)
 
 shared-slice-read-wide : tie.Need-shared-slice-read-wide Inv-loop μ-loop
 shared-slice-read-wide c = owing-inside (c .before .before .loop .inv) (c .before .loop-test .taken)
@@ -32,7 +34,7 @@ wide-requires-2 c κs = search needs
 
 add-owed : tie.Need-add-owed Inv-loop μ-loop
 add-owed c =
-    let x = counted-named (c .before .before .before .wide .ensures) (c .before .before .if1 .taken) (c .wide2 .ensures) refl in
+    let x = counted-named (top-ranks _) (c .before .before .before .wide .ensures) (c .before .before .if1 .taken) (c .wide2 .ensures) refl in
     omega (arith, owing-next (c .before .before .before .before .before .before .loop .inv) (c .before .before .before .before .before .loop-test .taken) x .1)
 
 sub-owed : tie.Need-sub-owed Inv-loop μ-loop
@@ -44,7 +46,7 @@ loop-again c =
     owing-next
     (c .before .before .before .before .before .loop .inv)
     (c .before .before .before .before .loop-test .taken)
-    (⊎-elim (λ w. counted-named x (w .0 .taken) (w .2 .ensures) (w .3)) (λ w. counted-free x (omega arith) (w .1)) (c .before .if1 .came)) .0
+    (⊎-elim (λ w. counted-named (top-ranks _) x (w .0 .taken) (w .2 .ensures) (w .3)) (λ w. counted-free (top-ranks _) x (omega arith) (w .1)) (c .before .if1 .came)) .0
 
 add-p : tie.Need-add-p Inv-loop μ-loop
 add-p c = omega (arith, loop-again c .inside)
@@ -53,7 +55,7 @@ loop-less : tie.Need-loop-less Inv-loop μ-loop
 loop-less c = omega (arith, loop-again c .inside)
 
 returns : tie.Need-returns Inv-loop μ-loop
-returns c = owing-done (c .before .loop .inv) (omega arith)
+returns c = pattern-done (c .before .loop .inv) (omega arith)
 
 pub pattern-end-spec : {M : Type 1} → statement M
 pattern-end-spec =
