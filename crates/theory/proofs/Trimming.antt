@@ -25,8 +25,8 @@ use Rattle.theory.specs.Vars.{AllVars}
 use Rattle.theory.specs.Wf.{Wf}
 use Rattle.theory.proofs.Discovery.{Every, rhs-valid, states-valid, states-distinct, discovered-numbered, distinct-indexes, indexOf}
 use Rattle.theory.proofs.EarlyForm.{early-wf}
-use Rattle.theory.proofs.Equivalences.{equivalent-trans}
-use Rattle.theory.proofs.Identity.{identical-sym, identical-trans, identical-wf, identical-equivalent, identical-earliest, identical-numbered}
+use Rattle.theory.proofs.Equivalences.{equivalent-trans, equiv-splits}
+use Rattle.theory.proofs.Identity.{identical-sym, identical-trans, identical-wf, identical-equiv, identical-equivalent, identical-earliest, identical-numbered}
 use Rattle.theory.proofs.Listings.{listed-sort, listed-rhs}
 use Rattle.theory.proofs.Lists.{Extends, get-lt, get-some}
 use Rattle.theory.proofs.Morphism.{Maps, renamed-id}
@@ -156,3 +156,46 @@ module _ {G : Grammar} {M : Transducer ℕ} {Valid : ℕ → Type 0} (W : Wf G M
   -- The trimmed form follows E after the first p states of the list.
   pub trimmed-follows-states : {N : Transducer ℕ} {k p : ℕ} {L : List ℕ} → ReadStates G E p L → p ≤ length L → Trimmed G M Valid N k → Follows G E L N k
   trimmed-follows-states {L} s l T = follows T (states-valid EW s) (states-extend (states-mapped EW P same-sort inj s) (rw (length-map L pair) l) (met-here T))
+
+-- What is identical to a trimmed form of M is one.
+pub trimmed-form : {Q : Type 0} {G : Grammar} {M : Transducer Q} {Valid : Q → Type 0} {N N′ : Transducer ℕ} {k k′ : ℕ} → Identical G N N′ k k′ → Trimmed G M Valid N k → Trimmed G M Valid N′ k′
+trimmed-form i T = record { prefix = T .prefix; prefs = T .prefs; states = T .states; number = T .number; numbers = T .numbers; met = T .met; form = identical-trans (identical-sym i) (T .form) }
+
+-- M and M′ are one transducer, as far as the states below n go: so are their earliest forms.
+module _ {G : Grammar} {M M′ : Transducer ℕ} {n : ℕ} (W : Wf G M (λ q. q < n)) (i : Identical G M M′ n n) (h : ℕ → Pattern) (H : Prefs G M (λ q. q < n) h) where
+  -- the pref(q) are the same
+  same-prefs : Prefs G M′ (λ q. q < n) h
+  same-prefs q l = let s = identical-equiv i W q l in record {
+    common = λ d ok. let ok′ = rw (← s .sort) at ok in rw (s .output d ok′) at (H q l .common d ok′);
+    splits = λ v o. equiv-splits s (H q l .splits v o);
+  }
+
+  same-maps : Maps G (earliestForm M h) (earliestForm M′ h) (λ s. (s .0 < n) × Open (h (s .0)) (s .1)) (λ s. s)
+  unfolding earliestForm
+  same-maps = record {
+    initial = ap (expand h) (sym (i .initial)) ∙ sym (renamed-id _);
+    rhs = λ s a v c. ap (λ t. Option·getD (sub (expand h t) (s .1)) (node 0 none)) (sym (i .rhs (s .0) a _ (v .0) c)) ∙ sym (renamed-id _);
+  }
+
+  same-early : (s : ℕ × List ℕ) → (s .0 < n) × Open (h (s .0)) (s .1) → earliestForm M′ h .sort s ≡ earliestForm M h .sort s
+  unfolding earliestForm
+  same-early s v = sym (i .sort (s .0) (v .0))
+
+  -- its states are met in one order
+  same-met : {L : List (ℕ × List ℕ)} → Discovered G (earliestForm M h) L → Discovered G (earliestForm M′ h) L
+  same-met {L} d = rw (map-id L) at (discovered-mapped (early-wf W h H) same-maps same-early (λ s t v w e. e) d)
+
+-- The trimmed form of M is that of a transducer identical to M.
+pub trimmed-same : {G : Grammar} {M M′ N : Transducer ℕ} {n k : ℕ} → Wf G M (λ q. q < n) → Identical G M M′ n n → Trimmed G M (λ q. q < n) N k → Trimmed G M′ (λ q. q < n) N k
+trimmed-same W i T =
+    let h = T .prefix in
+    let d = same-met W i h (T .prefs) (T .met) in
+    record {
+      prefix = h;
+      prefs = same-prefs W i h (T .prefs);
+      states = T .states;
+      number = T .number;
+      numbers = T .numbers;
+      met = d;
+      form = identical-trans (T .form) (listed-identical (early-wf W h (T .prefs)) (same-maps W i h (T .prefs)) (same-early W i h (T .prefs)) (λ s t v w e. e) (T .met) (T .numbers) d (T .numbers));
+    }
