@@ -6,7 +6,7 @@ use lib.ListN.{length}
 use Rattle.theory.specs.NormalForm.{NormalForm}
 use Rattle.theory.specs.Term.{Tree}
 use Rattle.theory.specs.Transducer.{Transducer, translate}
-use Rattle.formats.specs.Alphabets.{Alphabets, inputs, outputs, alphabetCheck}
+use Rattle.formats.specs.Alphabets.{Leaf, Alphabets, inputs, outputs, alphabetCheck}
 use Rattle.formats.specs.Code.{Ranked}
 use Rattle.formats.specs.Refusal.{done, check, Judged}
 use Rattle.formats.specs.Sheet.{longest, Encodes, Sheet, sheetCheck}
@@ -25,7 +25,7 @@ pub record NormalFile (stock s : List ℕ) (k : ℕ) (counts bytes : List ℕ) :
   pub machine : Transducer ℕ
   pub sheet : Sheet (inputs stock) (outputs stock) s states machine
   pub form : Transducer ℕ
-  pub normal : NormalForm (alphabet (inputs stock) (alphabets .leaf)) machine form k
+  pub normal : (l : Leaf (inputs stock)) → NormalForm (alphabet (inputs stock) l) machine form k
   pub encodes : Encodes (inputs stock) (outputs stock) k counts bytes form
 
 -- ---- cleaning: the file of the normal form

@@ -36,7 +36,7 @@ pub record NormalOf (stock : List ℕ) (n : ℕ) (counts bytes : List ℕ) (k : 
   pub machine : Transducer ℕ
   pub machine-coded : Encodes (inputs stock) (outputs stock) n counts bytes machine
   pub form : Transducer ℕ
-  pub normal : NormalForm (alphabet (inputs stock) (alphabets .leaf)) machine form k
+  pub normal : (l : Leaf (inputs stock)) → NormalForm (alphabet (inputs stock) l) machine form k
   pub form-coded : Encodes (inputs stock) (outputs stock) k counts′ bytes′ form
 
 -- the normal form stands in the table; or the earliest form is over the limits of a file
