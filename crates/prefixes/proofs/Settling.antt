@@ -1,6 +1,6 @@
 -- Cut upon cut: what one cut does to the patterns, what many do, and that the patterns are the common prefixes when no cut takes anything away.
 -- Assumes nothing.
-use Prim.Native.Nat.{ℕ, suc, _+_, _≤_, _<_}
+use Prim.Native.Nat.{ℕ, suc, _+_, _-_, _*_, _≤_, _<_}
 use native.Mathlib.Decide.{ℕ-discrete}
 use native.Mathlib.Nat.{mul-le-mul}
 use native.Mathlib.Omega.{arith}
@@ -24,7 +24,7 @@ use Rattle.theory.proofs.Terms.{conflict}
 use Rattle.theory.proofs.Vars.{all-map}
 use Rattle.formats.specs.Alphabets.{Leaf}
 use Rattle.formats.specs.Inner.Decode.{Whole}
-use Rattle.formats.specs.Inner.Layout.{markOf, body, bodyNumber, transducer, Wholes}
+use Rattle.formats.specs.Inner.Layout.{markOf, body, bodyNumber, bodyCount, transducer, Wholes}
 use Rattle.formats.specs.Inner.Marked.{part}
 use Rattle.formats.specs.Refusal.{Decides}
 use Rattle.formats.proofs.Pairs.{number-less}
@@ -32,7 +32,7 @@ use Rattle.formats.proofs.Sheets.{transducer-over}
 use Rattle.transducer.specs.Linear.{oneIf}
 use Rattle.transducer.proofs.Outputs.{ranked-vars}
 use Rattle.prefixes.specs.Alphabet.{alphabet, children-inside, children-of}
-use Rattle.prefixes.specs.Inner.Heads.{Heads, headOf, Cuttable, CutBy, machine, Layout, Bodies, FixedAt, AllAbove, Cuts, CutState, Swept, Settled}
+use Rattle.prefixes.specs.Inner.Heads.{Heads, headOf, Cuttable, CutBy, machine, Layout, Bodies, FixedAt, AllAbove, Cuts, CutState, Swept, Flaggable, Looked, Followed, Settled}
 
 -- ---- the transducer of whole bodies is well-formed over the alphabet
 nth-sort : (r i : ℕ) → 1 ≤ i → i ≤ r → nth {A = ℕ} (replicate r 0) i ≡ some 0
@@ -85,7 +85,7 @@ same-patterns C e = fun-ext (C .kept e)
 
 module _ {ins : List ℕ} {M : Transducer ℕ} {n : ℕ} {h h₁ : ℕ → Pattern} {any : Bool} (C : Cuts ins M n h h₁ any) where
   -- no more than before
-  not-more : total h₁ n ≤ total h n
+  pub not-more : total h₁ n ≤ total h n
   not-more = go any refl
     where
       go : (b : Bool) → any ≡ b → total h₁ n ≤ total h n
@@ -290,3 +290,80 @@ module _ {ins outs starts bytes heads₀ sizes₀ other₀ : List ℕ} (B : Bodi
 
   pub settle-end : again ≡ false → Settled ins outs starts bytes heads₀ sizes₀ heads sizes
   settle-end e = record { table = L .table; prefs = λ l a. all-fixed l (machine-wf l (B .layout .wholes)) (L .above l a) (L .fixed e) }
+
+-- ---- cuts along the calls
+-- the numbers of the first body of a state, and of the first of the next state, are in the table of starts
+pub row-fits : {ins starts bytes : List ℕ} {n : ℕ} → Flaggable ins starts bytes n → {p : ℕ} → p < n → (1 + p * length ins + length ins < 2050) × (1 + p * length ins + length ins ≤ bodyCount ins n)
+row-fits {ins} {n = n} F {p} h =
+    let m : (p + 1) * length ins ≤ n * length ins = mul-le-mul (omega arith) (omega arith) in
+    (omega (arith, mul-le-mul (F .few-states) (F .few-inputs)), omega arith)
+
+pub can-flag : {ins outs starts bytes heads sizes other : List ℕ} → Bodies ins outs starts bytes heads sizes other → Flaggable ins starts bytes (length sizes)
+can-flag B = record { few-states = B .layout .few-states; few-inputs = B .layout .few-inputs; laid = B .layout .laid }
+
+-- the loop over the looks: the last was at state q
+pub record FollowLoop (ins outs starts bytes heads₀ sizes₀ other₀ heads sizes other : List ℕ) (callers dirty : List Bool) (q : ℕ) : Type 0 where
+  pub same-heads : length heads ≡ length heads₀
+  pub same-sizes : length sizes ≡ length sizes₀
+  pub same-other : length other ≡ length other₀
+  pub caller-flags : length callers ≡ 16384
+  pub state-flags : length dirty ≡ 128
+  pub inside : q ≤ length sizes₀
+  pub followed : Followed ins outs starts bytes heads₀ sizes₀ heads sizes
+
+-- what is left to cut, and the looks until a turn is full, for n states at most 128 of which `clean` were looked at since the last cut
+abbrev pub ahead : List ℕ → ℕ → List ℕ → List ℕ → ℕ → ℕ
+ahead outs n heads sizes clean = 129 * total (headOf outs heads sizes) n + (n - clean)
+
+pub follow-start : {ins outs starts bytes heads sizes other : List ℕ} {callers dirty : List Bool} → Heads outs heads sizes → length callers ≡ 16384 → length dirty ≡ 128 → FollowLoop ins outs starts bytes heads sizes other heads sizes other callers dirty 0
+follow-start T e f = record { same-heads = refl; same-sizes = refl; same-other = refl; caller-flags = e; state-flags = f; inside = omega arith; followed = record { table = T; above = λ l a. a; fewer = omega arith } }
+
+module _ {ins outs starts bytes heads₀ sizes₀ other₀ : List ℕ} (B : Bodies ins outs starts bytes heads₀ sizes₀ other₀)
+    {heads sizes other : List ℕ} {callers dirty : List Bool} {q : ℕ} (L : FollowLoop ins outs starts bytes heads₀ sizes₀ other₀ heads sizes other callers dirty q) where
+  pub follow-bodies : Bodies ins outs starts bytes heads sizes other
+  follow-bodies = other-table B (L .followed .table) (L .same-sizes) (L .same-other)
+
+  module _ {heads′ sizes′ : List ℕ} {b : Bool} (C : Looked ins outs starts bytes heads sizes heads′ sizes′ b) where
+    looked-here : Cuts ins (machine ins outs starts bytes (length sizes₀)) (length sizes₀) (headOf outs heads sizes) (headOf outs heads′ sizes′) b
+    looked-here = rw (← L .same-sizes) (C .cuts)
+
+    pub follow-next : {other′ : List ℕ} {dirty′ : List Bool} {q′ : ℕ} → length heads′ ≡ length heads → length sizes′ ≡ length sizes → length other′ ≡ length other → length dirty′ ≡ length dirty → q′ < length sizes₀ → FollowLoop ins outs starts bytes heads₀ sizes₀ other₀ heads′ sizes′ other′ callers dirty′ q′
+    follow-next sh ss so sd h = record {
+      same-heads = sh ∙ L .same-heads;
+      same-sizes = ss ∙ L .same-sizes;
+      same-other = so ∙ L .same-other;
+      caller-flags = L .caller-flags;
+      state-flags = sd ∙ L .state-flags;
+      inside = omega arith;
+      followed = record { table = C .table; above = λ l a. looked-here .above l (L .followed .above l a); fewer = omega (arith, not-more looked-here, L .followed .fewer) };
+    }
+
+    -- a cut loses more than a turn of looks
+    pub less-cut : {clean : ℕ} → clean < length sizes₀ → b ≡ true → ahead outs (length sizes₀) heads′ sizes′ 0 < ahead outs (length sizes₀) heads sizes clean
+    less-cut h e = omega (arith, looked-here .less e, B .layout .few-states)
+
+    pub less-none : {clean : ℕ} → clean < length sizes₀ → b ≡ false → ahead outs (length sizes₀) heads′ sizes′ (clean + 1) < ahead outs (length sizes₀) heads sizes clean
+    less-none h e = omega (arith, ap (λ k. total k (length sizes₀)) (same-patterns looked-here e))
+
+-- ---- before a sweep: the patterns are as they were, or cuts along the calls made them smaller
+pub record Between (ins outs starts bytes heads₀ sizes₀ other₀ heads sizes : List ℕ) (again : Bool) (heads′ sizes′ other′ : List ℕ) : Type 0 where
+  pub loop : SettleLoop ins outs starts bytes heads₀ sizes₀ other₀ heads′ sizes′ other′ true
+  pub fewer : left outs heads′ sizes′ true ≤ left outs heads sizes again
+
+module _ {ins outs starts bytes heads₀ sizes₀ other₀ heads sizes other : List ℕ} {again : Bool} (L : SettleLoop ins outs starts bytes heads₀ sizes₀ other₀ heads sizes other again) (t : again ≡ true) where
+  pub between-none : {heads′ sizes′ other′ : List ℕ} → heads′ ≡ heads → sizes′ ≡ sizes → other′ ≡ other → Between ins outs starts bytes heads₀ sizes₀ other₀ heads sizes again heads′ sizes′ other′
+  between-none e f g = rw (e, f, g, t) (record { loop = rw t at L; fewer = omega arith })
+
+  pub between-some : {heads′ sizes′ other′ : List ℕ} → Followed ins outs starts bytes heads sizes heads′ sizes′ → length heads′ ≡ length heads → length sizes′ ≡ length sizes → length other′ ≡ length other → Between ins outs starts bytes heads₀ sizes₀ other₀ heads sizes again heads′ sizes′ other′
+  unfolding left
+  between-some F sh ss so = record {
+    loop = record {
+      table = F .table;
+      same-heads = sh ∙ L .same-heads;
+      same-sizes = ss ∙ L .same-sizes;
+      same-other = so ∙ L .same-other;
+      above = λ l a. (rw (L .same-sizes) at (F .above l)) (L .above l a);
+      fixed = λ e. conflict (cc);
+    };
+    fewer = rw (ss, t) (omega (arith, F .fewer));
+  }

@@ -1,9 +1,9 @@
 // The common prefixes of the states (01: heads): a table of patterns, cut until no right-hand side cuts any more.
-ghost use Prim.Native.Nat.{_<_};
+ghost use Prim.Native.Nat.{_*_, _≤_, _<_};
 ghost use mathlib.Core.Path.{_≡_};
 ghost use lib.ListN.{length, getD};
 ghost use Rattle.formats.specs.Alphabets.{Leaf};
-ghost use Rattle.prefixes.specs.Inner.Heads.{Cuttable, CutBy, Bodies, CutState, Swept, Settled, Startable, Started, AllStartable, AllStarted, Prefixable, Prefixes};
+ghost use Rattle.prefixes.specs.Inner.Heads.{Cuttable, CutBy, Bodies, CutState, Swept, Flaggable, Looked, Followed, Settled, Startable, Started, AllStartable, AllStarted, Prefixable, Prefixes};
 use crate::pattern::graft;
 use crate::pattern::meet;
 use formats::bytes::number;
@@ -84,7 +84,125 @@ fn sweep(
     any
 }
 
-// Cuts until no right-hand side cuts any more.
+// Flags state p as a caller of each state that the marks number `from` up to `to` call: `callers` has 128 flags for each state called.
+fn flag_calls(marks: &[u8], from: usize, to: usize, p: usize, callers: &mut [bool])
+    requires { ⌜ (2 * to ≤ length (now marks)) × (p < 128) × (length (now callers) ≡ 16384) ⌝ }
+{
+    let mut j = from;
+    while j < to {
+        let q = wide(marks[2 * j + 1]);
+        if marks[2 * j] > 0 {
+            if q < 128 {
+                callers[128 * q + p] = true;
+            }
+        }
+        j += 1;
+    }
+}
+
+// Flags the callers of all states; the right-hand sides of a state stand one after the other.
+fn find_callers(ins: &[u8], starts: &[u16], marks: &[u8], n: usize, callers: &mut [bool])
+    requires { ⌜ Flaggable (now ins) (now starts) (now marks) n × (length (now callers) ≡ 16384) ⌝ }
+{
+    let mut p = 0;
+    while p < n {
+        let b = 1 + p * ins.len();
+        let from = number(starts[b]);
+        let to = number(starts[b + ins.len()]);
+        flag_calls(marks, from, to, p, callers);
+        p += 1;
+    }
+}
+
+// Flags the callers of state q as states to look at.
+fn flag_callers(callers: &[bool], q: usize, dirty: &mut [bool])
+    requires { ⌜ (q < 128) × (length (now callers) ≡ 16384) × (length (now dirty) ≡ 128) ⌝ }
+{
+    let mut p = 0;
+    while p < 128 {
+        if callers[128 * q + p] {
+            dirty[p] = true;
+        }
+        p += 1;
+    }
+}
+
+// Looks at state q if it is flagged: cuts its pattern and flags its callers, or flags it no more where nothing is cut.
+fn look_at(
+    ins: &[u8],
+    outs: &[u8],
+    starts: &[u16],
+    marks: &[u8],
+    heads: &mut [u8],
+    sizes: &mut [u8],
+    q: usize,
+    other: &mut [u8],
+    callers: &[bool],
+    dirty: &mut [bool],
+) -> bool
+    requires { ⌜ Bodies (now ins) (now outs) (now starts) (now marks) (now heads) (now sizes) (now other) × (q < length (now sizes)) × (length (now callers) ≡ 16384) × (length (now dirty) ≡ 128) ⌝ }
+    ensures { λ b. ⌜ Looked (now (ins .entry)) (now (outs .entry)) (now (starts .entry)) (now (marks .entry)) (now (heads .entry)) (now (sizes .entry)) (now (heads .exit)) (now (sizes .exit)) b ⌝ }
+{
+    if !dirty[q] {
+        return false;
+    }
+    let cut = cut_state(ins, outs, starts, marks, heads, sizes, q, other);
+    if cut {
+        flag_callers(callers, q, dirty);
+    } else {
+        dirty[q] = false;
+    }
+    cut
+}
+
+// The state before q of n states in a ring.
+fn previous(q: usize, n: usize) -> usize
+    requires { ⌜ (q ≤ n) × (0 < n) ⌝ }
+    ensures { λ r. ⌜ r < n ⌝ }
+{
+    if q == 0 { n - 1 } else { q - 1 }
+}
+
+// Cuts from callee to caller, until a whole turn through the states cuts nothing; the flags save looks, and no pattern hangs on them.
+fn follow(
+    ins: &[u8],
+    outs: &[u8],
+    starts: &[u16],
+    marks: &[u8],
+    heads: &mut [u8],
+    sizes: &mut [u8],
+    other: &mut [u8],
+)
+    requires { ⌜ Bodies (now ins) (now outs) (now starts) (now marks) (now heads) (now sizes) (now other) ⌝ }
+    ensures { λ _. ⌜ Followed (now (ins .entry)) (now (outs .entry)) (now (starts .entry)) (now (marks .entry)) (now (heads .entry)) (now (sizes .entry)) (now (heads .exit)) (now (sizes .exit)) ⌝ }
+{
+    let n = sizes.len();
+    let mut callers = [false; 16384];
+    let mut dirty = [true; 128];
+    find_callers(ins, starts, marks, n, &mut callers);
+    let mut q = 0;
+    let mut clean = 0;
+    while clean < n {
+        q = previous(q, n);
+        clean += 1;
+        if look_at(
+            ins,
+            outs,
+            starts,
+            marks,
+            heads,
+            sizes,
+            q,
+            other,
+            &callers,
+            &mut dirty,
+        ) {
+            clean = 0;
+        }
+    }
+}
+
+// Cuts until no right-hand side cuts any more: by sweeps, and after 32 of them along the calls before each further one.
 pub(crate) fn settle(
     ins: &[u8],
     outs: &[u8],
@@ -98,7 +216,13 @@ pub(crate) fn settle(
     ensures { λ _. ⌜ Settled (now (ins .entry)) (now (outs .entry)) (now (starts .entry)) (now (marks .entry)) (now (heads .entry)) (now (sizes .entry)) (now (heads .exit)) (now (sizes .exit)) ⌝ }
 {
     let mut more = true;
+    let mut turn: usize = 0;
     while more {
+        if turn < 32 {
+            turn += 1;
+        } else {
+            follow(ins, outs, starts, marks, heads, sizes, other);
+        }
         more = sweep(ins, outs, starts, marks, heads, sizes, other);
     }
 }

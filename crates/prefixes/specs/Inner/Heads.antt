@@ -99,6 +99,25 @@ pub record Swept (ins outs starts bytes heads sizes heads′ sizes′ : List ℕ
   pub cuts : Cuts ins (machine ins outs starts bytes (length sizes)) (length sizes) (headOf outs heads sizes) (headOf outs heads′ sizes′) b
   pub fixed : b ≡ false → (q : ℕ) → q < length sizes → FixedAt ins (machine ins outs starts bytes (length sizes)) (headOf outs heads sizes) q
 
+-- ---- cuts along the calls
+-- what the flags of callers ask: the bodies of at most 128 states lie where the table says
+pub record Flaggable (ins starts bytes : List ℕ) (n : ℕ) : Type 0 where
+  pub few-states : n ≤ 128
+  pub few-inputs : length ins ≤ 16
+  pub laid : Laid ins n starts bytes
+
+-- a look at one state: it is cut, or left alone
+pub record Looked (ins outs starts bytes heads sizes heads′ sizes′ : List ℕ) (b : Bool) : Type 0 where
+  pub table : Heads outs heads′ sizes′
+  pub cuts : Cuts ins (machine ins outs starts bytes (length sizes)) (length sizes) (headOf outs heads sizes) (headOf outs heads′ sizes′) b
+
+-- any number of looks: the patterns stay above the common prefixes, and gain no symbol
+pub record Followed (ins outs starts bytes heads sizes heads′ sizes′ : List ℕ) : Type 0 where
+  pub table : Heads outs heads′ sizes′
+  pub above : (l : Leaf ins) → AllAbove ins l (machine ins outs starts bytes (length sizes)) (length sizes) (headOf outs heads sizes) → AllAbove ins l (machine ins outs starts bytes (length sizes)) (length sizes) (headOf outs heads′ sizes′)
+  pub fewer : total (headOf outs heads′ sizes′) (length sizes) ≤ total (headOf outs heads sizes) (length sizes)
+
+-- ---- the end
 -- the patterns are the common prefixes, if they were above them
 pub record Settled (ins outs starts bytes heads sizes heads′ sizes′ : List ℕ) : Type 0 where
   pub table : Heads outs heads′ sizes′
