@@ -3,3 +3,4 @@
 pub mod Keys
 pub mod Refining
 pub mod Merging
+pub mod Normalizing

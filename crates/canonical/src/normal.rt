@@ -5,7 +5,7 @@ ghost use lib.ListN.{length};
 ghost use Rattle.formats.specs.Sheet.{longest};
 ghost use Rattle.transducer.specs.Inner.Machine.{Machine};
 ghost use Rattle.canonical.specs.Answers.{Cleans};
-ghost use Rattle.canonical.specs.Inner.Normal.{Reducible, Reduces, NormalBy, CleansFile};
+ghost use Rattle.canonical.specs.Inner.Normal.{Reducible, Zeros, Reduces, NormalBy, CleansFile};
 use crate::classes::settle_classes;
 use crate::quotient::merge;
 use earliest::earliest::Formed;
@@ -19,6 +19,26 @@ use formats::file::FileRead;
 use formats::file::counts_end;
 use formats::file::read_transducer;
 use formats::refusal::Refusal;
+
+// Makes equivalent states one, with a byte for each state in `old` and in `classes`; `old` holds zeros.
+fn reduce_by(
+    ins: &[u8],
+    outs: &[u8],
+    starts: &[u16],
+    marks: &[u8],
+    old: &mut [u8],
+    classes: &mut [u8],
+    starts2: &mut [u16],
+    out: &mut [u8],
+) -> usize
+    requires { ⌜ Reducible (now ins) (now outs) (now starts) (now marks) (length (now old)) × Zeros (now old) × (length (now classes) ≡ length (now old)) × (2050 ≤ length (now starts2)) × (length (now out) ≡ 16384) ⌝ }
+    ensures { λ n. ⌜ Reduces (now (ins .entry)) (now (outs .entry)) (now (starts .entry)) (now (marks .entry)) (length (now (old .entry))) (now (starts2 .exit)) (now (out .exit)) n ⌝ }
+{
+    let mut least = [0u8; 128];
+    let count = settle_classes(ins, starts, marks, old, classes, &mut least);
+    merge(ins, outs, starts, marks, classes, &least, count, starts2, out);
+    count
+}
 
 // Makes equivalent states one: `starts2` says where the bodies of the quotient start in `out`; says how many states it has.
 fn reduce(
@@ -35,10 +55,7 @@ fn reduce(
 {
     let mut old = [0u8; 128];
     let mut classes = [0u8; 128];
-    let mut least = [0u8; 128];
-    let count = settle_classes(ins, starts, marks, &mut old[0..k], &mut classes[0..k], &mut least);
-    merge(ins, outs, starts, marks, &classes[0..k], &least, count, starts2, out);
-    count
+    reduce_by(ins, outs, starts, marks, &mut old[0..k], &mut classes[0..k], starts2, out)
 }
 
 // The normal form of the transducer whose n, counts and marks these are.

@@ -1,0 +1,74 @@
+-- From the classes of equivalent states and the quotient to the normal form.
+use Prim.Native.Nat.{ℕ, suc, _-_, _≤_, _<_}
+use native.Mathlib.Nat.{sub-zero}
+use native.Mathlib.Omega.{arith}
+use mathlib.Core.List.{List}
+use mathlib.Core.Path.{_≡_, refl, sym, _∙_}
+use lib.ListN.{length, length-replicate, getD, replicate, take}
+use lib.Seq.{length-take-le}
+use Rattle.theory.specs.Wf.{Wf}
+use Rattle.theory.proofs.Equivalences.{equivalent-refl}
+use Rattle.theory.proofs.Identity.{identical-sym, identical-normal}
+use Rattle.theory.proofs.NormalForms.{classes-normal}
+use Rattle.formats.specs.Alphabets.{Leaf}
+use Rattle.prefixes.specs.Alphabet.{alphabet}
+use Rattle.prefixes.specs.Inner.Heads.{machine}
+use Rattle.prefixes.proofs.Settling.{machine-wf}
+use Rattle.canonical.specs.Inner.Classes.{Settles}
+use Rattle.canonical.specs.Inner.Normal.{Reducible, Zeros, Reduces}
+use Rattle.canonical.specs.Inner.Quotients.{Mergeable, Merges}
+use Rattle.canonical.proofs.Refining.{classes-few}
+
+-- the quotient by the classes of equivalent states is the normal form of an earliest and numbered transducer
+reduces : {ins outs starts bytes classes least starts′ out : List ℕ} {k count : ℕ} → Reducible ins outs starts bytes k → Settles ins starts bytes classes least k count → Merges ins outs starts bytes classes least k count starts′ out → Reduces ins outs starts bytes k starts′ out count
+reduces {ins} {outs} {starts} {bytes} {k = k} R S Q = record {
+  layout = Q .layout;
+  packed = Q .packed;
+  normal = λ l E N. identical-normal (identical-sym (Q .merged l)) (classes-normal equivalent-refl (wf l) E N (S .classes) (S .exact outs l (R .layout) (wf l) E));
+}
+  where
+    wf : (l : Leaf ins) → Wf (alphabet ins l) (machine ins outs starts bytes k) (λ q. q < k)
+    wf l = machine-wf l (R .layout .wholes)
+
+module _ {ins outs starts bytes classes least : List ℕ} {n count : ℕ} (R : Reducible ins outs starts bytes n) (S : Settles ins starts bytes classes least n count) where
+  -- what the classes of equivalent states are to be merged by
+  pub settled-mergeable : {starts′ out : List ℕ} → 128 ≤ length least → 2050 ≤ length starts′ → length out ≡ 16384 → Mergeable ins outs starts bytes classes least (length classes) count starts′ out
+  settled-mergeable l s o = rw (S .long) (record {
+    layout = R .layout;
+    packed = R .packed;
+    long = S .long;
+    few = omega (arith, classes-few (S .classes), R .layout .few-states, l);
+    classed = S .classes;
+    starts-room = s;
+    bytes-room = o;
+  })
+
+  pub settled-reduces : {starts′ out : List ℕ} → Merges ins outs starts bytes classes least (length classes) count starts′ out → Reduces ins outs starts bytes n starts′ out count
+  settled-reduces Q = reduces R S (rw (S .long) at Q)
+
+-- n zeros
+abbrev zeros : ℕ → List ℕ
+zeros n = replicate {A = ℕ} n 0
+
+-- a part of an array of zeros
+zeros-at : (n m q : ℕ) → getD (take m (zeros n)) q 0 ≡ 0
+unfolding replicate take getD
+zeros-at ℕ.zero ℕ.zero q = refl
+zeros-at ℕ.zero (suc m) q = refl
+zeros-at (suc n) ℕ.zero q = refl
+zeros-at (suc n) (suc m) ℕ.zero = refl
+zeros-at (suc n) (suc m) (suc q) = zeros-at n m q
+
+zeros-part : (n k : ℕ) → k ≤ n → (length (take (k - 0) (zeros n)) ≡ k) × Zeros (take (k - 0) (zeros n))
+zeros-part n k h = (rw (sub-zero k) (length-take-le k (zeros n) (omega (arith, length-replicate {A = ℕ} n 0))), λ q l. zeros-at n (k - 0) q)
+
+-- with a byte for each state in two such parts
+module _ {ins outs starts bytes : List ℕ} (k : ℕ) (R : Reducible ins outs starts bytes k) where
+  part-long : length (take (k - 0) (zeros 128)) ≡ k
+  part-long = zeros-part 128 k (R .layout .few-states) .0
+
+  pub reducible-part : Reducible ins outs starts bytes (length (take (k - 0) (zeros 128))) × Zeros (take (k - 0) (zeros 128)) × (length (take (k - 0) (zeros 128)) ≡ length (take (k - 0) (zeros 128)))
+  reducible-part = (rw part-long R, zeros-part 128 k (R .layout .few-states) .1, refl)
+
+  pub reduces-part : {starts′ out : List ℕ} {n : ℕ} → Reduces ins outs starts bytes (length (take (k - 0) (zeros 128))) starts′ out n → Reduces ins outs starts bytes k starts′ out n
+  reduces-part G = rw part-long at G
