@@ -4,3 +4,5 @@ pub mod Keys
 pub mod Refining
 pub mod Merging
 pub mod Normalizing
+pub mod Alike
+pub mod Laws
