@@ -4,5 +4,6 @@ pub mod Keys
 pub mod Refining
 pub mod Merging
 pub mod Normalizing
+pub mod Cleaning
 pub mod Alike
 pub mod Laws

@@ -6,12 +6,13 @@ use native.Mathlib.Numerals.{add-one}
 use native.Mathlib.Omega.{arith}
 use mathlib.Core.List.{List, [], _∷_}
 use mathlib.Core.Path.{_≡_, refl, sym, ap, ap₂, _∙_}
-use lib.ListN.{length, getD, take, drop, set, length-set}
+use lib.ListN.{length, getD, take, drop, set, replicate, length-set, length-replicate}
 use lib.Seq.{sets, getD-set-same, getD-set-other, getD-take, take-take, take-nil, length-take-le}
 use borrow.Author.Count.{below-more}
 use Rattle.theory.specs.NormalForm.{Identical}
+use Rattle.theory.specs.Transducer.{Transducer}
 use Rattle.theory.proofs.Terms.{conflict}
-use Rattle.formats.specs.Alphabets.{Leaf, inputs, outputs}
+use Rattle.formats.specs.Alphabets.{Leaf, Alphabets, inputs, outputs}
 use Rattle.formats.specs.Answers.{fileWritten, WritesFile}
 use Rattle.formats.specs.Inner.Decode.{forest, first}
 use Rattle.formats.specs.Inner.Layout.{pairs, offset, markOf, body, bodyNumber, bodyCount, countAt, transducer, Right, Starts, Wholes}
@@ -101,7 +102,7 @@ module _ {ins : List ℕ} {n : ℕ} {start start′ : ℕ → ℕ} {bytes bytes�
 -- ---- the file of a form
 module _ {ins outs starts bytes : List ℕ} {k : ℕ} (L : Layout ins outs starts bytes k) (P : Packed ins starts k) where
   -- there are at most 2,049 bodies
-  form-few : bodyCount ins k ≤ 2049
+  pub form-few : bodyCount ins k ≤ 2049
   form-few = omega (arith, mul-le-mul (L .few-states) (L .few-inputs))
 
   -- no body ends behind the last
@@ -201,3 +202,20 @@ module _ {stock starts bytes area ins : List ℕ} {k : ℕ} (A : Writable stock 
     -- and there was no refusal
     pub form-refused : (x : Refusal) → r ≡ Refused x → ⊥
     form-refused x e = let w = form-accepted in conflict (cc)
+
+-- ---- the file that a table can be written as
+-- some counts for the table of starts
+filled-counts : (starts : List ℕ) (all m : ℕ) → 2 * m ≤ all → (counts : List ℕ) × ((length counts ≡ all) × FillsCounts starts m counts)
+filled-counts starts all ℕ.zero h = (replicate all 0, (length-replicate all 0, record { each = λ j g. absurd (omega arith) }))
+filled-counts starts all (suc m) h =
+    let r = filled-counts starts all m (omega arith) in
+    let s = getD starts (m + 1) 0 - getD starts m 0 in
+    (set (set (r .0) (2 * m) (s / 256)) (2 * m + 1) (s % 256), (length-set (set (r .0) (2 * m) (s / 256)) (2 * m + 1) (s % 256) ∙ length-set (r .0) (2 * m) (s / 256) ∙ r .1 .0, rw (← add-one m) (count-more (r .0) m s (omega (arith, r .1 .0)) starts refl (r .1 .1))))
+
+-- A form in a table without gaps has a file.
+pub packed-encoded : {stock starts bytes : List ℕ} {k : ℕ} → Alphabets stock → Layout (inputs stock) (outputs stock) starts bytes k → Packed (inputs stock) starts k
+    → (counts marks : List ℕ) × (N : Transducer ℕ) × Encodes (inputs stock) (outputs stock) k counts marks N × ((l : Leaf (inputs stock)) → Identical (alphabet (inputs stock) l) N (machine (inputs stock) (outputs stock) starts bytes k) k k)
+packed-encoded {stock} {starts} {bytes} {k} A L P =
+    let m = bodyCount (inputs stock) k in
+    let F = filled-counts starts (2 * m) m (omega arith) in
+    (F .0, take (2 * getD starts m 0) bytes, _, form-encodes L P (F .0) (F .1 .0) (F .1 .1), form-same L P (F .0) (F .1 .0) (F .1 .1))

@@ -30,13 +30,15 @@ use Rattle.earliest.specs.Inner.Grown.{AddsBody}
 use Rattle.earliest.specs.declared.early.Grown.the-variants.{States, Over}
 
 -- ---- an element of the beginning of a list
-get-take : (l : List ℕ) (n i : ℕ) → i < n → i < length l → getElem? (take n l) i ≡ some (getD l i 0)
+-- each state met stands in the list of them
+pub get-take : (l : List ℕ) (n i : ℕ) → i < n → i < length l → getElem? (take n l) i ≡ some (getD l i 0)
 get-take [] n i h g = absurd (omega arith)
 get-take (x ∷ l) ℕ.zero i h g = absurd (omega arith)
 get-take (x ∷ l) (suc n) ℕ.zero h g = refl
 get-take (x ∷ l) (suc n) (suc i) h g = get-take l n i (omega arith) (omega arith)
 
-take-get : (l : List ℕ) (n i : ℕ) {x : ℕ} → getElem? (take n l) i ≡ some x → (i < n) × (getD l i 0 ≡ x)
+-- and nothing else does
+pub take-get : (l : List ℕ) (n i : ℕ) {x : ℕ} → getElem? (take n l) i ≡ some x → (i < n) × (getD l i 0 ≡ x)
 take-get [] ℕ.zero i e = conflict (cc)
 take-get [] (suc n) i e = conflict (cc)
 take-get (y ∷ l) ℕ.zero i e = conflict (cc)
@@ -163,7 +165,7 @@ marksBy-append place [] b = refl
 marksBy-append place (x ∷ a) b = ap (_∷_ (markBy place x)) (marksBy-append place a b)
 
 -- marks stay where the places of the states called stay
-marks-kept : (s : List ℕ) (place place′ : List ℕ) → ((d : ℕ) → 0 < getD place d 0 → getD place′ d 0 ≡ getD place d 0) → ((j : ℕ) → j < length s → 8192 ≤ getD s j 0 → 0 < getD place (getD s j 0 % 8192) 0) → marksBy place s ≡ marksBy place′ s
+pub marks-kept : (s : List ℕ) (place place′ : List ℕ) → ((d : ℕ) → 0 < getD place d 0 → getD place′ d 0 ≡ getD place d 0) → ((j : ℕ) → j < length s → 8192 ≤ getD s j 0 → 0 < getD place (getD s j 0 % 8192) 0) → marksBy place s ≡ marksBy place′ s
 unfolding markBy
 marks-kept [] place place′ k t = refl
 marks-kept (x ∷ s) place place′ k t = ap₂ _∷_ (one-kept (ltb x 8192) refl) (marks-kept s place place′ k (λ j h g. t (suc j) (omega arith) g))

@@ -11,6 +11,8 @@ use Rattle.formats.specs.Refusal.{Outcome, accepted, refused}
 use Rattle.formats.specs.Sheet.{Sheet}
 use Rattle.transducer.specs.Answers.{linearTest, TestsLinear, translated, Translates, found, FindsSymbol}
 use Rattle.transducer.specs.Linear.{oneIf}
+use Rattle.earliest.specs.Answers.{formOf, MakesEarliest}
+use Rattle.canonical.specs.Answers.{Cleans}
 
 -- an acceptance is returned as 0, and what is left is told by its values; a refusal as its number, and all is left as before
 unfoldable pub told : {A L : Type 0} → (A → L → Type 0) → Outcome A → L → L → ℕ → Type 0
@@ -61,3 +63,10 @@ symbolLeft before nothing = (0, before .1)
 
 abbrev pub ExportsSymbol : List ℕ → List ℕ → List ℕ → List ℕ → ℕ × ℕ → ℕ × ℕ → ℕ → Type 0
 ExportsSymbol stock file tree address before after r = Exported (FindsSymbol stock file tree address) found (λ v after. after ≡ symbolLeft before v) before after r
+
+-- the numbers of states and marks, and the length of what was written; the promise says what is left in the area, also by a refusal
+abbrev pub ExportsEarliest : List ℕ → List ℕ → List ℕ → List ℕ → ℕ × ℕ × ℕ → ℕ × ℕ × ℕ → ℕ → Type 0
+ExportsEarliest stock file area area′ before after r = Exported (MakesEarliest stock file area area′) formOf (λ v after. after ≡ v) before after r
+
+abbrev pub ExportsClean : List ℕ → List ℕ → List ℕ → List ℕ → ℕ × ℕ × ℕ → ℕ × ℕ × ℕ → ℕ → Type 0
+ExportsClean stock file area area′ before after r = Exported (Cleans stock file area area′) formOf (λ v after. after ≡ v) before after r

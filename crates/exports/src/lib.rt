@@ -2,7 +2,10 @@
 // gives the refusal, and gives its values through its last parameters, which a refusal leaves as they were.
 ghost use mathlib.Core.Path.{_≡_};
 ghost use Rattle.formats.specs.Refusal.{number};
-ghost use Rattle.exports.specs.Exported.{ExportsAlphabets, ExportsTree, ExportsFile, ExportsWriting, ExportsLinear, ExportsTranslation, ExportsSymbol};
+ghost use Rattle.exports.specs.Exported.{ExportsAlphabets, ExportsTree, ExportsFile, ExportsWriting, ExportsLinear, ExportsTranslation, ExportsSymbol, ExportsEarliest, ExportsClean};
+use canonical::normal::clean;
+use earliest::earliest::Formed;
+use earliest::earliest::earliest_form;
 use formats::alphabet::AlphabetsRead;
 use formats::alphabet::input_ranks;
 use formats::alphabet::read_alphabets;
@@ -183,5 +186,53 @@ pub extern "C" fn caplune_symbol_at(
             0
         }
         Found::Refused(x) => code(x),
+    }
+}
+
+// Writes the earliest form of a transducer (01: the trimmed sheet) to the start of the area: its states and marks, and how
+// long its file is.
+#[no_mangle]
+pub extern "C" fn caplune_earliest_form(
+    stock: &[u8],
+    file: &[u8],
+    area: &mut [u8],
+    states: &mut usize,
+    marks: &mut usize,
+    length: &mut usize,
+) -> u32
+    ensures { λ r. ⌜ ExportsEarliest (now (stock .entry)) (now (file .entry)) (now (area .entry)) (now (area .exit)) (now (states .entry), now (marks .entry), now (length .entry)) (now (states .exit), now (marks .exit), now (length .exit)) r ⌝ }
+{
+    match earliest_form(stock, file, area) {
+        Formed::Form(k, m, n) => {
+            *states = k;
+            *marks = m;
+            *length = n;
+            0
+        }
+        Formed::Refused(x) => code(x),
+    }
+}
+
+// Writes the normal form of a transducer (01: the clean sheet) to the start of the area: its states and marks, and how long
+// its file is.
+#[no_mangle]
+pub extern "C" fn caplune_clean(
+    stock: &[u8],
+    file: &[u8],
+    area: &mut [u8],
+    states: &mut usize,
+    marks: &mut usize,
+    length: &mut usize,
+) -> u32
+    ensures { λ r. ⌜ ExportsClean (now (stock .entry)) (now (file .entry)) (now (area .entry)) (now (area .exit)) (now (states .entry), now (marks .entry), now (length .entry)) (now (states .exit), now (marks .exit), now (length .exit)) r ⌝ }
+{
+    match clean(stock, file, area) {
+        Formed::Form(k, m, n) => {
+            *states = k;
+            *marks = m;
+            *length = n;
+            0
+        }
+        Formed::Refused(x) => code(x),
     }
 }
