@@ -24,7 +24,7 @@ use Rattle.earliest.specs.declared.early.Grown.{Grown}
 use Rattle.earliest.specs.declared.early.Grown.the-variants.{States, Over}
 use Rattle.earliest.specs.declared.earliest.Formed.{Formed}
 use Rattle.earliest.specs.declared.earliest.Formed.the-variants.{Form, Refused}
-use Rattle.earliest.proofs.Filing.{packed-encoded}
+use Rattle.earliest.proofs.Filing.{form-few, packed-encoded}
 use Rattle.earliest.proofs.Forming.{from-parts, to-parts}
 use Rattle.canonical.specs.Answers.{NormalFile, Cleans}
 use Rattle.canonical.specs.Inner.Normal.{Reducible, Reduces, NormalOf, NormalBy, CleansFile}
@@ -43,8 +43,8 @@ module _ {stock counts bytes from early : List ℕ} {n : ℕ} {r : Grown} (X : M
   }
 
   module _ {k : ℕ} (e : r ≡ States k) where
-    pub normal-reducible : Reducible (inputs stock) (outputs stock) from early k
-    normal-reducible = record { layout = B .layout k e; packed = B .packed k e }
+    pub normal-reducible : {ins outs : List ℕ} → ins ≡ inputs stock → outs ≡ outputs stock → Reducible ins outs from early k
+    normal-reducible i o = rw (i, o) (record { layout = B .layout k e; packed = B .packed k e })
 
     -- the earliest form as a file
     early-file : (k′ : ℕ) × ((counts′ : List ℕ) × ((bytes′ : List ℕ) × EarliestOf stock n counts bytes k′ counts′ bytes′))
@@ -54,8 +54,8 @@ module _ {stock counts bytes from early : List ℕ} {n : ℕ} {r : Grown} (X : M
         (k, (w .0, (w .1, record { alphabets = X .alphabets; machine = X .machine; machine-coded = X .encodes; form = w .2; trimmed = trimmed-form (identical-sym (w .4 l)) (B .trimmed k e (X .machine) (X .encodes) l); form-coded = w .3 })))
 
     -- its quotient by the equivalence of states is the normal form
-    pub normal-states : {starts out : List ℕ} {c : ℕ} → Reduces (inputs stock) (outputs stock) from early k starts out c → NormalBy stock n counts bytes starts out (States c)
-    normal-states {c = c} R = record {
+    normal-here : {starts out : List ℕ} {c : ℕ} → Reduces (inputs stock) (outputs stock) from early k starts out c → NormalBy stock n counts bytes starts out (States c)
+    normal-here {c = c} R = record {
       over = λ z. conflict (cc);
       within = λ c′ z. early-file;
       layout = λ c′ z. let h : c ≡ c′ = cc in rw (← h) (R .layout);
@@ -68,6 +68,9 @@ module _ {stock counts bytes from early : List ℕ} {n : ℕ} {r : Grown} (X : M
           rw (← h) (record { equivalent = equivalent-trans (trimmed-equivalent W T) (N .equivalent); canonical = N .canonical; numbered = N .numbered });
     }
 
+    pub normal-states : {ins outs starts out : List ℕ} {c : ℕ} → ins ≡ inputs stock → outs ≡ outputs stock → Reduces ins outs from early k starts out c → NormalBy stock n counts bytes starts out (States c)
+    normal-states i o R = normal-here (rw (i, o) at R)
+
 -- ---- the file of the normal form
 module _ {stock counts bytes starts out : List ℕ} {n : ℕ} {r : Grown} (B : NormalBy stock n counts bytes starts out r) where
   -- the earliest form is over the limits
@@ -77,6 +80,10 @@ module _ {stock counts bytes starts out : List ℕ} {n : ℕ} {r : Grown} (B : N
   module _ (X : Machine stock n counts bytes) {k : ℕ} (e : r ≡ States k) where
     pub clean-writable : {area : List ℕ} → longest ≤ length area → Writable stock starts out k area
     clean-writable h = record { alphabets = X .alphabets; layout = B .layout k e; packed = B .packed k e; room = h }
+
+    -- the number of its bodies
+    pub clean-small : {ins : List ℕ} → ins ≡ inputs stock → bodyCount ins k ≤ 2049
+    clean-small i = rw i (form-few (B .layout k e) (B .packed k e))
 
     -- what was written is the file of the normal form
     normal-of : {before after : List ℕ} {size : ℕ} (W : WritesForm stock starts out k before after size) → NormalOf stock n counts bytes k (W .counts) (W .marks)
@@ -89,8 +96,8 @@ module _ {stock counts bytes starts out : List ℕ} {n : ℕ} {r : Grown} (B : N
       form-coded = W .encodes;
     }
 
-    pub clean-form : {before after : List ℕ} {size m : ℕ} → WritesForm stock starts out k before after size → m ≡ getD starts (bodyCount (inputs stock) k) 0 → CleansFile stock n counts bytes before after (Form k m size)
-    clean-form W m = pass (B .within k e) (accept (W .counts, (W .marks, (normal-of W, record { marks = omega (arith, W .long); size = W .size; wrote = W .wrote }))))
+    pub clean-form : {ins before after : List ℕ} {size m : ℕ} → WritesForm stock starts out k before after size → ins ≡ inputs stock → m ≡ getD starts (bodyCount ins k) 0 → CleansFile stock n counts bytes before after (Form k m size)
+    clean-form W i t = pass (B .within k e) (accept (W .counts, (W .marks, (normal-of W, record { marks = omega (arith, rw i at t, W .long); size = W .size; wrote = W .wrote }))))
 
 -- ---- of a file: what is answered of its parts is answered of it
 module _ {stock sheet ins counts bytes : List ℕ} {n : ℕ} (O : Opened stock sheet n ins counts bytes) where

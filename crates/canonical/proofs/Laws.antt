@@ -64,8 +64,7 @@ module _ {stock s s′ : List ℕ} {k k′ : ℕ} {counts bytes counts′ bytes�
   pub clean-exact : (file k counts bytes ≡ file k′ counts′ bytes′) ↔ Alike (inputs stock) (F .machine) (F′ .machine)
   clean-exact =
       let l = F .alphabets .leaf in
-      let u = normal-unique (F .normal l) (F′ .normal l) in
-      (
+      let u = normal-unique (F .normal l) (F′ .normal l) in (
         λ e. equivalent-alike l .0 (u .1 (same-file l (form-sheet F) (record { counts = counts′; bytes = bytes′; coded = sym e; encodes = F′ .encodes }))),
         λ a. file-same l (F .encodes) (F′ .encodes) (u .0 (equivalent-alike l .1 a)),
       )
@@ -118,8 +117,7 @@ module _ {stock s s′ : List ℕ} {k k′ : ℕ} {counts bytes counts′ bytes�
   sheets-alike : Alike (inputs stock) (F .machine) (F′ .machine) ↔ SewAlike stock s s′
   sheets-alike =
       let l = F .alphabets .leaf in
-      let few = F .alphabets .ins .few in
-      (
+      let few = F .alphabets .ins .few in (
         λ a. record { alike = λ n n′ M M′ S S′. equivalent-alike l .0 (equivalent-trans (same-equivalent few l S (F .sheet)) (equivalent-trans (equivalent-alike l .1 a) (same-equivalent few l (F′ .sheet) S′))) },
         λ a. a .alike (F .states) (F′ .states) (F .machine) (F′ .machine) (F .sheet) (F′ .sheet),
       )

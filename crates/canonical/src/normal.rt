@@ -36,7 +36,17 @@ fn reduce_by(
 {
     let mut least = [0u8; 128];
     let count = settle_classes(ins, starts, marks, old, classes, &mut least);
-    merge(ins, outs, starts, marks, classes, &least, count, starts2, out);
+    merge(
+        ins,
+        outs,
+        starts,
+        marks,
+        classes,
+        &least,
+        count,
+        starts2,
+        out,
+    );
     count
 }
 
@@ -55,7 +65,16 @@ fn reduce(
 {
     let mut old = [0u8; 128];
     let mut classes = [0u8; 128];
-    reduce_by(ins, outs, starts, marks, &mut old[0..k], &mut classes[0..k], starts2, out)
+    reduce_by(
+        ins,
+        outs,
+        starts,
+        marks,
+        &mut old[0..k],
+        &mut classes[0..k],
+        starts2,
+        out,
+    )
 }
 
 // The normal form of the transducer whose n, counts and marks these are.
@@ -73,7 +92,15 @@ pub fn normal_by(
     let mut from = [0u16; 2050];
     let mut early = [0u8; 16384];
     match earliest_by(stock, n, counts, marks, &mut from, &mut early) {
-        Grown::States(k) => Grown::States(reduce(input_ranks(stock), output_ranks(stock), &from, &early, k, starts, out)),
+        Grown::States(k) => Grown::States(reduce(
+            input_ranks(stock),
+            output_ranks(stock),
+            &from,
+            &early,
+            k,
+            starts,
+            out,
+        )),
         Grown::Over => Grown::Over,
     }
 }

@@ -17,7 +17,7 @@ use Rattle.theory.proofs.Terms.{conflict}
 use Rattle.formats.specs.Inner.Decode.{letters, lettersAll, firsts, grown, put, forest, first}
 use Rattle.formats.specs.Inner.Layout.{symbolOf, trees, tree, IsTree}
 use Rattle.formats.specs.Inner.Marked.{ended}
-use Rattle.formats.specs.Inner.Measured.{treeIf, measured, endAt, Ends, Extents, WholeTree, MeasuredAll}
+use Rattle.formats.specs.Inner.Measured.{treeIf, measured, endAt, Ends, Unary, Extents, WholeTree, MeasuredAll}
 use Rattle.formats.specs.declared.bodies.End.the-variants.{At}
 use Rattle.formats.specs.declared.tree.Extent.{Extent}
 use Rattle.formats.specs.declared.tree.Extent.the-variants.{Tree, Bad}
@@ -177,6 +177,24 @@ child rs s room (suc n) p deep e l h m =
       flat = omega (arith, S .flat, S .deep);
       ends = sym (S .end) ∙ ap (λ F. p + size (first F)) (sym (S .these));
     }
+
+-- a tree at position at: it ends there, and further on
+pub tree-end : (rs s : List ℕ) (room at e l : ℕ) → measured room at (trees rs (drop at s)) ≡ Tree e l → (e ≡ endAt rs s at) × (e ≤ length s) × (l ≤ room)
+tree-end rs s room at e l m = let w = child rs s room 1 at 0 e l (omega arith) m in (w .ends, w .inside, w .flat)
+
+-- a node of rank 1: the tree below it, with one level more
+module _ (rs s : List ℕ) (at room : ℕ) (U : Unary rs s at) (r : 0 < room) where
+  one-below : measured room at (trees rs (drop at s)) ≡ resume (room - 1) 1 (at + 1) 0 (trees rs (drop (at + 1) s))
+  one-below = one-node rs s at room (getD s at 0) 1 r (U .there) refl (U .known) (sym (U .rank))
+
+  pub unary-tree : (e l : ℕ) → measured (room - 1) (at + 1) (trees rs (drop (at + 1) s)) ≡ Tree e l → measured room at (trees rs (drop at s)) ≡ Tree e (l + 1)
+  unary-tree e l m =
+      let w = child rs s (room - 1) 1 (at + 1) 0 e l (omega arith) m in
+      let q : max 0 l + 1 ≡ l + 1 = omega arith in
+      one-below ∙ w .next ∙ no-more (room - 1) e (max 0 l) (trees rs (drop e s)) (1 - 1) (omega arith) ∙ ap (Tree e) q
+
+  pub unary-bad : measured (room - 1) (at + 1) (trees rs (drop (at + 1) s)) ≡ Bad → measured room at (trees rs (drop at s)) ≡ Bad
+  unary-bad m = one-below ∙ bad-child (room - 1) 1 (at + 1) 0 (trees rs (drop (at + 1) s)) (omega arith) m
 
 -- ---- the table of ends
 -- what stood there before the child at p, and what the child put there

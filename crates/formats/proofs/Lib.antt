@@ -12,6 +12,7 @@ pub mod Cuts
 pub mod Lines
 pub mod Sheets
 pub mod Extents
+pub mod Runs
 pub mod Trees
 pub mod Stock
 pub mod Deciding

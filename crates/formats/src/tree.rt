@@ -2,7 +2,8 @@
 ghost use Prim.Native.Nat.{_≤_};
 ghost use lib.ListN.{length};
 ghost use Rattle.formats.specs.Answers.{ReadsTree};
-ghost use Rattle.formats.specs.Inner.Measured.{Extents, MeasuredAll};
+ghost use Rattle.formats.specs.Refusal.{Decides};
+ghost use Rattle.formats.specs.Inner.Measured.{Begins, Run, Repeated, Extents, MeasuredAll};
 use crate::alphabet::alphabets_right;
 use crate::alphabet::input_ranks;
 use crate::bytes::larger;
@@ -21,22 +22,72 @@ pub enum TreeRead {
     Refused(Refusal),
 }
 
-// Measures the tree at `at`, of at most `room` levels, and notes in `ends` where each of its subtrees ends.
+// Whether a tree of at most `room` levels can begin at `at`: a symbol stands there.
+fn begins(ranks: &[u8], s: &[u8], at: usize, room: usize) -> bool
+    ensures { λ b. ⌜ Decides (Begins (now (ranks .entry)) (now (s .entry)) at room) b ⌝ }
+{
+    if at >= s.len() {
+        return false;
+    }
+    if room == 0 {
+        return false;
+    }
+    wide(s[at]) < ranks.len()
+}
+
+// Where the nodes of rank 1 end that follow one another from `at` on: `room` of them at most.
+fn run_end(ranks: &[u8], s: &[u8], at: usize, room: usize) -> usize
+    ensures { λ r. ⌜ Run (now (ranks .entry)) (now (s .entry)) at room r ⌝ }
+{
+    let mut p = at;
+    let mut left = room;
+    while left > 0 {
+        if !begins(ranks, s, p, left) {
+            return p;
+        }
+        if ranks[wide(s[p])] != 1 {
+            return p;
+        }
+        p += 1;
+        left -= 1;
+    }
+    p
+}
+
+// Notes `e` as the end of each subtree at `from` up to `to`.
+fn note(ends: &mut [u16], from: usize, to: usize, e: u16)
+    requires { ⌜ (from ≤ to) × (to ≤ length (now ends)) ⌝ }
+    ensures { λ _. ⌜ Repeated (now (ends .entry)) (now (ends .exit)) from to e ⌝ }
+{
+    let mut k = from;
+    while k < to {
+        ends[k] = e;
+        k += 1;
+    }
+}
+
+// Measures the tree at `at`, of at most `room` levels, and notes in `ends` where each of its subtrees ends. Nodes of rank 1 that
+// follow one another end where the tree below them ends.
 pub(crate) fn measure(ranks: &[u8], s: &[u8], at: usize, room: usize, ends: &mut [u16]) -> Extent
     requires { ⌜ (length (now s) ≤ 4096) × (length (now s) ≤ length (now ends)) ⌝ }
     ensures { λ r. ⌜ Extents (now (ranks .entry)) (now (s .entry)) at room (now (ends .entry)) (now (ends .exit)) r ⌝ }
 {
-    if at >= s.len() {
+    if !begins(ranks, s, at, room) {
         return Extent::Bad;
     }
-    if room == 0 {
-        return Extent::Bad;
+    let mut left = wide(ranks[wide(s[at])]);
+    if left == 1 {
+        let top = run_end(ranks, s, at + 1, room - 1);
+        match measure(ranks, s, top, room - (top - at), ends) {
+            Extent::Tree(e, l) => {
+                note(ends, at, top, e as u16);
+                return Extent::Tree(e, l + (top - at));
+            }
+            Extent::Bad => {
+                return Extent::Bad;
+            }
+        }
     }
-    let k = wide(s[at]);
-    if k >= ranks.len() {
-        return Extent::Bad;
-    }
-    let mut left = wide(ranks[k]);
     let mut p = at + 1;
     let mut deep = 0;
     while left > 0 {

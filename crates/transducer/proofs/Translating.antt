@@ -52,9 +52,9 @@ module _ {ins outs : List ℕ} {n : ℕ} {counts bytes : List ℕ} (starts : Lis
       rw (← zero-add j, ← d .1) c
 
   -- it can be walked, and gives the code of the translation
-  pub walkable : (s ends : List ℕ) (to : ℕ) → to ≡ getD starts 1 0 → IsTree ins s → Input ins s ends → Walkable ins starts bytes s ends 0 to 0
+  pub walkable : (s ends : List ℕ) (to : ℕ) → to ≡ getD starts 1 0 → IsTree ins s → Input ins s ends → length ends ≡ 4096 → Walkable ins starts bytes s ends 0 to 0
   unfolding body trees offset table
-  walkable s ends to e T I =
+  walkable s ends to e T I h =
       let L = laid starts R S long in
       let y = S 1 (omega arith) in
       record {
@@ -63,6 +63,8 @@ module _ {ins outs : List ℕ} {n : ℕ} {counts bytes : List ℕ} (starts : Lis
         ordered = omega arith;
         inside = omega (arith, L .inside 1 (omega arith));
         callable = λ j h k. rw (T .one) (callable-initial j (omega arith));
+        all-starts = long;
+        all-ends = h;
       }
 
   pub gives : (s : List ℕ) (to : ℕ) → to ≡ getD starts 1 0 → IsTree ins s → walked ins starts bytes s 0 0 to ≡ code (translate (transducer ins outs n (offset counts) bytes) (tree ins s))
@@ -99,7 +101,7 @@ module _ {stock : List ℕ} {n : ℕ} {counts bytes : List ℕ} (X : Machine sto
 
       module _ (starts : List ℕ) (S : Starts counts starts (bodyCount ins n)) (long : length starts ≡ 2050) (to : ℕ) (f : to ≡ getD starts 1 0) where
         pub can-walk : length ends ≡ 4096 → Walkable ins starts bytes s ends 0 to 0
-        can-walk h = rw e (walkable starts machine-right machine-wholes (rw e at S) long s ends to f (read-whole .one) (read-input h))
+        can-walk h = rw e (walkable starts machine-right machine-wholes (rw e at S) long s ends to f (read-whole .one) (read-input h) h)
 
         given-code : walked ins starts bytes s 0 0 to ≡ code (translate (transducer (inputs stock) (outputs stock) n (offset counts) bytes) (tree (inputs stock) s))
         given-code = ap (λ i. walked i starts bytes s 0 0 to) e ∙ gives starts machine-right machine-wholes (rw e at S) long s to f (read-whole .one)
@@ -113,14 +115,14 @@ module _ {stock : List ℕ} {n : ℕ} {counts bytes : List ℕ} (X : Machine sto
 
           pub too-long : length before < k → TranslatesBy stock n counts bytes s before after (Refused LongOutput)
           too-long h =
-              let l : length before < length (walked ins starts bytes s 0 0 to) = omega (arith, E .size) in
-              pass tree-there (refuse (λ w. omega (arith, output-long, w .1 .1, ap size (output-unique (w .1 .0) (output-read s read-whole)))) (E .full l))
+              let (l, a) = E .full h in
+              pass tree-there (refuse (λ w. omega (arith, output-long, w .1 .1, ap size (output-unique (w .1 .0) (output-read s read-whole)))) a)
 
           pub all-written : k ≤ length before → TranslatesBy stock n counts bytes s before after (Symbols k)
           all-written h =
-              let l : length (walked ins starts bytes s 0 0 to) ≤ length before = omega (arith, E .size) in
+              let (l, a) = E .fits h in
               let O = output-read s read-whole in
-              pass tree-there (pass (_, (O, omega (arith, output-long))) (accept (_, (O, omega (arith, output-long, E .size), E .fits l ∙ ap (sets before 0) given-code))))
+              pass tree-there (pass (_, (O, omega (arith, output-long))) (accept (_, (O, omega (arith, output-long), a ∙ ap (sets before 0) given-code))))
 
 -- ---- the file: what is answered of its parts is answered of it
 module _ {stock sheet ins counts bytes design : List ℕ} {n : ℕ} (O : Opened stock sheet n ins counts bytes) where

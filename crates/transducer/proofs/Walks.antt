@@ -5,7 +5,7 @@ use native.Mathlib.Numerals.{add-one}
 use native.Mathlib.Omega.{arith}
 use mathlib.Core.Bool.{Bool, true, false}
 use mathlib.Core.Path.{_≡_, refl, sym, ap, ap₂, _∙_}
-use mathlib.Core.List.{List, [], _∷_, _++_}
+use mathlib.Core.List.{List, [], _∷_, _++_, append-nil}
 use lib.Dec.{leb, ltb}
 use lib.ListN.{length, getD, drop, length-drop}
 use lib.Seq.{drop-cons, slice-empty}
@@ -192,6 +192,8 @@ to-walk {ins} {starts} {bytes} {s} {ends} {q} {p} {a} {from} {to} R e f g =
         ordered = rw (f, g) (T .ordered (bodyNumber ins q a) less);
         inside = rw g (T .inside (bodyNumber ins q a + 1) (omega arith));
         callable = λ j h l i. let c = T .callable q a j (R .state) k (omega arith) (omega arith) i in (omega (arith, c .0, N .enough, ap (λ b. getD ins b 0) e), c .1);
+        all-starts = R .all-starts;
+        all-ends = R .all-ends;
       },
       rw (f, g, e) (apply-walk ins starts bytes s T (R .input .whole) q p (R .state) (R .place)),
     )
@@ -214,4 +216,36 @@ module _ {ins starts bytes s ends : List ℕ} {from to below : ℕ} (W : Walkabl
   to-apply {i} {x} {p} e some f k =
       let c = call-in W j h g (λ z. some (e ∙ z)) in
       let z : p ≡ hop ends (getD bytes (2 * j) 0 - 1) below = k ∙ ap (λ n. hop ends (n - 1) below) e in
-      (record { table = W .table; input = W .input; state = rw f (c .state); place = rw z (c .inside) }, rw z (c .after), rw (z, f) (c .writes))
+      (record { table = W .table; input = W .input; state = rw f (c .state); place = rw z (c .inside); all-starts = W .all-starts; all-ends = W .all-ends }, rw z (c .after), rw (z, f) (c .writes))
+
+-- the marks behind the first
+pub walk-on : {ins starts bytes s ends : List ℕ} {from to below : ℕ} → Walkable ins starts bytes s ends from to below → from < to → Walkable ins starts bytes s ends (from + 1) to below
+walk-on W h = record { table = W .table; input = W .input; ordered = omega arith; inside = W .inside; callable = λ j k l. W .callable j (omega arith) l; all-starts = W .all-starts; all-ends = W .all-ends }
+
+-- ---- by the number of a body
+module _ {ins starts bytes s ends : List ℕ} {q p : ℕ} (R : Ready ins starts bytes s ends q p) where
+  pub body-fits : bodyNumber ins q (getD s p 0) + 1 < length starts
+  body-fits = number-fits R refl
+
+  module _ {b from to : ℕ} (e : b ≡ bodyNumber ins q (getD s p 0)) (f : from ≡ getD starts b 0) (g : to ≡ getD starts (b + 1) 0) where
+    pub body-walk : Walkable ins starts bytes s ends from to (p + 1) × (applied ins starts bytes s q p ≡ walked ins starts bytes s (p + 1) from to)
+    body-walk = to-walk R refl (f ∙ ap (λ k. getD starts k 0) e) (g ∙ ap (λ k. getD starts (k + 1) 0) e)
+
+    -- a right-hand side that is one symbol
+    pub one-symbol : to ≡ from + 1 → getD bytes (2 * from) 0 ≡ 0 → applied ins starts bytes s q p ≡ getD bytes (2 * from + 1) 0 ∷ []
+    one-symbol h z =
+        let w = body-walk in
+        w .1 ∙ walk-symbol ins starts bytes s (p + 1) from to (omega arith) (w .0 .inside) z ∙ ap (_∷_ (getD bytes (2 * from + 1) 0)) (walk-end ins starts bytes s (p + 1) (from + 1) to (omega arith) (omega arith))
+
+-- the last mark is a call: what is left is the walk of the right-hand side that is called
+pub last-call : {ins starts bytes s ends : List ℕ} {j to below : ℕ} (W : Walkable ins starts bytes s ends j to below) → j < to → to ≤ j + 1 → {i x p b from upto : ℕ} → i ≡ getD bytes (2 * j) 0 → (i ≡ 0 → ⊥) → x ≡ getD bytes (2 * j + 1) 0 → p ≡ hop ends (i - 1) below
+    → b ≡ bodyNumber ins x (getD s p 0) → from ≡ getD starts b 0 → upto ≡ getD starts (b + 1) 0
+    → Walkable ins starts bytes s ends from upto (p + 1) × (below ≤ p) × (p < length s) × (walked ins starts bytes s below j to ≡ walked ins starts bytes s (p + 1) from upto)
+last-call {ins} {starts} {bytes} {s} {ends} {j} {to} {below} W h l {i} {x} {p} e some f k g m n =
+    let a = to-apply W j (omega arith) h e some f k in
+    let w = body-walk (a .0) g m n in
+    (w .0, a .1, a .0 .place, a .2 ∙ ap (λ v. applied ins starts bytes s x p ++ v) (walk-end ins starts bytes s below (j + 1) to (omega arith) l) ∙ append-nil (applied ins starts bytes s x p) ∙ w .1)
+
+-- the place in the input has risen, whatever marks are left
+pub input-falls : (n below p d e : ℕ) → below ≤ p → p < n → d < 18446744073709551616 → 18446744073709551616 * (n - (p + 1)) + d < 18446744073709551616 * (n - below) + e
+input-falls n below p d e h g l = omega arith

@@ -70,6 +70,8 @@ pub record Ready (ins starts bytes s ends : List ℕ) (q p : ℕ) : Type 0 where
   pub input : Input ins s ends
   pub state : q < table .states
   pub place : p < length s
+  pub all-starts : length starts ≡ 2050
+  pub all-ends : length ends ≡ 4096
 
 -- the marks number `from` up to `to` can be walked over the trees from `below` on
 pub record Walkable (ins starts bytes s ends : List ℕ) (from to below : ℕ) : Type 0 where
@@ -78,9 +80,21 @@ pub record Walkable (ins starts bytes s ends : List ℕ) (from to below : ℕ) :
   pub ordered : from ≤ to
   pub inside : 2 * to ≤ length bytes
   pub callable : (j : ℕ) → from ≤ j → j < to → Callable (table .states) (count (trees ins (drop below s))) (markAt bytes j)
+  pub all-starts : length starts ≡ 2050
+  pub all-ends : length ends ≡ 4096
 
--- w was written from the start of the area, if there is room for it: how much that is, or one more than there is room for
+-- w was written from `at` on, as far as there is room: where it ends, or one past the area
+pub record Filled (w : List ℕ) (at : ℕ) (before after : List ℕ) (r : ℕ) : Type 0 where
+  pub place : r ≡ min (at + length w) (length before + 1)
+  pub wrote : at + length w ≤ length before → after ≡ sets before at w
+
+-- sizes of what states write: the size at k is that of state q on the tree at p, where the key at k is that of q and p
+pub record Noted (ins starts bytes s keys sizes : List ℕ) : Type 0 where
+  pub long : length keys ≡ 4096
+  pub wide : length sizes ≡ 4096
+  pub right : (k q p : ℕ) → p < 4096 → getD keys k 0 ≡ 4096 * (q + 1) + p → getD sizes k 0 ≡ length (applied ins starts bytes s q p)
+
+-- w was written from the start of the area, if there is room for it: how much that is, or more than there is room for
 pub record Emitted (w before after : List ℕ) (r : ℕ) : Type 0 where
-  pub size : r ≡ min (length w) (length before + 1)
-  pub fits : length w ≤ length before → after ≡ sets before 0 w
-  pub full : length before < length w → after ≡ before
+  pub fits : r ≤ length before → (r ≡ length w) × (after ≡ sets before 0 w)
+  pub full : length before < r → (length before < length w) × (after ≡ before)

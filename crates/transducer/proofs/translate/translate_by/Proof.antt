@@ -38,12 +38,6 @@ array-read-number c = search needs
 number-requires : tie.Need-number-requires
 number-requires c κs = search needs
 
-slice-aggregate-emit : tie.Need-slice-aggregate-emit
-slice-aggregate-emit c = search needs
-
-slice-aggregate-emit-2 : tie.Need-slice-aggregate-emit-2
-slice-aggregate-emit-2 c = search needs
-
 emit-requires : tie.Need-emit-requires
 emit-requires c κs =
     let F = c .before .before .before .before .before .before .before .before .before .before .fill-starts in
@@ -88,8 +82,6 @@ translate-by-spec =
     enum-told
     array-read-number
     number-requires
-    slice-aggregate-emit
-    slice-aggregate-emit-2
     emit-requires
     same-length
     returns
