@@ -8,10 +8,21 @@
 //! are input symbols, block kinds are output symbols, and the places of a kind are its rank); a
 //! design is an input *tree* and a plan an output tree; a sheet is a *transducer*, a pass a
 //! *state*, a line a *right-hand side*, the opening the *initial term*, an open end a *call*;
-//! a place is an *address*.
+//! a place is an *address*. A head is a *prefix*, the trimmed sheet the *earliest form*, and the clean
+//! sheet the *minimal earliest transducer*.
 //!
 //! Every function answers `Result<_, u32>`, where the error is the paper's refusal number, and
-//! tests in the paper's order: 1, 2, 4, 5, 3, 6. A refusal changes nothing that was lent.
+//! tests in the paper's order: 1, 9, 2, 4, 5, 3, 6, 7, 8. A refusal changes nothing that was lent.
+
+mod book;
+mod earliest;
+mod minimal;
+mod search;
+
+pub use book::{Book, Head, Record, MAX_HELD, RECORDS};
+pub use earliest::{earliest, prefixes, Trimmed};
+pub use minimal::{clean, clean_into, compare, Verdict};
+pub use search::{count_trees, search_difference};
 
 /// Refusal 1: an area is shorter than its length in the paper.
 pub const AREA_TOO_SHORT: u32 = 1;
@@ -25,6 +36,12 @@ pub const WRONG_COUNTS: u32 = 4;
 pub const WRONG_TERM: u32 = 5;
 /// Refusal 6: the output tree has more symbols than its area has bytes.
 pub const OUTPUT_TOO_LONG: u32 = 6;
+/// Refusal 7: the earliest form passes a limit of transducers.
+pub const OVER_LIMITS: u32 = 7;
+/// Refusal 8: a book has no room.
+pub const BOOK_FULL: u32 = 8;
+/// Refusal 9: not a book.
+pub const NOT_A_BOOK: u32 = 9;
 
 /// The most input symbols.
 pub const MAX_INPUTS: usize = 16;

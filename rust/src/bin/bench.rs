@@ -1,5 +1,6 @@
 //! Times the proved library against the independent implementation, in one run, and where
-//! `xsltproc` is installed against the same transducer as an XSLT 1.0 stylesheet.
+//! `xsltproc` is installed against the same transducer as an XSLT 1.0 stylesheet, and where OpenFst's
+//! `fstminimize` is installed against the minimization of the same transducer on strings.
 //!
 //! `cargo run --release --offline --bin bench`
 use caplune::independent;
@@ -46,7 +47,10 @@ fn main() {
     let cases = cases();
     reading(&cases);
     translating(&cases);
+    // without the proved library, which does not minimize yet
+    cleaning(None);
     stylesheets(&cases);
+    string_transducers();
 }
 
 /// Prints a line: the times of both sides, taken in turn, and how many times longer the proved
@@ -169,6 +173,169 @@ fn translating(cases: &[Case]) {
             &mut || discard(black_box(caplune::symbol_at(stock, file, tree, black_box(&address)))),
             &mut || discard(black_box(independent::symbol_at(stock, file, tree, black_box(&address)))),
         );
+    }
+}
+
+/// One transducer to minimize.
+struct Sheet {
+    name: &'static str,
+    stock: Vec<u8>,
+    file: Vec<u8>,
+}
+
+/// Minimizes the transducer of a stock and a file into an area.
+type Minimize<'a> = &'a dyn Fn(&[u8], &[u8], &mut [u8]);
+
+/// Minimization, by the proved library where it is given, and by the independent implementation.
+fn cleaning(proved: Option<Minimize>) {
+    for Sheet { name, stock, file } in sheets() {
+        let outcome = match independent::clean(&stock, &file) {
+            Ok(clean) => format!("{} left", clean[0]),
+            Err(number) => format!("refused by {number}"),
+        };
+        let area = RefCell::new(vec![1; independent::MAX_FILE]);
+        let mut independent = || {
+            let area = &mut area.borrow_mut()[..];
+            discard(black_box(independent::clean_into(&stock, black_box(&file), area)))
+        };
+        let name = format!("minimize, {name}: {outcome}");
+        match proved {
+            Some(proved) => {
+                let mut proved = || proved(&stock, black_box(&file), &mut area.borrow_mut());
+                line(&name, file.len(), &mut proved, &mut independent);
+            }
+            None => {
+                println!("{name:52} {:9} {:>12} {:>12}", file.len(), "-", show(time(&mut independent)));
+            }
+        }
+    }
+}
+
+/// The time of one call.
+fn time(call: &mut dyn FnMut()) -> f64 {
+    let times = calibrate(call);
+    (0..BATCHES).map(|_| batch(call, times)).fold(f64::INFINITY, f64::min)
+}
+
+/// The states in a ring or a chain: `side` gives the right-hand side of a state at a symbol.
+fn rows(states: u8, inputs: u8, initial: &[u8], side: &dyn Fn(u8, u8) -> Vec<u8>) -> Vec<u8> {
+    let sides = (0..states).flat_map(|state| (0..inputs).map(move |symbol| side(state, symbol)));
+    let terms: Vec<Vec<u8>> = std::iter::once(initial.to_vec()).chain(sides).collect();
+    file(states, &terms.iter().map(Vec::as_slice).collect::<Vec<_>>())
+}
+
+fn sheets() -> Vec<Sheet> {
+    // u and e of ranks 1 and 0 to f, c, d of ranks 2, 0, 0
+    let stock = vec![2, 1, 0, 3, 2, 0, 0];
+    let t_prime = |states: u8| {
+        rows(states, 2, &[1, 0], &|state, symbol| match symbol {
+            0 => vec![0, 0, 1, (state + 1) % states, 1, (state + 1) % states],
+            _ => vec![0, 0, 0, 1, 0, 1],
+        })
+    };
+    // each state calls the next at u and gives c at e; only the last gives d there
+    let root = rows(128, 2, &[1, 0], &|state, symbol| match (state, symbol) {
+        (127, 0) => vec![0, 1],
+        (_, 0) => vec![1, state + 1],
+        _ => vec![0, 1 + state / 127],
+    });
+    // A ring; at e the comb f(c, f(c, ...)) of 31 f, but in the last state with d as its first leaf; at
+    // u the call of the next state, but in the last one f(c, q0(x1)). That the first leaf varies goes
+    // round the ring, then that the second one does, and so on: no other order finds it sooner.
+    let comb = |states: u8| {
+        rows(states, 2, &[1, 0], &|state, symbol| match symbol {
+            0 if state + 1 < states => vec![1, state + 1],
+            0 => vec![0, 0, 0, 1, 1, 0],
+            _ => {
+                let mut comb = [[0, 0, 0, 1].repeat(31), vec![0, 1]].concat();
+                comb[3] += u8::from(state + 1 == states);
+                comb
+            }
+        })
+    };
+    // 15 symbols of rank 1 at which other states are called, all with one comb of 23 f at the symbol of
+    // rank 0, but for one leaf in the last: the most nodes that lie over others
+    let wide_stock = [vec![16], vec![1; 15], vec![0, 4, 2, 0, 0, 1]].concat();
+    let crossing = |last: u8| {
+        rows(128, 16, &[1, 0], &|state, symbol| match symbol {
+            15 => {
+                let mut comb = [[0, 0, 0, 1].repeat(23), vec![0, 1]].concat();
+                comb[4 * 23 + 1] = if state == 127 { last } else { 1 };
+                comb
+            }
+            _ => vec![1, (state + 1 + symbol * symbol) % 128],
+        })
+    };
+    // u to f(next, next), and c at e; only the last state gives d, or none does
+    let chain = |last: u8| {
+        rows(128, 2, &[1, 0], &|state, symbol| match symbol {
+            0 => vec![0, 0, 1, (state + 1).min(127), 1, (state + 1).min(127)],
+            _ => vec![0, if state == 127 { last } else { 1 }],
+        })
+    };
+    // the same with 15 symbols of rank 1, and g(f(next, next))
+    let wide = rows(128, 16, &[1, 0], &|state, symbol| match symbol {
+        15 => vec![0, 1 + state / 127],
+        _ => vec![0, 3, 0, 0, 1, (state + 1).min(127), 1, (state + 1).min(127)],
+    });
+    let sheet = |name, stock: &[u8], file| Sheet { name, stock: stock.to_vec(), file };
+    let random_stock = [5, 2, 1, 1, 0, 0, 8, 2, 2, 1, 1, 0, 0, 0, 0];
+    vec![
+        sheet("T'", &stock, t_prime(1)),
+        sheet("ring of 64", &stock, t_prime(64)),
+        sheet("128 random states", &random_stock, random(&random_stock)),
+        sheet("prefixes, a conflict in 128", &stock, root),
+        sheet("prefixes, 32 conflicts in 4", &stock, comb(4)),
+        sheet("prefixes, 32 in 127", &stock, comb(127)),
+        sheet("prefixes, 15 calls, agreeing", &wide_stock, crossing(1)),
+        sheet("prefixes, 15 calls, a conflict", &wide_stock, crossing(2)),
+        sheet("merging, 128 equal states", &stock, chain(1)),
+        sheet("merging, chain of 128", &stock, chain(2)),
+        sheet("merging, chain of 128, 30 calls", &wide_stock, wide),
+    ]
+}
+
+/// Numbers below a bound, from a seed: xorshift.
+struct Numbers(u64);
+
+impl Numbers {
+    fn below(&mut self, bound: usize) -> usize {
+        self.0 ^= self.0 << 13;
+        self.0 ^= self.0 >> 7;
+        self.0 ^= self.0 << 17;
+        (self.0 >> 20) as usize % bound
+    }
+}
+
+/// A transducer of 128 random states, of which over 120 are left in the minimal one.
+fn random(stock: &[u8]) -> Vec<u8> {
+    let alphabets = independent::read_alphabets(stock).expect("the alphabets are read");
+    let mut numbers = Numbers(0x9e37_79b9_7f4a_7c15);
+    loop {
+        let mut terms = vec![vec![1, 0]];
+        for number in 0..128 * alphabets.inputs.len() {
+            let reach = alphabets.inputs[number % alphabets.inputs.len()].into();
+            let mut term = Vec::new();
+            let mut owed = 1;
+            while owed > 0 {
+                owed -= 1;
+                let symbol = match numbers.below(4) {
+                    0 | 1 if term.len() < 16 => numbers.below(4),
+                    2 | 3 if reach > 0 => {
+                        term.extend([1 + numbers.below(reach) as u8, numbers.below(128) as u8]);
+                        continue;
+                    }
+                    _ => 4 + numbers.below(4),
+                };
+                term.extend([0, symbol as u8]);
+                owed += usize::from(alphabets.outputs[symbol]);
+            }
+            terms.push(term);
+        }
+        let file = file(128, &terms.iter().map(Vec::as_slice).collect::<Vec<_>>());
+        if independent::clean(stock, &file).is_ok_and(|clean| clean[0] > 120) {
+            return file;
+        }
     }
 }
 
@@ -326,6 +493,142 @@ fn document_of(case: &Case) -> String {
         }
     }
     document
+}
+
+/// Transducers whose input symbols have ranks 1 and 0, and whose terms have no fork, translate
+/// strings: at a state the right-hand side of a symbol of rank 1 is a string and a call, and that of a
+/// symbol of rank 0 a string. OpenFst has them as deterministic transducers: a state is a state, and a
+/// right-hand side an arc that reads the symbol and writes the string; since an arc writes at most one
+/// symbol, the others are written by arcs behind it that read nothing. `fstminimize` does there what
+/// minimization does here: it pushes the output labels towards the initial state, which is the
+/// earliest form, encodes the labels and merges equal states. Its states that read a symbol are as
+/// many as the states of the minimal transducer, which is asserted.
+///
+/// What is timed is the process of `fstminimize`, with starting, reading and writing the binary
+/// machine, against a call in this process; a machine of one state takes hardly more than its start.
+fn string_transducers() {
+    println!();
+    let installed = ["fstcompile", "fstminimize", "fstprint"].iter().all(|name| {
+        let status = Command::new(name).arg("--help").stdout(Stdio::null()).stderr(Stdio::null()).status();
+        status.is_ok()
+    });
+    if !installed {
+        println!("OpenFst is not installed: no comparison with fstminimize.");
+        return;
+    }
+    let folder = std::env::temp_dir().join(format!("caplune-fst-{}", std::process::id()));
+    std::fs::create_dir_all(&folder).expect("a folder for the machines");
+    println!("OpenFst's fstminimize: the time of its process, with starting, reading and writing, against a call");
+    println!("in this process. The first line is hardly more than its start, which the second ratio leaves out.");
+    println!(
+        "{:52} {:>9} {:>12} {:>12} {:>12} {:>8} {:>8}",
+        "", "states", "fstminimize", "past start", "independent", "ratio", "ratio"
+    );
+    let mut start = None;
+    for sheet in string_sheets() {
+        let time = string_transducer(&folder, &sheet, start);
+        start = start.or(Some(time));
+    }
+    let _ = std::fs::remove_dir_all(&folder);
+}
+
+/// Transducers on strings, whose initial term is a call of state 0.
+fn string_sheets() -> Vec<Sheet> {
+    // u and e of ranks 1 and 0 to g, c, d of ranks 1, 0, 0
+    let stock = vec![2, 1, 0, 3, 1, 0, 0];
+    let one = rows(1, 2, &[1, 0], &|_, symbol| if symbol == 0 { vec![0, 0, 1, 0] } else { vec![0, 1] });
+    // T' on strings, in a ring: u to g(next), e to g(c)
+    let ring = rows(128, 2, &[1, 0], &|state, symbol| match symbol {
+        0 => vec![0, 0, 1, (state + 1) % 128],
+        _ => vec![0, 0, 0, 1],
+    });
+    let chain = rows(128, 2, &[1, 0], &|state, symbol| match symbol {
+        0 => vec![0, 0, 1, (state + 1).min(127)],
+        _ => vec![0, 1 + state / 127],
+    });
+    // 14 symbols of rank 1 and 2 of rank 0; strings of at most 2 symbols, of 4
+    let wide_stock = [vec![16], vec![1; 14], vec![0, 0, 8], vec![1; 4], vec![0; 4]].concat();
+    let numbers = RefCell::new(Numbers(7));
+    let below = |bound: usize| numbers.borrow_mut().below(bound);
+    let wide = rows(128, 16, &[1, 0], &|_, symbol| {
+        let mut side: Vec<u8> = (0..below(3)).flat_map(|_| [0, below(4) as u8]).collect();
+        side.extend(if symbol < 14 { [1, below(128) as u8] } else { [0, 4 + below(4) as u8] });
+        side
+    });
+    let sheet = |name, stock: &[u8], file| Sheet { name, stock: stock.to_vec(), file };
+    vec![
+        sheet("strings, one state", &stock, one),
+        sheet("strings, ring of 128 states", &stock, ring),
+        sheet("strings, chain of 128 states", &stock, chain),
+        sheet("strings, 128 random states, 16 symbols", &wide_stock, wide),
+    ]
+}
+
+/// Prints a line for a transducer, and answers the time of the process; `start` is that of its start.
+fn string_transducer(folder: &Path, sheet: &Sheet, start: Option<f64>) -> f64 {
+    let [text, machine, minimal] = ["machine.txt", "machine.fst", "minimal.fst"].map(|name| folder.join(name));
+    std::fs::write(&text, machine_of(sheet)).expect("the machine is written");
+    let run = |name: &str, from: &Path, to: &Path| {
+        let status = Command::new(name).arg(from).arg(to).status();
+        assert!(status.expect("OpenFst runs").success());
+    };
+    run("fstcompile", &text, &machine);
+    let process =
+        (0..BATCHES).map(|_| batch(&mut || run("fstminimize", &machine, &minimal), 1)).fold(f64::INFINITY, f64::min);
+    let printed = Command::new("fstprint").arg(&minimal).output().expect("OpenFst runs").stdout;
+    // an arc is printed as its states, what it reads and what it writes; 0 is nothing
+    let printed = String::from_utf8(printed).expect("a text");
+    let arcs = printed.lines().map(|line| line.split('\t').collect::<Vec<_>>()).filter(|arc| arc.len() >= 4);
+    let reading: std::collections::BTreeSet<_> =
+        arcs.filter(|arc| arc[2] != "0").map(|arc| arc[0].to_owned()).collect();
+    let clean = independent::clean(&sheet.stock, &sheet.file).expect("it is minimized");
+    assert_eq!(reading.len(), usize::from(clean[0]), "{}", sheet.name);
+    let mut area = vec![1; independent::MAX_FILE];
+    let independent =
+        time(&mut || discard(black_box(independent::clean_into(&sheet.stock, black_box(&sheet.file), &mut area))));
+    let name = format!("{}: {} left", sheet.name, clean[0]);
+    let states = sheet.file[0];
+    let past = process - start.unwrap_or(process);
+    println!(
+        "{name:52} {states:9} {:>12} {:>12} {:>12} {:8.0} {:8.0}",
+        show(process),
+        show(past),
+        show(independent),
+        process / independent,
+        past / independent
+    );
+    let _ = std::io::stdout().flush();
+    process
+}
+
+/// A transducer on strings as OpenFst's text: lines of two states, what is read and what is written.
+/// The first line starts at state 0, which the initial term calls.
+fn machine_of(sheet: &Sheet) -> String {
+    let inputs = usize::from(sheet.stock[0]);
+    let read = independent::read_transducer(&sheet.stock, &sheet.file).expect("the transducer is read");
+    let end = read.states;
+    // states that read nothing, between two symbols that a right-hand side writes
+    let mut next = end + 1;
+    let mut text = String::new();
+    let mut marks = read.marks.chunks(2).skip(1);
+    for (number, count) in read.counts.chunks(2).skip(1).enumerate() {
+        let side: Vec<&[u8]> = marks.by_ref().take(usize::from(count[1])).collect();
+        let (string, to) = match side.split_last() {
+            Some((&[1, state], string)) => (string, usize::from(*state)),
+            _ => (&side[..], end),
+        };
+        let (mut from, mut reads) = (number / inputs, 1 + number % inputs);
+        for at in 0..string.len().max(1) {
+            let last = at + 1 >= string.len();
+            let behind = if last { to } else { next };
+            next += usize::from(!last);
+            let writes = string.get(at).map_or(0, |mark| 1 + usize::from(mark[1]));
+            text.push_str(&format!("{from} {behind} {reads} {writes}\n"));
+            (from, reads) = (behind, 0);
+        }
+    }
+    text.push_str(&format!("{end}\n"));
+    text
 }
 
 /// The file of a transducer.

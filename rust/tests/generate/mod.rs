@@ -1,5 +1,10 @@
 //! Random alphabets, trees, transducers and addresses, valid ones and damaged ones, from a seed.
 
+// Each test program uses some of it.
+#![allow(dead_code)]
+
+pub mod alike;
+
 /// A small generator of numbers: xorshift, with a multiplication at the end.
 pub struct Random(u64);
 

@@ -1,0 +1,701 @@
+//! The independent implementation by itself: earliest form, minimal transducer, equivalence and book,
+//! on the paper's samples and on random transducers, against the definitions word for word
+//! (`oracle`), against outputs on all small input trees, and on transducers that are equivalent by
+//! construction. `cargo test --release --offline --test independent -- --nocapture` prints how often
+//! each kind of case occurred.
+mod generate;
+mod oracle;
+
+use caplune::independent::*;
+use generate::alike::{chain, chain_alphabets, prefixed_transducer, small_alphabets, small_transducer};
+use generate::{Growth, Random};
+use oracle::Oracle;
+use std::collections::BTreeMap;
+use Verdict::{Alike, Differ};
+
+const S: &[u8] = &[2, 1, 0, 2, 2, 0];
+const T: &[u8] = &[1, 0, 3, 0, 3, 0, 1, 0, 0, 1, 0, 1, 0, 0, 0, 1, 0, 1, 0, 0, 1];
+const T_PRIME: &[u8] = &[1, 0, 1, 0, 3, 0, 3, 1, 0, 0, 0, 1, 0, 1, 0, 0, 0, 0, 1, 0, 1];
+const U: &[u8] = &[1, 0, 3, 0, 3, 0, 3, 0, 0, 1, 0, 1, 0, 0, 0, 1, 0, 1, 0, 0, 0, 0, 1, 0, 1];
+
+/// The file of a transducer.
+fn file(states: usize, terms: &[&[u8]]) -> Vec<u8> {
+    generate::Transducer { states, terms: terms.iter().map(|term| term.to_vec()).collect() }.file()
+}
+
+/// The number of states and of marks of a transducer's file.
+fn size(stock: &[u8], file: &[u8]) -> (usize, usize) {
+    let read = read_transducer(stock, file).expect("the transducer is read");
+    (read.states, read.marks.len() / 2)
+}
+
+/// A ring of states with the right-hand sides of T', each calling the next.
+fn ring(states: usize) -> Vec<u8> {
+    let mut terms = vec![vec![1, 0]];
+    for state in 0..states {
+        let next = ((state + 1) % states) as u8;
+        terms.extend([vec![0, 0, 1, next, 1, next], vec![0, 0, 0, 1, 0, 1]]);
+    }
+    generate::Transducer { states, terms }.file()
+}
+
+/// So many calls of the state of T', joined by f.
+fn many_calls(calls: usize) -> Vec<u8> {
+    let initial = [[0, 0, 1, 0].repeat(calls - 1), vec![1, 0]].concat();
+    file(1, &[&initial, &[0, 0, 1, 0, 1, 0], &[0, 0, 0, 1, 0, 1]])
+}
+
+#[test]
+fn samples() {
+    for (sheet, expected) in [(T, T), (T_PRIME, T), (&[0, 0, 1, 0, 1], &[0, 0, 1, 0, 1])] {
+        assert_eq!(clean(S, sheet).as_deref(), Ok(expected));
+    }
+    assert_eq!(earliest(S, T).unwrap().pairs, [(0, 0)]);
+    assert_eq!(earliest(S, T_PRIME).unwrap().pairs, [(0, 0), (0, 1)]);
+    assert_eq!(size(S, &clean(S, U).unwrap()), (1, 11));
+    assert_eq!(compare(S, T, T_PRIME), Ok(Alike));
+    assert_eq!(compare(S, T, U), Ok(Differ));
+    assert_eq!(search_difference(S, T, U, 5), Ok(Some(vec![1])));
+    assert_eq!(symbol_at(S, T, &[1], &[1]), Ok(Some(1)));
+    assert_eq!(symbol_at(S, U, &[1], &[1]), Ok(Some(0)));
+    assert_eq!(search_difference(S, T, T_PRIME, 60), Ok(None));
+}
+
+#[test]
+fn sample_of_the_prefix() {
+    // M: q(a(x1, x2)) = d(q(x1), d(q(x1), e)), q(e) = d(d(e, e), d(e, e))
+    let stock = [2, 2, 0, 2, 2, 0];
+    let side = [0, 0, 1, 0, 0, 0, 1, 0, 0, 1];
+    let m = file(1, &[&[1, 0], &side, &[0, 0, 0, 0, 0, 1, 0, 1, 0, 0, 0, 1, 0, 1]]);
+    let (d, e) = (Some(0), Some(1));
+    assert_eq!(prefixes(&stock, &m), Ok(vec![vec![d, d, None, None, d, None, e]]));
+    let clean = clean(&stock, &m).unwrap();
+    assert_eq!(size(&stock, &clean), (3, 23));
+    let by_hand = file(
+        3,
+        &[
+            &[0, 0, 0, 0, 1, 0, 1, 1, 0, 0, 1, 2, 0, 1],
+            &[0, 0, 1, 0, 1, 1],
+            &[0, 1],
+            &[0, 0, 1, 2, 0, 1],
+            &[0, 1],
+            &[0, 0, 0, 0, 1, 0, 1, 1, 0, 0, 1, 2, 0, 1],
+            &[0, 1],
+        ],
+    );
+    assert_eq!(clean, by_hand);
+}
+
+#[test]
+fn limits() {
+    let read = |file: &[u8]| earliest(S, file).map(|trimmed| (trimmed.pairs.len(), trimmed.counts[1]));
+    assert_eq!(read(&many_calls(16)), Ok((2, 63)));
+    assert_eq!(read(&many_calls(17)), Err(7));
+    assert_eq!(clean(S, &many_calls(17)), Err(7));
+    assert_eq!(read(&ring(64)), Ok((128, 3)));
+    assert_eq!(clean(S, &ring(64)).as_deref(), Ok(T));
+    assert_eq!(clean(S, &ring(65)), Err(7));
+    assert_eq!(compare(S, &ring(64), T_PRIME), Ok(Alike));
+    // A right-hand side of 67 marks in the earliest form: refused if the initial term calls its state,
+    // and no matter if nobody does.
+    let long: Vec<u8> = [[0, 0, 1, 0].repeat(16), vec![1, 0]].concat();
+    let side = [0, 0, 1, 0, 1, 0];
+    let with = |initial: u8| file(2, &[&[1, initial], &side, &[0, 0, 0, 1, 0, 1], &long, &[0, 1]]);
+    assert_eq!(clean(S, &with(1)), Err(7));
+    assert_eq!(clean(S, &with(0)).as_deref(), Ok(T));
+    // 128 states with two open ends each, of which only the first state is called
+    let terms: Vec<&[u8]> = std::iter::once(&[1, 0][..]).chain([&side[..], &[0, 0, 0, 1, 0, 1]].repeat(128)).collect();
+    assert_eq!(clean(S, &file(128, &terms)).as_deref(), Ok(T));
+    // The limit of 8,192 marks, each term being short: 111 states that give e at the symbol of rank 0
+    // and f(next, e) at the first of 15 symbols of rank 1; at the others f(k, e), where k always gives
+    // f(e, e), so that 3 marks become 5. The last of the 111 has only 9 such right-hand sides, and else
+    // gives e.
+    let stock = [vec![16], vec![1; 15], vec![0, 3, 2, 0, 1]].concat();
+    let with = |initial: &[u8]| {
+        let (leaf, fork) = (vec![0, 1], vec![0, 0, 0, 1, 0, 1]);
+        let mut terms = vec![initial.to_vec()];
+        for state in 0..111u8 {
+            for symbol in 0..15u8 {
+                let called = if symbol == 0 { (state + 1) % 111 } else { 111 };
+                terms.push(if state < 110 || symbol < 9 { vec![0, 0, 1, called, 0, 1] } else { leaf.clone() });
+            }
+            terms.push(leaf.clone());
+        }
+        terms.extend(vec![fork; 16]);
+        generate::Transducer { states: 112, terms }.file()
+    };
+    let marks = |initial: &[u8]| earliest(&stock, &with(initial)).map(|trimmed| trimmed.marks.len() / 2);
+    assert_eq!(marks(&[1, 0]), Ok(8191));
+    assert_eq!(marks(&[0, 2, 1, 0]), Ok(8192));
+    assert_eq!(marks(&[0, 0, 1, 0, 0, 1]), Err(7));
+    let longest = clean(&stock, &with(&[0, 2, 1, 0])).unwrap();
+    assert_eq!(size(&stock, &longest), (111, 8192));
+    assert_eq!(clean(&stock, &longest).as_ref(), Ok(&longest));
+}
+
+#[test]
+fn order_of_refusals() {
+    let (bad_count, bad_term, over): (&[u8], &[u8], &[u8]) = (&[1, 0, 3], &[0, 0, 1, 1, 0], &ring(65));
+    for (stock, file, number) in [(&[1, 1, 1, 0][..], bad_count, 2), (S, bad_count, 4), (S, bad_term, 5), (S, over, 7)]
+    {
+        assert_eq!(earliest(stock, file), Err(number));
+        assert_eq!(clean(stock, file), Err(number));
+        assert_eq!(compare(stock, file, file), Err(number));
+        let mut area = vec![0xa5; MAX_FILE];
+        assert_eq!(clean_into(stock, file, &mut area[1..]), Err(1));
+        assert_eq!(clean_into(stock, file, &mut area), Err(number));
+        assert!(area.iter().all(|&byte| byte == 0xa5));
+    }
+    assert_eq!(compare(S, bad_term, bad_count), Err(5));
+    assert_eq!(compare(S, bad_count, bad_term), Err(4));
+    assert_eq!(compare(S, over, bad_term), Err(5));
+    assert_eq!(compare(S, over, bad_count), Err(4));
+    assert_eq!(compare(S, T, over), Err(7));
+    assert_eq!(compare(S, over, T), Err(7));
+    assert_eq!(search_difference(S, bad_term, bad_count, 3), Err(5));
+    let mut area = vec![0xa5; MAX_FILE + 2];
+    assert_eq!(clean_into(S, T_PRIME, &mut area), Ok(T.len()));
+    assert_eq!(&area[..T.len()], T);
+    assert!(area[T.len()..].iter().all(|&byte| byte == 0xa5));
+}
+
+/// Head, records and area with a pattern in them.
+fn lent(area: usize) -> (Head, Vec<Record>, Vec<u8>) {
+    (Head { held: 77, used: 78, answered: 79 }, vec![Record { start: 7, length: 8 }; 35], vec![0xa5; area])
+}
+
+#[test]
+fn book_samples() {
+    let (mut head, mut records, mut area) = lent(60);
+    let mut book = Book::make(S, &mut head, &mut records, &mut area).unwrap();
+    assert_eq!(
+        (*book.head, book.body(0), book.body(1)),
+        (Head { held: 0, used: 6, answered: 0 }, Ok(&[][..]), Ok(&[][..]))
+    );
+    assert_eq!([T, T_PRIME, U].map(|file| book.enter(file)), [Ok(1), Ok(1), Ok(2)]);
+    assert_eq!(*book.head, Head { held: 2, used: 56, answered: 3 });
+    assert_eq!(book.body(1), Ok(T));
+    assert_eq!(book.body(2).map(<[u8]>::to_vec), clean(S, U));
+    assert_eq!([0, 3, 33, usize::MAX].map(|number| book.body(number)), [Ok(&[][..]); 4]);
+    let clean_u = clean(S, U).unwrap();
+    let record = |start, length| Record { start, length };
+    assert_eq!(records[..4], [record(0, 6), record(6, 21), record(27, 29), record(0, 0)]);
+    assert!(records[4..33].iter().all(|&unused| unused == record(0, 0)));
+    assert!(records[33..].iter().all(|&past| past == record(7, 8)));
+    assert_eq!(area, [S, T, &clean_u, &[0xa5; 4]].concat());
+    // with area 55 the third is refused by 8, and with area 26 the first
+    for (bytes, entries) in [(55, vec![Ok(1), Ok(1), Err(8)]), (26, vec![Err(8); 3]), (27, vec![Ok(1), Ok(1), Err(8)])]
+    {
+        let (mut head, mut records, mut area) = lent(bytes);
+        let mut book = Book::make(S, &mut head, &mut records, &mut area).unwrap();
+        for (file, answer) in [T, T_PRIME, U].iter().zip(entries) {
+            let before = (*book.head, book.records.to_vec(), book.area.to_vec());
+            assert_eq!(book.enter(file), answer);
+            if answer.is_err() {
+                assert_eq!(before, (*book.head, book.records.to_vec(), book.area.to_vec()));
+            }
+        }
+    }
+}
+
+#[test]
+fn book_refusals() {
+    let (mut head, mut records, mut area) = lent(60);
+    let before = (head, records.clone(), area.clone());
+    assert_eq!(Book::make(&[], &mut head, &mut records[..32], &mut area).err(), Some(9));
+    assert_eq!(Book::make(&[], &mut head, &mut records, &mut area[..5]).err(), Some(2));
+    assert_eq!(Book::make(S, &mut head, &mut records, &mut area[..5]).err(), Some(8));
+    assert_eq!(before, (head, records.clone(), area.clone()));
+    Book::make(S, &mut head, &mut records, &mut area).unwrap().enter(T).unwrap();
+    let made = (head, records, area);
+    // what is wrong with the book, the refusal, and the transducer that is entered
+    type Damage<'a> = &'a dyn Fn(&mut Head, &mut Vec<Record>, &mut Vec<u8>);
+    let refused = |damage: Damage, number: u32, sheet: &[u8]| {
+        let (mut head, mut records, mut area) = made.clone();
+        damage(&mut head, &mut records, &mut area);
+        let before = (head, records.clone(), area.clone());
+        let mut book = Book { head: &mut head, records: &mut records, area: &mut area };
+        if number == 9 {
+            assert_eq!((book.body(0), book.body(1), book.body(2)), (Err(9), Err(9), Err(9)));
+        }
+        assert_eq!(book.enter(sheet), Err(number));
+        assert_eq!(before, (head, records, area));
+    };
+    refused(&|head, _, _| head.held = 33, 9, T);
+    refused(&|head, _, _| head.held = 0, 9, T);
+    refused(&|head, _, _| head.held = 2, 9, T);
+    refused(&|head, _, _| head.used += 1, 9, T);
+    refused(&|head, _, _| head.used -= 1, 9, T);
+    refused(&|head, _, _| head.held = usize::MAX, 9, T);
+    refused(&|head, _, _| head.answered = u64::MAX, 9, T);
+    refused(&|_, records, _| records.truncate(32), 9, T);
+    refused(&|_, records, _| records[0].start = 1, 9, T);
+    refused(&|_, records, _| records[1].start = 5, 9, T);
+    refused(&|_, records, _| records[1].length = usize::MAX, 9, T);
+    refused(&|_, records, _| records[2].start = 27, 9, T);
+    refused(&|_, records, _| records[32].length = 1, 9, T);
+    refused(&|_, _, area| area.truncate(26), 9, T);
+    refused(&|_, _, area| area[0] = 0, 9, T);
+    refused(&|_, _, area| area[0] = 0, 9, &[]);
+    refused(&|_, _, _| (), 4, &[1, 0, 3]);
+    refused(&|_, _, _| (), 5, &[0, 0, 1, 1, 0]);
+    refused(&|_, _, _| (), 7, &ring(65));
+    refused(&|_, _, area| area.truncate(27), 8, U);
+    // a lent book that is in order, with records past the 33rd of any kind
+    let (mut head, mut records, mut area) = made.clone();
+    head.answered = u64::MAX - 1;
+    let mut book = Book { head: &mut head, records: &mut records, area: &mut area };
+    assert_eq!(book.enter(T_PRIME), Ok(1));
+    assert_eq!(book.enter(T_PRIME), Err(9));
+}
+
+/// In a book with one body twice an entry answers the lower number.
+#[test]
+fn lowest_number() {
+    let mut head = Head { held: 3, used: 73, answered: 5 };
+    let mut records = vec![Record::default(); 33];
+    let mut area = [S, U, T, T, &[0; 9]].concat();
+    // bodies 1 to 3: U as it is, which is not minimal; T; T
+    records[..4]
+        .copy_from_slice(&[(0, 6), (6, 25), (31, 21), (52, 21)].map(|(start, length)| Record { start, length }));
+    let mut book = Book { head: &mut head, records: &mut records, area: &mut area };
+    assert_eq!(book.enter(T_PRIME), Ok(2));
+    assert_eq!(book.enter(U), Err(8));
+    assert_eq!(*book.head, Head { held: 3, used: 73, answered: 6 });
+}
+
+#[test]
+fn full_book() {
+    let alphabets = chain_alphabets();
+    let stock = alphabets.file();
+    let (mut head, mut records, mut area) = lent(1 << 16);
+    let mut book = Book::make(&stock, &mut head, &mut records, &mut area).unwrap();
+    let sheet = |number: usize| chain(number, 1, 2).file();
+    for round in 0..2 {
+        for number in 1..=32 {
+            assert_eq!(book.enter(&sheet(number)), Ok(number));
+            assert_eq!(book.body(number).map(<[u8]>::to_vec), clean(&stock, &sheet(number)));
+        }
+        assert_eq!(book.enter(&sheet(33)), Err(8));
+        assert_eq!((book.head.held, book.head.answered), (32, 32 * (round + 1)));
+    }
+}
+
+#[derive(Default)]
+struct Tally(BTreeMap<&'static str, usize>);
+
+impl Tally {
+    fn count(&mut self, kind: &'static str) {
+        *self.0.entry(kind).or_default() += 1;
+    }
+
+    fn settle(&self, wanted: &[(&'static str, usize)]) {
+        self.0.iter().for_each(|(kind, times)| println!("{kind:40} {times:8}"));
+        for (kind, least) in wanted {
+            let times = self.0.get(kind).copied().unwrap_or(0);
+            assert!(times >= *least, "{kind}: only {times} times");
+        }
+    }
+}
+
+/// Prefixes, earliest form and minimal transducer are those of the definitions.
+fn as_defined(tally: &mut Tally, stock: &[u8], file: &[u8]) {
+    let Ok(read) = read_transducer(stock, file) else { return tally.count("refused by the reader") };
+    let alphabets = read_alphabets(stock).unwrap();
+    let oracle = Oracle::new(alphabets.inputs, alphabets.outputs, read.states, read.marks);
+    let patterns: Vec<_> = oracle.prefixes.iter().map(oracle::Term::preorder).collect();
+    assert_eq!(prefixes(stock, file), Ok(patterns), "{stock:?} {file:?}");
+    if oracle.rounds > 3 {
+        tally.count("prefixes after over 3 rounds");
+    }
+    let Some((plain, pairs)) = oracle.earliest() else {
+        tally.count("refused by 7");
+        assert_eq!(earliest(stock, file), Err(7), "{stock:?} {file:?}");
+        assert_eq!(clean(stock, file), Err(7), "{stock:?} {file:?}");
+        return;
+    };
+    let trimmed = earliest(stock, file).map(|trimmed| (trimmed.file(), trimmed.pairs));
+    assert_eq!(trimmed, Ok((plain.file(), pairs)), "{stock:?} {file:?}");
+    let merged = oracle.merge(&plain);
+    let answer = clean(stock, file);
+    assert_eq!(answer.as_ref(), Ok(&merged.file()), "{stock:?} {file:?}");
+    assert_eq!(clean(stock, &answer.unwrap()), Ok(merged.file()), "{stock:?} {file:?}");
+    tally.count("cleaned");
+    if merged.states < plain.states {
+        tally.count("states merged");
+    }
+    if plain.states > read.states {
+        tally.count("more states in the earliest form");
+    }
+    if plain.states > 0 && oracle.prefixes.iter().any(|prefix| prefix.preorder().len() > 4) {
+        tally.count("a prefix of over 4 nodes");
+    }
+    if merged.states > 100 {
+        tally.count("over 100 states in the end");
+    }
+}
+
+/// Alphabets, and a transducer with long prefixes.
+fn prefixed(random: &mut Random) -> (generate::Alphabets, generate::Transducer) {
+    let alphabets = small_alphabets(random);
+    let (states, most) = (random.pick(&[1, 2, 4, 10, 40, 70]), random.range(3, 12));
+    let sheet = prefixed_transducer(random, &alphabets, states, most);
+    (alphabets, sheet)
+}
+
+#[test]
+fn definitions() {
+    let mut tally = Tally::default();
+    for seed in 0..5_000 {
+        let mut random = Random::new(seed + 2_000_000);
+        let alphabets = small_alphabets(&mut random);
+        let most = random.pick(&[3, 5, 9, 16]);
+        let sheet = small_transducer(&mut random, &alphabets, 5, most);
+        as_defined(&mut tally, &alphabets.file(), &sheet.file());
+        let alike = sheet.alike(&mut random, &alphabets, 6);
+        as_defined(&mut tally, &alphabets.file(), &alike.file());
+    }
+    // prefixes in all states, of which many pass the limits
+    for seed in 0..4_000 {
+        let mut random = Random::new(seed + 2_500_000);
+        let (alphabets, sheet) = prefixed(&mut random);
+        as_defined(&mut tally, &alphabets.file(), &sheet.file());
+    }
+    for seed in 0..1_500 {
+        let mut random = Random::new(seed + 3_000_000);
+        let alphabets = generate::Alphabets::random(&mut random);
+        let sheet = generate::Transducer::random(&mut random, &alphabets);
+        as_defined(&mut tally, &alphabets.file(), &sheet.file());
+    }
+    for states in 1..=128 {
+        let stock = chain_alphabets().file();
+        for (symbols, last) in [(0, 1), (0, 2), (1, 1), (1, 2), (3, 2)] {
+            as_defined(&mut tally, &stock, &chain(states, symbols, last).file());
+        }
+    }
+    (1..=65).for_each(|states| as_defined(&mut tally, S, &ring(states)));
+    tally.settle(&[
+        ("cleaned", 15_000),
+        ("refused by 7", 300),
+        ("states merged", 2_000),
+        ("more states in the earliest form", 1_000),
+        ("a prefix of over 4 nodes", 500),
+        ("prefixes after over 3 rounds", 400),
+        ("over 100 states in the end", 50),
+    ]);
+}
+
+/// All trees of at most `levels` levels over symbols of these ranks, unless they are over `most`.
+fn trees(ranks: &[u8], levels: usize, most: usize) -> Option<Vec<Vec<u8>>> {
+    let mut trees: Vec<Vec<u8>> = Vec::new();
+    for _ in 0..levels {
+        let mut next = Vec::new();
+        for (symbol, &rank) in ranks.iter().enumerate() {
+            let mut starts = vec![vec![symbol as u8]];
+            for _ in 0..rank {
+                if starts.len() * trees.len() > most {
+                    return None;
+                }
+                starts =
+                    starts.iter().flat_map(|start| trees.iter().map(move |tree| [&start[..], tree].concat())).collect();
+            }
+            next.extend(starts);
+        }
+        trees = next;
+    }
+    Some(trees)
+}
+
+/// The prefix of a state is the largest pattern that its outputs share. All input trees with one
+/// level more than the iteration has rounds are enough: what a round adds are right-hand sides over
+/// what was there before, and the first has all right-hand sides without calls, also those at symbols
+/// that are not leaves.
+#[test]
+fn prefixes_of_outputs() {
+    let mut tally = Tally::default();
+    for seed in 0..4_000 {
+        let mut random = Random::new(seed + 8_000_000);
+        let alphabets = small_alphabets(&mut random);
+        let (states, most) = (random.range(1, 4), random.pick(&[3, 5, 9]));
+        let mut sheet = match seed % 2 {
+            0 => small_transducer(&mut random, &alphabets, states, most),
+            _ => prefixed_transducer(&mut random, &alphabets, states, most),
+        };
+        let (stock, file) = (alphabets.file(), sheet.file());
+        let rounds = Oracle::new(&alphabets.inputs, &alphabets.outputs, sheet.states, &sheet.marks()).rounds;
+        let Some(trees) = trees(&alphabets.inputs, rounds + 1, 500) else { continue };
+        for (state, prefix) in prefixes(&stock, &file).unwrap().into_iter().enumerate() {
+            sheet.terms[0] = vec![1, state as u8];
+            let file = sheet.file();
+            let outputs: Result<Vec<_>, _> = trees.iter().map(|tree| translate(&stock, &file, tree, 3_000)).collect();
+            let Ok(outputs) = outputs else { continue };
+            let outputs = outputs.iter().map(|output| oracle::Term::tree(&alphabets.outputs, &mut output.iter()));
+            let shared = outputs.reduce(|one, other| one.join(&other)).expect("there are trees");
+            tally.count(if prefix.len() > 1 && prefix.contains(&None) {
+                "with symbols and open ends"
+            } else {
+                "others"
+            });
+            assert_eq!(shared.preorder(), prefix, "{stock:?} {file:?} {state}");
+        }
+    }
+    tally.settle(&[("with symbols and open ends", 500), ("others", 2_000)]);
+}
+
+/// The number of nodes up to which all input trees are tried: not more than `most` trees.
+fn affordable(ranks: &[u8], most: usize) -> usize {
+    (1..40).take_while(|&limit| count_trees(ranks, limit) <= most).last().unwrap_or(0)
+}
+
+/// The minimal transducer is accepted, minimal, and gives the outputs of its transducer on all small
+/// input trees, where the outputs are once looked at node by node and once built.
+#[test]
+fn outputs_stay() {
+    let mut tally = Tally::default();
+    for seed in 0..4_000 {
+        let mut random = Random::new(seed + 4_000_000);
+        let (alphabets, sheet) = if seed % 3 == 0 {
+            prefixed(&mut random)
+        } else {
+            let alphabets = small_alphabets(&mut random);
+            let sheet = small_transducer(&mut random, &alphabets, 4, 9);
+            (alphabets, sheet)
+        };
+        let sheet = sheet.alike(&mut random, &alphabets, seed as usize % 5);
+        let (stock, file) = (alphabets.file(), sheet.file());
+        let Ok(clean_file) = clean(&stock, &file) else {
+            assert_eq!(clean(&stock, &file), Err(7));
+            tally.count("refused by 7");
+            continue;
+        };
+        assert!(read_transducer(&stock, &clean_file).is_ok());
+        assert_eq!(clean(&stock, &clean_file).as_ref(), Ok(&clean_file));
+        // of a minimal earliest transducer no prefix has a symbol
+        assert!(prefixes(&stock, &clean_file).unwrap().iter().all(|prefix| prefix[..] == [None]));
+        let limit = affordable(&alphabets.inputs, 400);
+        assert_eq!(search_difference(&stock, &file, &clean_file, limit), Ok(None), "{stock:?} {file:?}");
+        for _ in 0..8 {
+            let nodes = random.range(1, 40);
+            let growth = random.pick(&[Growth::Even(10), Growth::Even(15), Growth::Left, Growth::Right]);
+            let tree = generate::tree(&mut random, &alphabets.inputs, nodes, 30, growth);
+            let output = translate(&stock, &file, &tree, 3_000);
+            assert_eq!(translate(&stock, &clean_file, &tree, 3_000), output, "{stock:?} {file:?} {tree:?}");
+            tally.count(if output.is_ok() { "outputs built" } else { "outputs too long" });
+        }
+    }
+    tally.settle(&[("outputs built", 20_000), ("refused by 7", 10)]);
+}
+
+/// The nodes of an input tree that is enough to tell two transducers apart.
+///
+/// Let their minimal earliest transducers have K states together, and not be one. From their initial
+/// terms on, calls at the same places lead down an input tree, one level for each call, to states
+/// whose right-hand sides differ in more than the names called: by Moore's rounds at most K - 1
+/// levels, and one for the symbol of these right-hand sides. There a symbol stands against another
+/// symbol, or against a call, or two calls on different sub-trees against each other; a call can be
+/// given two roots, and with one of them differs from the other side, whose input can be left as it
+/// is. The least trees for two roots have at most K + 1 levels: one for each call at the root of a
+/// right-hand side, and no state has to be called twice. These levels are a path; what is beside it
+/// can be leaves.
+fn enough(states: usize, ranks: &[u8]) -> usize {
+    let highest = usize::from(*ranks.iter().max().unwrap());
+    1 + highest.max(1) * (2 * states + 1)
+}
+
+/// Equivalence by minimal transducers against the search for a difference, which is made far enough.
+#[test]
+fn verdicts() {
+    let mut tally = Tally::default();
+    let mut largest = (0, 0);
+    for seed in 0..12_000u64 {
+        let mut random = Random::new(seed + 5_000_000);
+        let alphabets = small_alphabets(&mut random);
+        let (states, most) = (random.range(1, 3), random.pick(&[1, 3, 3, 5, 7]));
+        let first = small_transducer(&mut random, &alphabets, states, most);
+        let second = match seed % 4 {
+            0 => small_transducer(&mut random, &alphabets, states, most),
+            1 => first.with_one_mark_changed(&mut random, &alphabets).unwrap_or_else(|| first.clone()),
+            2 => {
+                let alike = first.alike(&mut random, &alphabets, 3);
+                alike.with_one_mark_changed(&mut random, &alphabets).unwrap_or(alike)
+            }
+            _ => first.alike(&mut random, &alphabets, 4),
+        };
+        let (stock, first, second) = (alphabets.file(), first.file(), second.file());
+        let (Ok(one), Ok(other)) = (clean(&stock, &first), clean(&stock, &second)) else {
+            assert_eq!(compare(&stock, &first, &second), Err(7));
+            tally.count("refused by 7");
+            continue;
+        };
+        let verdict = compare(&stock, &first, &second);
+        assert_eq!(verdict, Ok(if one == other { Alike } else { Differ }));
+        let enough = enough(usize::from(one[0]) + usize::from(other[0]), &alphabets.inputs);
+        let limit = affordable(&alphabets.inputs, 3_000);
+        let found = search_difference(&stock, &first, &second, limit.min(enough)).unwrap();
+        match found {
+            Some(tree) => {
+                assert_eq!(verdict, Ok(Differ), "{stock:?} {first:?} {second:?} {tree:?}");
+                let outputs = [&first, &second].map(|file| translate(&stock, file, &tree, 100_000));
+                assert!(outputs[0] != outputs[1] || outputs[0].is_err(), "{stock:?} {first:?} {second:?} {tree:?}");
+                if tree.len() > largest.0 {
+                    largest = (tree.len(), enough);
+                }
+                tally.count("differ, found");
+                if tree.len() > 3 {
+                    tally.count("differ, found on over 3 nodes");
+                }
+            }
+            None if limit >= enough => {
+                assert_eq!(verdict, Ok(Alike), "{stock:?} {first:?} {second:?}");
+                tally.count("alike, searched far enough");
+                if first != second {
+                    tally.count("alike, of different files");
+                }
+                if seed % 4 < 3 && first != second {
+                    tally.count("alike, not by construction");
+                }
+            }
+            None if verdict == Ok(Alike) => tally.count("alike, searched as far as affordable"),
+            None => tally.count("differ, not found as far as affordable"),
+        }
+    }
+    println!("largest tree needed: {} nodes, where {} are enough", largest.0, largest.1);
+    tally.settle(&[
+        ("differ, found", 4_000),
+        ("differ, found on over 3 nodes", 300),
+        ("alike, searched far enough", 4_000),
+        ("alike, of different files", 3_000),
+        ("alike, not by construction", 200),
+    ]);
+    assert_eq!(tally.0.get("differ, not found as far as affordable"), None);
+}
+
+/// All pairs of transducers of one state over S with terms of at most three marks.
+#[test]
+fn all_small_pairs() {
+    let called: [&[u8]; 6] =
+        [&[0, 1], &[1, 0], &[0, 0, 0, 1, 0, 1], &[0, 0, 0, 1, 1, 0], &[0, 0, 1, 0, 0, 1], &[0, 0, 1, 0, 1, 0]];
+    let mut files = Vec::new();
+    for initial in called {
+        for inner in called {
+            files.extend([called[0], called[2]].map(|leaf| file(1, &[initial, inner, leaf])));
+        }
+    }
+    let mut alike = 0;
+    for first in &files {
+        for second in &files {
+            let found = search_difference(S, first, second, enough(6, &[1, 0])).unwrap();
+            assert_eq!(
+                compare(S, first, second),
+                Ok(if found.is_some() { Differ } else { Alike }),
+                "{first:?} {second:?}"
+            );
+            alike += usize::from(found.is_none());
+        }
+    }
+    println!("{} files, {alike} pairs alike", files.len());
+    assert!(alike > files.len());
+}
+
+/// Transducers of all sizes, changed in ways that keep them equivalent.
+#[test]
+fn alike_by_construction() {
+    let mut tally = Tally::default();
+    for seed in 0..4_000 {
+        let mut random = Random::new(seed + 6_000_000);
+        let (alphabets, sheet) = if seed % 4 == 0 {
+            prefixed(&mut random)
+        } else if seed % 4 == 1 {
+            let alphabets = small_alphabets(&mut random);
+            let sheet = small_transducer(&mut random, &alphabets, 8, 12);
+            (alphabets, sheet)
+        } else {
+            let alphabets = generate::Alphabets::random(&mut random);
+            let sheet = generate::Transducer::random(&mut random, &alphabets);
+            (alphabets, sheet)
+        };
+        let stock = alphabets.file();
+        let Ok(expected) = clean(&stock, &sheet.file()) else {
+            tally.count("refused");
+            continue;
+        };
+        let mut same = |kind, changed: Option<generate::Transducer>| {
+            let Some(file) = changed.filter(|changed| changed.fits()).map(|changed| changed.file()) else { return };
+            match compare(&stock, &sheet.file(), &file) {
+                Ok(verdict) => {
+                    assert_eq!(verdict, Alike, "{kind} {stock:?} {:?} {file:?}", sheet.file());
+                    assert_eq!(clean(&stock, &file).as_ref(), Ok(&expected));
+                    tally.count(kind);
+                }
+                Err(number) => {
+                    assert_eq!(number, 7, "{kind} {stock:?} {file:?}");
+                    tally.count("the changed one is refused by 7");
+                }
+            }
+        };
+        if sheet.states > 0 {
+            same("permuted", Some(sheet.permuted(&mut random)));
+            same("duplicated", Some(sheet.duplicated(&mut random)));
+            same("advanced", sheet.advanced(&mut random, &alphabets));
+        }
+        same("with an unreached state", Some(sheet.with_unreached(&mut random, &alphabets)));
+        same("delayed", sheet.delayed(&mut random, &alphabets));
+        same("by many steps", Some(sheet.alike(&mut random, &alphabets, 25)));
+    }
+    let kinds = ["permuted", "duplicated", "advanced", "with an unreached state", "delayed", "by many steps"];
+    tally.settle(&kinds.map(|kind| (kind, 1_000)));
+}
+
+/// T' from T, by delaying all of the initial term.
+#[test]
+fn delayed_sample() {
+    let alphabets = generate::Alphabets { inputs: vec![1, 0], outputs: vec![2, 0] };
+    let sides = [vec![0, 0, 1, 0, 1, 0], vec![0, 1]];
+    let t = generate::Transducer { states: 1, terms: [vec![sides[0].clone()], sides.to_vec()].concat() };
+    assert_eq!(t.file(), T);
+    let mut delayed = 0;
+    for seed in 0..200 {
+        let Some(other) = t.delayed(&mut Random::new(seed), &alphabets) else { continue };
+        assert_eq!(clean(S, &other.file()).as_deref(), Ok(T));
+        assert_eq!(compare(S, &other.file(), T_PRIME), Ok(Alike));
+        delayed += usize::from(other.terms[0] == [1, 1]);
+    }
+    assert!(delayed > 0);
+}
+
+/// Chains of states that are alike but for one mark at their end, also behind changes that keep them
+/// equivalent.
+#[test]
+fn one_mark_at_the_end_of_a_chain() {
+    let alphabets = chain_alphabets();
+    let stock = alphabets.file();
+    for states in 1..=128usize {
+        let mut random = Random::new(states as u64 + 7_000_000);
+        for symbols in [0, 1, 2, 40] {
+            let sheets = [1, 2].map(|last| chain(states, symbols, last));
+            if !sheets[0].fits() {
+                continue;
+            }
+            let changed = [0, 1].map(|which: usize| sheets[which].alike(&mut random, &alphabets, 6).file());
+            let sheets = sheets.map(|sheet| sheet.file());
+            assert_eq!(compare(&stock, &sheets[0], &sheets[1]), Ok(Differ));
+            for (one, first) in sheets.iter().chain(&changed).enumerate() {
+                for (two, second) in sheets.iter().chain(&changed).enumerate() {
+                    let expected = if one % 2 == two % 2 { Alike } else { Differ };
+                    let verdict = compare(&stock, first, second);
+                    assert!(verdict == Ok(expected) || verdict == Err(7), "{states} {symbols} {one} {two} {verdict:?}");
+                }
+            }
+            // the tree on which they differ, and that they agree on the trees with fewer levels
+            let tree = |levels: usize| [vec![0; levels - 1], vec![1]].concat();
+            let outputs =
+                |levels: usize| sheets.clone().map(|file| translate(&stock, &file, &tree(levels), 10_000).unwrap());
+            assert!(outputs(states)[0] != outputs(states)[1]);
+            assert!((1..states).all(|levels| outputs(levels)[0] == outputs(levels)[1]));
+            if symbols == 0 {
+                assert_eq!(clean(&stock, &sheets[0]).as_deref(), Ok(&[0, 0, 1, 0, 1][..]));
+                assert_eq!(size(&stock, &clean(&stock, &sheets[1]).unwrap()).0, states);
+            }
+        }
+    }
+}
