@@ -30,7 +30,8 @@ use Rattle.prefixes.specs.Inner.Patterns.{top, topIf, topOf, patternCode, headA
 use Rattle.prefixes.proofs.Grafts.{OverTop, pattern-read, head-length}
 use Rattle.earliest.specs.Inner.Letters.{letterOf, callLetter, spelt, openIf, labeled, expanded, State}
 use Rattle.earliest.proofs.Ranks.{ranked-all, ranked-bind}
-use Rattle.earliest.proofs.Places.{place, numbered, numberedAll, label-number, pattern-length, RankedPattern, ranked-number}
+use Rattle.earliest.specs.Inner.Places.{place}
+use Rattle.earliest.proofs.Places.{numbered, numberedAll, label-number, pattern-length, RankedPattern, ranked-number}
 
 -- ---- patterns
 top-inside : (outs : List ℕ) (k n : ℕ) → topOf outs k ≡ symbol k n → (k < length outs) × (n ≡ getD outs k 0)

@@ -28,7 +28,8 @@ use Rattle.prefixes.specs.Inner.Patterns.{top, topOf, patternCode, headAt, read
 use Rattle.prefixes.proofs.Settling.{machine-wf}
 use Rattle.earliest.specs.Inner.Letters.{letterOf, expandedBody, under, early, State, Expanding}
 use Rattle.earliest.proofs.Ranks.{ranked-all, ranked-sub}
-use Rattle.earliest.proofs.Places.{place, under-place, place-open, place-same}
+use Rattle.earliest.specs.Inner.Places.{place}
+use Rattle.earliest.proofs.Places.{under-place, place-open, place-same}
 use Rattle.earliest.proofs.Expanding.{pair, StateCall, ExpandedRead, expanded-read, head-ranked, head-letters, head-byte}
 
 -- the term that is read from expanded body j

@@ -23,25 +23,7 @@ use Rattle.formats.specs.Inner.Decode.{letters, lettersAll, unknown}
 use Rattle.formats.proofs.Codes.{word-length}
 use Rattle.prefixes.specs.Inner.Patterns.{top, patternCode}
 use Rattle.earliest.specs.Inner.Letters.{joined, firstUnder, under}
-
-abbrev pub placeIf : Bool → ℕ × List ℕ → ℕ × List ℕ → ℕ × List ℕ
-placeIf true p r = p
-placeIf false p r = r
-
--- the same address in the tree behind
-abbrev pub behind : ℕ × List ℕ → ℕ × List ℕ
-behind r = (suc (r .0), r .1)
-
--- the address of letter m; among several trees, the number of the tree from 0 and the address in it
-unfoldable mutual
-  pub place : {A : Type 0} → Term A → ℕ → List ℕ
-  place (var a) m = []
-  place (node k ts) ℕ.zero = []
-  place (node k ts) (suc m) = suc (placeAmong ts m .0) ∷ placeAmong ts m .1
-
-  pub placeAmong : {A : Type 0} → Terms A → ℕ → ℕ × List ℕ
-  placeAmong none m = (0, [])
-  placeAmong (more t ts) m = placeIf (ltb m (letters t)) (0, place t m) (behind (placeAmong ts (m - letters t)))
+use Rattle.earliest.specs.Inner.Places.{placeIf, behind, place, placeAmong}
 
 -- the variable b + m at each variable that is letter m
 unfoldable mutual
@@ -55,11 +37,11 @@ unfoldable mutual
 
 -- ---- the letters of the first tree, and of those behind it
 module _ {A : Type 0} (t : Term A) (ts : Terms A) where
-  place-first : (m : ℕ) → m < letters t → placeAmong (more t ts) m ≡ (0, place t m)
+  pub place-first : (m : ℕ) → m < letters t → placeAmong (more t ts) m ≡ (0, place t m)
   unfolding place
   place-first m h = simp (lt-ltb m (letters t) h)
 
-  place-behind : (m : ℕ) → placeAmong (more t ts) (letters t + m) ≡ behind (placeAmong ts m)
+  pub place-behind : (m : ℕ) → placeAmong (more t ts) (letters t + m) ≡ behind (placeAmong ts m)
   unfolding place
   place-behind m = let e : letters t + m - letters t ≡ m = omega arith in simp (le-ltb (letters t + m) (letters t) (omega arith), e)
 

@@ -1,5 +1,6 @@
 -- What only inner functions and their proofs speak of.
 pub mod Letters
+pub mod Places
 pub mod Queue
 pub mod Packed
 pub mod Grown

@@ -1,0 +1,11 @@
+-- Laws of the comparison. Stepping: marks side by side. Joining: classes joined pair by pair. Searching: the pair search. Linking: from the list of pairs to a witness.
+-- Firsts, Distances, Falling: a tree on which a state's output has another root symbol. Planting, Climbing: the tree and the address of a shown difference.
+pub mod Stepping
+pub mod Joining
+pub mod Searching
+pub mod Linking
+pub mod Firsts
+pub mod Distances
+pub mod Falling
+pub mod Planting
+pub mod Climbing

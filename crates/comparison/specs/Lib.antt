@@ -1,0 +1,2 @@
+-- Comparing two transducers. Inner holds what only inner functions and their proofs speak of.
+pub mod Inner
