@@ -1,10 +1,9 @@
 -- The input trees of an alphabet are the ground trees of its grammar; so equivalent transducers are those that give equal output trees on every input tree.
 use Prim.Native.Nat.{ℕ, suc}
-use mathlib.Core.List.{List, []}
+use mathlib.Core.List.{List}
 use mathlib.Core.Logic.{_↔_}
-use mathlib.Core.Option.{Option·some-injective}
-use mathlib.Core.Path.{_≡_, ap, sym, refl, _∙_}
-use lib.ListN.{length, getD, replicate}
+use mathlib.Core.Path.{_≡_, ap, refl}
+use lib.ListN.{getD, replicate}
 use Rattle.theory.specs.Equivalent.{Equivalent}
 use Rattle.theory.specs.Grammar.{Allowed, AllAllowed, rule, end, next}
 use Rattle.theory.specs.Term.{Tree, Terms, node, none, more, count}

@@ -3,10 +3,10 @@ use Prim.Native.Nat.{ℕ, _≤_}
 use native.Mathlib.Omega.{arith}
 use mathlib.Core.List.{List}
 use mathlib.Core.Logic.{_↔_}
-use mathlib.Core.Path.{_≡_, refl, ap, ap₂, sym, _∙_}
+use mathlib.Core.Path.{_≡_, refl, ap, sym, _∙_}
 use lib.ListN.{length, take}
 use Rattle.theory.specs.Equivalent.{Equivalent}
-use Rattle.theory.specs.NormalForm.{Identical, NormalForm}
+use Rattle.theory.specs.NormalForm.{Identical}
 use Rattle.theory.specs.Transducer.{Transducer}
 use Rattle.theory.proofs.Equivalences.{equivalent-trans}
 use Rattle.theory.proofs.Existence.{normal-trimmed}

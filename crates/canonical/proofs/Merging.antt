@@ -15,7 +15,6 @@ use Rattle.theory.specs.NormalForm.{Identical}
 use Rattle.theory.specs.Quotient.{Classes, no-class, old-class, new-class, quotient}
 use Rattle.theory.specs.Term.{Term, var, node, Terms, none, more, count, bind, binds, mapT}
 use Rattle.theory.specs.Transducer.{renamed}
-use Rattle.theory.proofs.Classes.{classes-cnt, classed, class-lt, least-of}
 use Rattle.theory.proofs.Terms.{count-binds}
 use Rattle.formats.specs.Alphabets.{Leaf}
 use Rattle.formats.specs.Code.{Mark, flat, flats, marks, Ranked, AllRanked, Call}
@@ -33,31 +32,18 @@ use Rattle.transducer.proofs.Meaning.{body-read}
 use Rattle.prefixes.specs.Alphabet.{alphabet, children-inside}
 use Rattle.prefixes.specs.Inner.Heads.{machine, Layout}
 use Rattle.prefixes.proofs.Settling.{number-fits}
-use Rattle.canonical.specs.Inner.Classes.{keyOf, keyed, bodyMarks, at, Keyable}
 use Rattle.earliest.specs.Inner.Packed.{Packed}
+use Rattle.canonical.specs.Inner.Classes.{keyOf, keyed, bodyMarks, at, Keyable}
 use Rattle.canonical.specs.Inner.Quotients.{Mergeable, Merges, Keys, sizeOf, Front, Copied, Kept, Copyable, Copies, StateMergeable, MergesState}
+use Rattle.canonical.proofs.Refining.{class-below, least-below, classes-few}
 
 -- ---- classes in the order of their least members
 module _ {c least : ℕ → ℕ} where
-  -- every class is below their number
-  pub class-below : {p n : ℕ} → Classes c least p n → (q : ℕ) → q < p → c q < n
-  class-below {p} K q h = omega (arith, class-lt (classed K) p q h (omega arith), classes-cnt K)
-
-  -- there are no more classes than states
-  pub classes-few : {p n : ℕ} → Classes c least p n → n ≤ p
-  classes-few no-class = omega arith
-  classes-few (old-class k h) = omega (arith, classes-few k)
-  classes-few (new-class k h h′) = omega (arith, classes-few k)
-
-  -- the least member of a class is a state
-  pub least-below : {p n : ℕ} → Classes c least p n → (k : ℕ) → k < n → least k < p
-  least-below {p} K k h = least-of (classed K) p k (omega arith) (omega (arith, classes-cnt K)) .below
-
   -- later classes have later least members
   pub least-rises : {p n : ℕ} → Classes c least p n → (k : ℕ) → k + 1 < n → least k < least (k + 1)
   least-rises no-class k l = absurd (omega arith)
   least-rises (old-class K h) k l = least-rises K k l
-  least-rises (new-class {p} {n} K h h′) k l = by-cases (ℕ-discrete (k + 1) n) (λ z. rw (z, h′) (least-below K k (omega arith))) (λ z. least-rises K k (omega arith))
+  least-rises (new-class {p} {n} K h h′) k l = by-cases (ℕ-discrete (k + 1) n) (λ z. rw (z, h′) (least-below K k (omega arith) .0)) (λ z. least-rises K k (omega arith))
 
 -- ---- a term with classes for states
 module _ (classes outs : List ℕ) (n m r : ℕ) (low : (q : ℕ) → q < n → at classes q < m) where
@@ -290,7 +276,7 @@ module _ {ins outs starts bytes classes least : List ℕ} {count : ℕ} {starts�
 
   -- the number of a class, and that of its least member, are those of states
   pub class-state : {k : ℕ} → k < count → (k < length classes) × (at least k < length classes) × (k < length least)
-  class-state {k} h = (omega (arith, classes-few (A .classed)), least-below (A .classed) k h, omega (arith, A .few))
+  class-state {k} h = (omega (arith, classes-few (A .classed)), least-below (A .classed) k h .0, omega (arith, A .few))
 
 -- ---- the loop over the symbols: the right-hand sides for those before a are written
 pub record StateLoop (ins starts bytes classes least : List ℕ) (k : ℕ) (starts₀ bytes₀ starts′ bytes′ : List ℕ) (a : ℕ) : Type 0 where

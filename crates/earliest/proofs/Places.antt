@@ -5,12 +5,10 @@ use native.Mathlib.Decide.{decLt}
 use native.Mathlib.Nat.{add-zero, zero-add, suc-add}
 use native.Mathlib.Numerals.{one-add}
 use native.Mathlib.Omega.{arith}
-use mathlib.Core.Bool.{Bool, true, false}
 use mathlib.Core.List.{List, [], _∷_, _++_}
 use mathlib.Core.Logic.{by-cases}
 use mathlib.Core.Option.{Option, some}
 use mathlib.Core.Path.{_≡_, refl, sym, ap, ap₂, _∙_}
-use lib.Dec.{ltb}
 use lib.ListN.{length, getD, List·getD-append}
 use lib.Seq.{getD-append-add}
 use borrow.Author.Tests.{lt-ltb, le-ltb}
@@ -23,7 +21,7 @@ use Rattle.formats.specs.Inner.Decode.{letters, lettersAll, unknown}
 use Rattle.formats.proofs.Codes.{word-length}
 use Rattle.prefixes.specs.Inner.Patterns.{top, patternCode}
 use Rattle.earliest.specs.Inner.Letters.{joined, firstUnder, under}
-use Rattle.earliest.specs.Inner.Places.{placeIf, behind, place, placeAmong}
+use Rattle.earliest.specs.Inner.Places.{behind, place, placeAmong}
 
 -- the variable b + m at each variable that is letter m
 unfoldable mutual

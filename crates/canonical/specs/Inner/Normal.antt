@@ -7,7 +7,6 @@ use Rattle.theory.specs.Earliest.{Earliest}
 use Rattle.theory.specs.NormalForm.{NormalForm}
 use Rattle.theory.specs.Numbered.{Numbered}
 use Rattle.theory.specs.Transducer.{Transducer}
-use Rattle.theory.specs.Wf.{Wf}
 use Rattle.formats.specs.Alphabets.{Leaf, Alphabets, inputs, outputs}
 use Rattle.formats.specs.Refusal.{done, check, Judged}
 use Rattle.formats.specs.Sheet.{Encodes}

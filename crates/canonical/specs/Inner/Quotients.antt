@@ -7,7 +7,7 @@ use lib.Seq.{sets}
 use Rattle.theory.specs.NormalForm.{Identical}
 use Rattle.theory.specs.Quotient.{Classes, quotient}
 use Rattle.formats.specs.Alphabets.{Leaf}
-use Rattle.formats.specs.Inner.Layout.{bodyNumber, bodyCount}
+use Rattle.formats.specs.Inner.Layout.{bodyNumber}
 use Rattle.formats.specs.Inner.Marked.{part}
 use Rattle.formats.specs.Sheet.{markBytes}
 use Rattle.prefixes.specs.Alphabet.{alphabet}

@@ -1,6 +1,6 @@
 -- The earliest form as it grows body by body, and when it is too large.
 use Prim.Native.Nat.{ℕ, _+_, _*_, _%_, _≤_, _<_}
-use mathlib.Core.List.{List, []}
+use mathlib.Core.List.{List}
 use mathlib.Core.Logic.{_⊎_}
 use mathlib.Core.Option.{some}
 use mathlib.Core.Path.{_≡_}
@@ -13,7 +13,7 @@ use Rattle.theory.specs.Transducer.{Transducer}
 use Rattle.theory.proofs.Discovery.{ReadCalls}
 use Rattle.theory.proofs.Trimming.{Follows}
 use Rattle.formats.specs.Alphabets.{Leaf}
-use Rattle.formats.specs.Inner.Layout.{bodyNumber, bodyCount}
+use Rattle.formats.specs.Inner.Layout.{bodyNumber}
 use Rattle.formats.specs.Inner.Marked.{part}
 use Rattle.formats.specs.Sheet.{Encodes, markBytes}
 use Rattle.prefixes.specs.Alphabet.{alphabet}
