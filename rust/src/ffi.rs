@@ -97,4 +97,32 @@ extern "C" {
         there: *mut usize,
         symbol: *mut usize,
     ) -> u32;
+
+    /// Writes the earliest form to the start of the area: the numbers of its states and marks, and the
+    /// length of its file. Refuses by 1, 2, 4, 5 and 7.
+    pub fn caplune_earliest_form(
+        stock: *const u8,
+        stock_length: usize,
+        file: *const u8,
+        file_length: usize,
+        area: *mut u8,
+        area_length: usize,
+        states: *mut usize,
+        marks: *mut usize,
+        length: *mut usize,
+    ) -> u32;
+
+    /// Writes the normal form to the start of the area: the numbers of its states and marks, and the
+    /// length of its file. Refuses by 1, 2, 4, 5 and 7.
+    pub fn caplune_clean(
+        stock: *const u8,
+        stock_length: usize,
+        file: *const u8,
+        file_length: usize,
+        area: *mut u8,
+        area_length: usize,
+        states: *mut usize,
+        marks: *mut usize,
+        length: *mut usize,
+    ) -> u32;
 }

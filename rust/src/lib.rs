@@ -8,7 +8,8 @@
 //!
 //! The paper's words, and the words used here: a stock is a pair of ranked alphabets; a design is
 //! an input tree and a plan an output tree; a sheet is a transducer, a pass a state, a line a
-//! right-hand side, the opening the initial term; a place is an address.
+//! right-hand side, the opening the initial term; a place is an address; the trimmed sheet is the
+//! earliest form, and the clean sheet the normal form.
 //!
 //! ```
 //! // a of rank 1 and e of rank 0; f of rank 2 and e of rank 0
@@ -26,6 +27,11 @@
 //! assert_eq!(area, [0, 0, 1, 1, 0, 1, 1, 9]);
 //! assert_eq!(caplune::symbol_at(&stock, &file, &[0, 1], &[2, 1]), Ok(Some(1)));
 //! assert_eq!(caplune::symbol_at(&stock, &file, &[0, 1], &[2, 1, 1]), Ok(None));
+//! // the same translation with another initial term, q(x1), and q(e) = f(e, e): its normal form is `file`
+//! let other = [1, 0, 1, 0, 3, 0, 3, 1, 0, 0, 0, 1, 0, 1, 0, 0, 0, 0, 1, 0, 1];
+//! let mut area = vec![9; 20_483];
+//! assert_eq!(caplune::clean(&stock, &other, &mut area), Ok(caplune::Form { states: 1, marks: 7, length: 21 }));
+//! assert_eq!((&area[..21], area[21]), (&file[..], 9));
 //! ```
 use std::fmt;
 
@@ -99,6 +105,17 @@ pub struct Parts<'a> {
     pub counts: &'a [u8],
     /// The marks of the initial term and of the right-hand sides, two bytes each.
     pub marks: &'a [u8],
+}
+
+/// The size of a form of a transducer.
+#[derive(Clone, Copy, Debug, PartialEq, Eq)]
+pub struct Form {
+    /// The number of its states, 0 to 128.
+    pub states: usize,
+    /// The number of its marks, 1 to 8,192.
+    pub marks: usize,
+    /// The length of its file, 5 to 20,483.
+    pub length: usize,
 }
 
 /// Reads two alphabets.
@@ -236,4 +253,55 @@ pub fn symbol_at(stock: &[u8], file: &[u8], tree: &[u8], address: &[u8]) -> Resu
         )
     };
     answer(number, || (there == 1).then_some(symbol as u8))
+}
+
+/// Writes the earliest form of a transducer to the start of `area` (the paper: the trimmed sheet).
+///
+/// Its states are pairs of a state and an open end of that state's largest common prefix, numbered as
+/// first met. Returns how many states and marks it has and how long its file is; what follows the file
+/// in the area stays. Refuses by 1 an area under 20,483 bytes, by 2, 4 and 5 as [`read_transducer`]
+/// does, and by 7 an earliest form of over 128 states, of over 64 marks in its initial term or a
+/// right-hand side, or of over 8,192 marks in all; the area then is as it was.
+pub fn earliest_form(stock: &[u8], file: &[u8], area: &mut [u8]) -> Result<Form, Refusal> {
+    let (mut states, mut marks, mut length) = (0, 0, 0);
+    // SAFETY: each pointer and length are those of a slice, and the others are to locals.
+    let number = unsafe {
+        ffi::caplune_earliest_form(
+            stock.as_ptr(),
+            stock.len(),
+            file.as_ptr(),
+            file.len(),
+            area.as_mut_ptr(),
+            area.len(),
+            &mut states,
+            &mut marks,
+            &mut length,
+        )
+    };
+    answer(number, || Form { states, marks, length })
+}
+
+/// Writes the normal form of a transducer to the start of `area` (the paper: cleaning).
+///
+/// It is the earliest form with equivalent states made one, numbered as first met: two transducers
+/// over one stock have the same normal form exactly if their outputs are equal on every input tree.
+/// Returns how many states and marks it has and how long its file is; what follows the file in the
+/// area stays. Refuses by 1, 2, 4, 5 and 7 as [`earliest_form`] does; the area then is as it was.
+pub fn clean(stock: &[u8], file: &[u8], area: &mut [u8]) -> Result<Form, Refusal> {
+    let (mut states, mut marks, mut length) = (0, 0, 0);
+    // SAFETY: each pointer and length are those of a slice, and the others are to locals.
+    let number = unsafe {
+        ffi::caplune_clean(
+            stock.as_ptr(),
+            stock.len(),
+            file.as_ptr(),
+            file.len(),
+            area.as_mut_ptr(),
+            area.len(),
+            &mut states,
+            &mut marks,
+            &mut length,
+        )
+    };
+    answer(number, || Form { states, marks, length })
 }

@@ -6,78 +6,11 @@
 //! it, and an acceptance changes only what it writes. `cargo test --release --offline -- --nocapture`
 //! prints how often each outcome occurred.
 mod generate;
+mod lent;
 
-use caplune::{ffi, independent, Refusal};
+use caplune::{ffi, independent};
 use generate::{Alphabets, Random, Transducer};
-use std::collections::BTreeMap;
-
-/// How often each function gave each outcome: 0 for an acceptance, else the refusal.
-#[derive(Default)]
-struct Tally(BTreeMap<(&'static str, String), usize>);
-
-impl Tally {
-    fn count<T>(&mut self, function: &'static str, answer: &Result<T, u32>, accepted: &str) {
-        let outcome = match answer {
-            Ok(_) => accepted.to_string(),
-            Err(number) => format!("refused {number}"),
-        };
-        *self.0.entry((function, outcome)).or_default() += 1;
-    }
-
-    /// Prints all, and asks for each outcome that it occurred at least so often.
-    fn settle(&self, wanted: &[(&'static str, &str)], least: usize) {
-        for ((function, outcome), times) in &self.0 {
-            println!("{function:18} {outcome:12} {times:8}");
-        }
-        for &(function, outcome) in wanted {
-            let times = self.0.get(&(function, outcome.to_string())).copied().unwrap_or(0);
-            assert!(times >= least, "{function}, {outcome}: only {times} times");
-        }
-        assert_eq!(self.0.len(), wanted.len(), "an outcome that the paper does not have");
-    }
-}
-
-fn number<T>(answer: Result<T, Refusal>) -> Result<T, u32> {
-    answer.map_err(Refusal::number)
-}
-
-/// The pattern of what is lent for writing.
-fn pattern(index: usize) -> u8 {
-    (index * 167 + 91 + index / 256) as u8
-}
-
-/// Numbers that a refusal has to leave.
-const BEFORE: [usize; 3] = [usize::MAX - 5, 0x5a5a_0000_1234, 77];
-
-/// An area of a longer buffer, all of it patterned.
-struct Lent {
-    buffer: Vec<u8>,
-    from: usize,
-    length: usize,
-}
-
-impl Lent {
-    /// How much stands before and behind the area.
-    const MARGIN: usize = 64;
-
-    fn new(length: usize) -> Self {
-        // The area starts at any remainder by 8.
-        let from = Self::MARGIN + length % 8;
-        Lent { buffer: (0..from + length + Self::MARGIN).map(pattern).collect(), from, length }
-    }
-
-    fn area(&mut self) -> &mut [u8] {
-        &mut self.buffer[self.from..self.from + self.length]
-    }
-
-    /// Whether the area starts with `written`, and nothing else of the buffer has changed.
-    fn holds(&self, written: &[u8]) -> bool {
-        let (before, rest) = self.buffer.split_at(self.from);
-        let (start, behind) = rest.split_at(written.len());
-        let patterned = |bytes: &[u8], from: usize| bytes.iter().enumerate().all(|(k, &b)| b == pattern(from + k));
-        start == written && patterned(before, 0) && patterned(behind, self.from + written.len())
-    }
-}
+use lent::{number, Lent, Tally, BEFORE};
 
 fn alphabets(tally: &mut Tally, stock: &[u8]) {
     let expected = independent::read_alphabets(stock).map(|read| (read.inputs.len(), read.outputs.len()));

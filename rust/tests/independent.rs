@@ -7,21 +7,12 @@ mod generate;
 mod oracle;
 
 use caplune::independent::*;
-use generate::alike::{chain, chain_alphabets, prefixed_transducer, small_alphabets, small_transducer};
-use generate::{Growth, Random};
+use generate::alike::{chain, chain_alphabets, prefixed, prefixed_transducer, small_alphabets, small_transducer};
+use generate::samples::*;
+use generate::{trees, Growth, Random};
 use oracle::Oracle;
 use std::collections::BTreeMap;
 use Verdict::{Alike, Differ};
-
-const S: &[u8] = &[2, 1, 0, 2, 2, 0];
-const T: &[u8] = &[1, 0, 3, 0, 3, 0, 1, 0, 0, 1, 0, 1, 0, 0, 0, 1, 0, 1, 0, 0, 1];
-const T_PRIME: &[u8] = &[1, 0, 1, 0, 3, 0, 3, 1, 0, 0, 0, 1, 0, 1, 0, 0, 0, 0, 1, 0, 1];
-const U: &[u8] = &[1, 0, 3, 0, 3, 0, 3, 0, 0, 1, 0, 1, 0, 0, 0, 1, 0, 1, 0, 0, 0, 0, 1, 0, 1];
-
-/// The file of a transducer.
-fn file(states: usize, terms: &[&[u8]]) -> Vec<u8> {
-    generate::Transducer { states, terms: terms.iter().map(|term| term.to_vec()).collect() }.file()
-}
 
 /// The number of states and of marks of a transducer's file.
 fn size(stock: &[u8], file: &[u8]) -> (usize, usize) {
@@ -29,25 +20,9 @@ fn size(stock: &[u8], file: &[u8]) -> (usize, usize) {
     (read.states, read.marks.len() / 2)
 }
 
-/// A ring of states with the right-hand sides of T', each calling the next.
-fn ring(states: usize) -> Vec<u8> {
-    let mut terms = vec![vec![1, 0]];
-    for state in 0..states {
-        let next = ((state + 1) % states) as u8;
-        terms.extend([vec![0, 0, 1, next, 1, next], vec![0, 0, 0, 1, 0, 1]]);
-    }
-    generate::Transducer { states, terms }.file()
-}
-
-/// So many calls of the state of T', joined by f.
-fn many_calls(calls: usize) -> Vec<u8> {
-    let initial = [[0, 0, 1, 0].repeat(calls - 1), vec![1, 0]].concat();
-    file(1, &[&initial, &[0, 0, 1, 0, 1, 0], &[0, 0, 0, 1, 0, 1]])
-}
-
 #[test]
 fn samples() {
-    for (sheet, expected) in [(T, T), (T_PRIME, T), (&[0, 0, 1, 0, 1], &[0, 0, 1, 0, 1])] {
+    for (sheet, expected) in [(T, T), (T_PRIME, T), (CONSTANT, CONSTANT)] {
         assert_eq!(clean(S, sheet).as_deref(), Ok(expected));
     }
     assert_eq!(earliest(S, T).unwrap().pairs, [(0, 0)]);
@@ -63,27 +38,11 @@ fn samples() {
 
 #[test]
 fn sample_of_the_prefix() {
-    // M: q(a(x1, x2)) = d(q(x1), d(q(x1), e)), q(e) = d(d(e, e), d(e, e))
-    let stock = [2, 2, 0, 2, 2, 0];
-    let side = [0, 0, 1, 0, 0, 0, 1, 0, 0, 1];
-    let m = file(1, &[&[1, 0], &side, &[0, 0, 0, 0, 0, 1, 0, 1, 0, 0, 0, 1, 0, 1]]);
     let (d, e) = (Some(0), Some(1));
-    assert_eq!(prefixes(&stock, &m), Ok(vec![vec![d, d, None, None, d, None, e]]));
-    let clean = clean(&stock, &m).unwrap();
-    assert_eq!(size(&stock, &clean), (3, 23));
-    let by_hand = file(
-        3,
-        &[
-            &[0, 0, 0, 0, 1, 0, 1, 1, 0, 0, 1, 2, 0, 1],
-            &[0, 0, 1, 0, 1, 1],
-            &[0, 1],
-            &[0, 0, 1, 2, 0, 1],
-            &[0, 1],
-            &[0, 0, 0, 0, 1, 0, 1, 1, 0, 0, 1, 2, 0, 1],
-            &[0, 1],
-        ],
-    );
-    assert_eq!(clean, by_hand);
+    assert_eq!(prefixes(STOCK_OF_M, &m()), Ok(vec![vec![d, d, None, None, d, None, e]]));
+    let clean = clean(STOCK_OF_M, &m()).unwrap();
+    assert_eq!(size(STOCK_OF_M, &clean), (3, 23));
+    assert_eq!(clean, clean_m());
 }
 
 #[test]
@@ -96,39 +55,17 @@ fn limits() {
     assert_eq!(clean(S, &ring(64)).as_deref(), Ok(T));
     assert_eq!(clean(S, &ring(65)), Err(7));
     assert_eq!(compare(S, &ring(64), T_PRIME), Ok(Alike));
-    // A right-hand side of 67 marks in the earliest form: refused if the initial term calls its state,
-    // and no matter if nobody does.
-    let long: Vec<u8> = [[0, 0, 1, 0].repeat(16), vec![1, 0]].concat();
-    let side = [0, 0, 1, 0, 1, 0];
-    let with = |initial: u8| file(2, &[&[1, initial], &side, &[0, 0, 0, 1, 0, 1], &long, &[0, 1]]);
-    assert_eq!(clean(S, &with(1)), Err(7));
-    assert_eq!(clean(S, &with(0)).as_deref(), Ok(T));
-    // 128 states with two open ends each, of which only the first state is called
-    let terms: Vec<&[u8]> = std::iter::once(&[1, 0][..]).chain([&side[..], &[0, 0, 0, 1, 0, 1]].repeat(128)).collect();
-    assert_eq!(clean(S, &file(128, &terms)).as_deref(), Ok(T));
-    // The limit of 8,192 marks, each term being short: 111 states that give e at the symbol of rank 0
-    // and f(next, e) at the first of 15 symbols of rank 1; at the others f(k, e), where k always gives
-    // f(e, e), so that 3 marks become 5. The last of the 111 has only 9 such right-hand sides, and else
-    // gives e.
-    let stock = [vec![16], vec![1; 15], vec![0, 3, 2, 0, 1]].concat();
-    let with = |initial: &[u8]| {
-        let (leaf, fork) = (vec![0, 1], vec![0, 0, 0, 1, 0, 1]);
-        let mut terms = vec![initial.to_vec()];
-        for state in 0..111u8 {
-            for symbol in 0..15u8 {
-                let called = if symbol == 0 { (state + 1) % 111 } else { 111 };
-                terms.push(if state < 110 || symbol < 9 { vec![0, 0, 1, called, 0, 1] } else { leaf.clone() });
-            }
-            terms.push(leaf.clone());
-        }
-        terms.extend(vec![fork; 16]);
-        generate::Transducer { states: 112, terms }.file()
-    };
-    let marks = |initial: &[u8]| earliest(&stock, &with(initial)).map(|trimmed| trimmed.marks.len() / 2);
+    // refused if the initial term calls the state of the long right-hand side, and no matter if nobody does
+    assert_eq!(clean(S, &long_side(1)), Err(7));
+    assert_eq!(clean(S, &long_side(0)).as_deref(), Ok(T));
+    assert_eq!(clean(S, &unreached_pairs()).as_deref(), Ok(T));
+    // the limit of 8,192 marks
+    let stock = stock_of_many_marks();
+    let marks = |initial: &[u8]| earliest(&stock, &many_marks(initial)).map(|trimmed| trimmed.marks.len() / 2);
     assert_eq!(marks(&[1, 0]), Ok(8191));
     assert_eq!(marks(&[0, 2, 1, 0]), Ok(8192));
     assert_eq!(marks(&[0, 0, 1, 0, 0, 1]), Err(7));
-    let longest = clean(&stock, &with(&[0, 2, 1, 0])).unwrap();
+    let longest = clean(&stock, &many_marks(&[0, 2, 1, 0])).unwrap();
     assert_eq!(size(&stock, &longest), (111, 8192));
     assert_eq!(clean(&stock, &longest).as_ref(), Ok(&longest));
 }
@@ -335,14 +272,6 @@ fn as_defined(tally: &mut Tally, stock: &[u8], file: &[u8]) {
     }
 }
 
-/// Alphabets, and a transducer with long prefixes.
-fn prefixed(random: &mut Random) -> (generate::Alphabets, generate::Transducer) {
-    let alphabets = small_alphabets(random);
-    let (states, most) = (random.pick(&[1, 2, 4, 10, 40, 70]), random.range(3, 12));
-    let sheet = prefixed_transducer(random, &alphabets, states, most);
-    (alphabets, sheet)
-}
-
 #[test]
 fn definitions() {
     let mut tally = Tally::default();
@@ -383,27 +312,6 @@ fn definitions() {
         ("prefixes after over 3 rounds", 400),
         ("over 100 states in the end", 50),
     ]);
-}
-
-/// All trees of at most `levels` levels over symbols of these ranks, unless they are over `most`.
-fn trees(ranks: &[u8], levels: usize, most: usize) -> Option<Vec<Vec<u8>>> {
-    let mut trees: Vec<Vec<u8>> = Vec::new();
-    for _ in 0..levels {
-        let mut next = Vec::new();
-        for (symbol, &rank) in ranks.iter().enumerate() {
-            let mut starts = vec![vec![symbol as u8]];
-            for _ in 0..rank {
-                if starts.len() * trees.len() > most {
-                    return None;
-                }
-                starts =
-                    starts.iter().flat_map(|start| trees.iter().map(move |tree| [&start[..], tree].concat())).collect();
-            }
-            next.extend(starts);
-        }
-        trees = next;
-    }
-    Some(trees)
 }
 
 /// The prefix of a state is the largest pattern that its outputs share. All input trees with one
@@ -693,7 +601,7 @@ fn one_mark_at_the_end_of_a_chain() {
             assert!(outputs(states)[0] != outputs(states)[1]);
             assert!((1..states).all(|levels| outputs(levels)[0] == outputs(levels)[1]));
             if symbols == 0 {
-                assert_eq!(clean(&stock, &sheets[0]).as_deref(), Ok(&[0, 0, 1, 0, 1][..]));
+                assert_eq!(clean(&stock, &sheets[0]).as_deref(), Ok(CONSTANT));
                 assert_eq!(size(&stock, &clean(&stock, &sheets[1]).unwrap()).0, states);
             }
         }

@@ -96,19 +96,22 @@ module _ {classes bytes : List ℕ} {i j n : ℕ} (W : Keyable classes bytes i n
     other-key : (keyAt classes bytes (i + k) ≡ keyAt classes bytes (j + k) → ⊥) → Decides (SameParts classes bytes i j n) false
     other-key f = decides-no (λ e. f (each-same e k h))
 
+    first-same : keyAt classes bytes (i + k) ≡ keyAt classes bytes (j + k) → getD bytes (2 * (i + k)) 0 ≡ getD bytes (2 * (j + k)) 0
+    first-same e = sym (key-first classes _) ∙ ap (λ m. m .0) e ∙ key-first classes _
+
     -- one is a symbol and the other a call, or they are calls on two children
     pub other-child : (getD bytes (2 * (i + k)) 0 ≡ getD bytes (2 * (j + k)) 0 → ⊥) → Decides (SameParts classes bytes i j n) false
-    other-child f = other-key (λ e. f (sym (key-first classes _) ∙ ap (λ m. m .0) e ∙ key-first classes _))
+    other-child f = other-key (λ e. f (first-same e))
+
+    -- a symbol, and another or a call
+    pub other-symbol : getD bytes (2 * (i + k)) 0 ≡ 0 → (getD bytes (2 * (i + k) + 1) 0 ≡ getD bytes (2 * (j + k) + 1) 0 → ⊥) → Decides (SameParts classes bytes i j n) false
+    other-symbol z f = other-key (λ s. f (ap (λ m. m .1) (sym (key-symbol classes _ _ z) ∙ s ∙ key-symbol classes _ _ (sym (first-same s) ∙ z))))
+
+    -- a call, and one of a state of another class or a symbol
+    pub other-class : 0 < getD bytes (2 * (i + k)) 0 → (at classes (getD bytes (2 * (i + k) + 1) 0) ≡ at classes (getD bytes (2 * (j + k) + 1) 0) → ⊥) → Decides (SameParts classes bytes i j n) false
+    other-class z f = other-key (λ s. f (ap (λ m. m .1) (sym (key-call classes _ _ z) ∙ s ∙ key-call classes _ _ (omega (arith, first-same s)))))
 
     module _ (e : getD bytes (2 * (i + k)) 0 ≡ getD bytes (2 * (j + k)) 0) where
-      -- two symbols
-      pub other-symbol : getD bytes (2 * (i + k)) 0 ≡ 0 → (getD bytes (2 * (i + k) + 1) 0 ≡ getD bytes (2 * (j + k) + 1) 0 → ⊥) → Decides (SameParts classes bytes i j n) false
-      other-symbol z f = other-key (λ s. f (ap (λ m. m .1) (sym (key-symbol classes _ _ z) ∙ s ∙ key-symbol classes _ _ (sym e ∙ z))))
-
-      -- calls of states of two classes
-      pub other-class : 0 < getD bytes (2 * (i + k)) 0 → (at classes (getD bytes (2 * (i + k) + 1) 0) ≡ at classes (getD bytes (2 * (j + k) + 1) 0) → ⊥) → Decides (SameParts classes bytes i j n) false
-      other-class z f = other-key (λ s. f (ap (λ m. m .1) (sym (key-call classes _ _ z) ∙ s ∙ key-call classes _ _ (omega arith))))
-
       pub next-mark : SameBefore classes bytes i j k → getD bytes (2 * (i + k) + 1) 0 ≡ getD bytes (2 * (j + k) + 1) 0 → SameBefore classes bytes i j (k + 1)
       next-mark f g = below-more (λ k. keyAt classes bytes (i + k) ≡ keyAt classes bytes (j + k)) k f (key-same classes e g)
 

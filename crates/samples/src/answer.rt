@@ -1,6 +1,7 @@
 // One answer, printed as a line: the sample's name, then what the library said.
 ghost use mathlib.Core.Path.{_≡_};
 ghost use Rattle.formats.specs.Refusal as refusals;
+use earliest::earliest::Formed;
 use formats::alphabet::AlphabetsRead;
 use formats::bytes::wide;
 use formats::file::FileRead;
@@ -52,9 +53,13 @@ fn one(name: &[u8], n: usize) {
     text(b"\n");
 }
 
-fn refused(r: Refusal) {
+fn refusal(r: Refusal) {
     text(b"refused ");
     io::print_decimal(STDOUT_FILENO, number_of(r));
+}
+
+fn refused(r: Refusal) {
+    refusal(r);
     text(b"\n");
 }
 
@@ -121,6 +126,30 @@ pub(crate) fn linear(name: &[u8], a: LinearTest) {
         LinearTest::NotLinear => text(b"no\n"),
         LinearTest::Refused(r) => refused(r),
     }
+}
+
+// A part of a line: how many states and marks a form has, and how long its file is.
+fn form(name: &[u8], a: Formed) {
+    text(name);
+    match a {
+        Formed::Form(states, marks, bytes) => {
+            text(b"passes ");
+            number(states);
+            text(b", marks ");
+            number(marks);
+            text(b", bytes ");
+            number(bytes);
+        }
+        Formed::Refused(r) => refusal(r),
+    }
+}
+
+// What making the earliest form and the normal form answered.
+pub(crate) fn forms(name: &[u8], early: Formed, normal: Formed) {
+    text(name);
+    form(b"trimmed ", early);
+    form(b"; clean ", normal);
+    text(b"\n");
 }
 
 // Bytes in decimal, each after a space.

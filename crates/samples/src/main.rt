@@ -1,10 +1,11 @@
 // Document 01's small inputs and samples that need no more than one transducer, a line for each: its name, and the answer.
 // What is printed is in the document's words: stock (alphabets), design (input tree), sheet (transducer), pass (state), block
-// (output symbol), place (address), single (linear).
+// (output symbol), place (address), single (linear), trimmed (earliest form), clean (normal form).
 mod addresses;
 mod alphabets;
 mod answer;
 mod bodies;
+mod cleaning;
 mod inputs;
 mod limits;
 mod linear;
@@ -25,4 +26,5 @@ fn main() {
     translations::run();
     addresses::run();
     linear::run();
+    cleaning::run();
 }

@@ -9,7 +9,7 @@ use formats::file::transducer_marks;
 use formats::file::write_transducer;
 
 // The array by its own type: its length is then known, whatever the writer did to it.
-fn area_starts(area: &[u8; 20483], n: usize) {
+pub(crate) fn area_starts(area: &[u8; 20483], n: usize) {
     answer::start(b"its area starts:", area, n);
 }
 

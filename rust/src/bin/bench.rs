@@ -47,8 +47,7 @@ fn main() {
     let cases = cases();
     reading(&cases);
     translating(&cases);
-    // without the proved library, which does not minimize yet
-    cleaning(None);
+    cleaning();
     stylesheets(&cases);
     string_transducers();
 }
@@ -183,38 +182,42 @@ struct Sheet {
     file: Vec<u8>,
 }
 
-/// Minimizes the transducer of a stock and a file into an area.
-type Minimize<'a> = &'a dyn Fn(&[u8], &[u8], &mut [u8]);
+impl Sheet {
+    /// Minimizes by the proved library.
+    fn proved(&self, area: &mut [u8]) {
+        discard(black_box(caplune::clean(&self.stock, black_box(&self.file), area)))
+    }
 
-/// Minimization, by the proved library where it is given, and by the independent implementation.
-fn cleaning(proved: Option<Minimize>) {
-    for Sheet { name, stock, file } in sheets() {
-        let outcome = match independent::clean(&stock, &file) {
+    /// Minimizes by the independent implementation.
+    fn independent(&self, area: &mut [u8]) {
+        discard(black_box(independent::clean_into(&self.stock, black_box(&self.file), area)))
+    }
+
+    /// The minimal transducer, or the refusal; both sides give it.
+    fn clean(&self) -> Result<Vec<u8>, u32> {
+        let mut area = vec![1; independent::MAX_FILE];
+        let form = caplune::clean(&self.stock, &self.file, &mut area);
+        let proved = form.map(|form| area[..form.length].to_vec()).map_err(caplune::Refusal::number);
+        assert_eq!(proved, independent::clean(&self.stock, &self.file), "{}", self.name);
+        proved
+    }
+}
+
+/// Minimization.
+fn cleaning() {
+    for sheet in sheets() {
+        let outcome = match sheet.clean() {
             Ok(clean) => format!("{} left", clean[0]),
             Err(number) => format!("refused by {number}"),
         };
         let area = RefCell::new(vec![1; independent::MAX_FILE]);
-        let mut independent = || {
-            let area = &mut area.borrow_mut()[..];
-            discard(black_box(independent::clean_into(&stock, black_box(&file), area)))
-        };
-        let name = format!("minimize, {name}: {outcome}");
-        match proved {
-            Some(proved) => {
-                let mut proved = || proved(&stock, black_box(&file), &mut area.borrow_mut());
-                line(&name, file.len(), &mut proved, &mut independent);
-            }
-            None => {
-                println!("{name:52} {:9} {:>12} {:>12}", file.len(), "-", show(time(&mut independent)));
-            }
-        }
+        line(
+            &format!("minimize, {}: {outcome}", sheet.name),
+            sheet.file.len(),
+            &mut || sheet.proved(&mut area.borrow_mut()),
+            &mut || sheet.independent(&mut area.borrow_mut()),
+        );
     }
-}
-
-/// The time of one call.
-fn time(call: &mut dyn FnMut()) -> f64 {
-    let times = calibrate(call);
-    (0..BATCHES).map(|_| batch(call, times)).fold(f64::INFINITY, f64::min)
 }
 
 /// The states in a ring or a chain: `side` gives the right-hand side of a state at a symbol.
@@ -519,10 +522,10 @@ fn string_transducers() {
     let folder = std::env::temp_dir().join(format!("caplune-fst-{}", std::process::id()));
     std::fs::create_dir_all(&folder).expect("a folder for the machines");
     println!("OpenFst's fstminimize: the time of its process, with starting, reading and writing, against a call");
-    println!("in this process. The first line is hardly more than its start, which the second ratio leaves out.");
+    println!("in this process. The first line is hardly more than its start, which the second ratios leave out.");
     println!(
-        "{:52} {:>9} {:>12} {:>12} {:>12} {:>8} {:>8}",
-        "", "states", "fstminimize", "past start", "independent", "ratio", "ratio"
+        "{:52} {:>9} {:>12} {:>12} {:>12} {:>8} {:>8} {:>12} {:>8} {:>8}",
+        "", "states", "fstminimize", "past start", "proved", "ratio", "ratio", "independent", "ratio", "ratio"
     );
     let mut start = None;
     for sheet in string_sheets() {
@@ -581,18 +584,21 @@ fn string_transducer(folder: &Path, sheet: &Sheet, start: Option<f64>) -> f64 {
     let arcs = printed.lines().map(|line| line.split('\t').collect::<Vec<_>>()).filter(|arc| arc.len() >= 4);
     let reading: std::collections::BTreeSet<_> =
         arcs.filter(|arc| arc[2] != "0").map(|arc| arc[0].to_owned()).collect();
-    let clean = independent::clean(&sheet.stock, &sheet.file).expect("it is minimized");
+    let clean = sheet.clean().expect("it is minimized");
     assert_eq!(reading.len(), usize::from(clean[0]), "{}", sheet.name);
-    let mut area = vec![1; independent::MAX_FILE];
-    let independent =
-        time(&mut || discard(black_box(independent::clean_into(&sheet.stock, black_box(&sheet.file), &mut area))));
+    let area = RefCell::new(vec![1; independent::MAX_FILE]);
+    let (proved, independent) =
+        times(&mut || sheet.proved(&mut area.borrow_mut()), &mut || sheet.independent(&mut area.borrow_mut()));
     let name = format!("{}: {} left", sheet.name, clean[0]);
     let states = sheet.file[0];
     let past = process - start.unwrap_or(process);
     println!(
-        "{name:52} {states:9} {:>12} {:>12} {:>12} {:8.0} {:8.0}",
+        "{name:52} {states:9} {:>12} {:>12} {:>12} {:8.0} {:8.0} {:>12} {:8.0} {:8.0}",
         show(process),
         show(past),
+        show(proved),
+        process / proved,
+        past / proved,
         show(independent),
         process / independent,
         past / independent

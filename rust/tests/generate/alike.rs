@@ -88,6 +88,14 @@ pub fn prefixed_transducer(random: &mut Random, alphabets: &Alphabets, states: u
     Transducer { states, terms }
 }
 
+/// Alphabets, and a transducer with long prefixes.
+pub fn prefixed(random: &mut Random) -> (Alphabets, Transducer) {
+    let alphabets = small_alphabets(random);
+    let (states, most) = (random.pick(&[1, 2, 4, 10, 40, 70]), random.range(3, 12));
+    let sheet = prefixed_transducer(random, &alphabets, states, most);
+    (alphabets, sheet)
+}
+
 /// The number of sub-trees that a term can call.
 fn reach(alphabets: &Alphabets, number: usize) -> u8 {
     number.checked_sub(1).map_or(1, |number| alphabets.inputs[number % alphabets.inputs.len()])

@@ -4,6 +4,7 @@
 #![allow(dead_code)]
 
 pub mod alike;
+pub mod samples;
 
 /// A small generator of numbers: xorshift, with a multiplication at the end.
 pub struct Random(u64);
@@ -146,6 +147,27 @@ pub fn tree(random: &mut Random, ranks: &[u8], nodes: usize, levels: usize, grow
             above.pop();
         }
     }
+}
+
+/// All trees of at most `levels` levels over symbols of these ranks, unless they are over `most`.
+pub fn trees(ranks: &[u8], levels: usize, most: usize) -> Option<Vec<Vec<u8>>> {
+    let mut trees: Vec<Vec<u8>> = Vec::new();
+    for _ in 0..levels {
+        let mut next = Vec::new();
+        for (symbol, &rank) in ranks.iter().enumerate() {
+            let mut starts = vec![vec![symbol as u8]];
+            for _ in 0..rank {
+                if starts.len() * trees.len() > most {
+                    return None;
+                }
+                starts =
+                    starts.iter().flat_map(|start| trees.iter().map(move |tree| [&start[..], tree].concat())).collect();
+            }
+            next.extend(starts);
+        }
+        trees = next;
+    }
+    Some(trees)
 }
 
 /// An input tree, most of them within the limits.

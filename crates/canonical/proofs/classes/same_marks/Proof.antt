@@ -38,7 +38,7 @@ shared-slice-read-if1 : tie.Need-shared-slice-read-if1 Inv-loop μ-loop
 shared-slice-read-if1 c = omega arith
 
 returns : tie.Need-returns Inv-loop μ-loop
-returns c = other-child (c .before .before .before .before .before .before .before .pre) (c .before .before .before .loop-test .taken) (c .if1 .taken)
+returns c = other-child (c .before .before .before .before .before .before .before .pre) (c .before .before .before .loop-test .taken) (λ e. omega (arith, c .if1 .taken, e))
 
 add-x : tie.Need-add-x Inv-loop μ-loop
 add-x c = omega arith
@@ -65,7 +65,7 @@ shared-slice-read-y : tie.Need-shared-slice-read-y Inv-loop μ-loop
 shared-slice-read-y c = omega arith
 
 returns-2 : tie.Need-returns-2 Inv-loop μ-loop
-returns-2 c = other-symbol (c .before .before .before .before .before .before .before .before .before .before .before .pre) (c .before .before .before .before .before .before .before .loop-test .taken) (c .before .before .before .before .if1 .left) (c .if3 .taken) (c .before .if2 .taken)
+returns-2 c = other-symbol (c .before .before .before .before .before .before .before .before .before .before .before .pre) (c .before .before .before .before .before .before .before .loop-test .taken) (c .if3 .taken) (c .before .if2 .taken)
 
 wide-requires : tie.Need-wide-requires Inv-loop μ-loop
 wide-requires c κs = search needs
@@ -82,7 +82,7 @@ shared-slice-read-if4-2 c = second-there (c .before .before .before .before .bef
 returns-3 : tie.Need-returns-3 Inv-loop μ-loop
 returns-3 c =
     let l = now (c .before .before .before .before .before .before .before .before .before .before .before .before .before .before .before .before .args .classes) in
-    other-class (c .before .before .before .before .before .before .before .before .before .before .before .before .before .before .before .before .pre) (c .before .before .before .before .before .before .before .before .before .before .before .before .loop-test .taken) (c .before .before .before .before .before .before .before .before .before .if1 .left) (omega (arith, c .before .before .before .before .before .if3 .left)) (λ e. c .if4 .taken (ap (at l) (c .before .before .before .before .wide .ensures) ∙ e ∙ sym (ap (at l) (c .before .before .wide2 .ensures))))
+    other-class (c .before .before .before .before .before .before .before .before .before .before .before .before .before .before .before .before .pre) (c .before .before .before .before .before .before .before .before .before .before .before .before .loop-test .taken) (omega (arith, c .before .before .before .before .before .if3 .left)) (λ e. c .if4 .taken (ap (at l) (c .before .before .before .before .wide .ensures) ∙ e ∙ sym (ap (at l) (c .before .before .wide2 .ensures))))
 
 add-k : tie.Need-add-k Inv-loop μ-loop
 add-k c = omega arith

@@ -1,3 +1,4 @@
+-- `normal_by` meets its contract: the earliest form, and its quotient. Assumes nothing.
 use Rattle.canonical.proofs.Cleaning.{normal-reducible, normal-states, normal-over}
 use borrow.Author.Needs.{needs}
 use Rattle.canonical.proofs.normal.normal_by.Statement.{statement}
@@ -9,59 +10,45 @@ use Rattle.earliest.proofs.earliest.earliest_by.Reads as earliest-by-reads
 use Rattle.formats.proofs.alphabet.input_ranks.Reads as input-ranks-reads
 use Rattle.formats.proofs.alphabet.output_ranks.Reads as output-ranks-reads
 
--- src/normal.rt:75:48
 slice-aggregate-earliest-by : tie.Need-slice-aggregate-earliest-by
 slice-aggregate-earliest-by c = search needs
 
--- src/normal.rt:75:59
 slice-aggregate-earliest-by-2 : tie.Need-slice-aggregate-earliest-by-2
 slice-aggregate-earliest-by-2 c = search needs
 
--- src/normal.rt:75:11
 earliest-by-requires : tie.Need-earliest-by-requires
 earliest-by-requires c κs = search needs
 
--- src/normal.rt:76:23
 enum-known-k : tie.Need-enum-known-k
 enum-known-k c = search needs
 
--- src/normal.rt:76:50
 input-ranks-requires : tie.Need-input-ranks-requires
 input-ranks-requires c κs = search needs
 
--- src/normal.rt:76:70
 output-ranks-requires : tie.Need-output-ranks-requires
 output-ranks-requires c κs = search needs
 
--- src/normal.rt:76:91
 slice-aggregate-reduce : tie.Need-slice-aggregate-reduce
 slice-aggregate-reduce c = search needs
 
--- src/normal.rt:76:98
 slice-aggregate-reduce-2 : tie.Need-slice-aggregate-reduce-2
 slice-aggregate-reduce-2 c = search needs
 
--- src/normal.rt:76:43
 reduce-requires : tie.Need-reduce-requires
 reduce-requires c κs = (normal-reducible (c .before .before .before .before .before .before .before .before .before .before .before .before .before .before .before .before .before .before .before .pre .0) (c .before .before .before .before .before .before .before .before .before .before .before .earliest-by .ensures) (c .before .before .before .before .before .before .before .k .given .1) (c .before .before .before .before .before .input-ranks .ensures) (c .before .before .before .before .output-ranks .ensures), c .before .before .before .before .before .before .before .before .before .before .before .before .before .before .before .before .before .before .before .pre .1, c .before .before .before .before .before .before .before .before .before .before .before .before .before .before .before .before .before .before .before .pre .2)
 
--- src/normal.rt:77:24
 enum-told : tie.Need-enum-told
 enum-told c = search needs
 
--- src/normal.rt:62:1
 same-length : tie.Need-same-length
 same-length c = search needs
 
--- src/normal.rt:62:1
 same-length-2 : tie.Need-same-length-2
 same-length-2 c = search needs
 
--- src/normal.rt:62:1
 returns : tie.Need-returns
 returns c = normal-states (c .before .before .before .before .before .before .before .before .before .before .before .before .before .before .before .before .before .before .before .before .before .before .before .before .pre .0) (c .before .before .before .before .before .before .before .before .before .before .before .before .before .before .before .before .earliest-by .ensures) (c .before .before .before .before .before .before .before .before .before .before .before .before .k .given .1) (c .before .before .before .before .before .before .before .before .before .before .input-ranks .ensures) (c .before .before .before .before .before .before .before .before .before .output-ranks .ensures) (c .before .before .before .before .reduce .ensures)
 
--- src/normal.rt:62:1
 returns-2 : tie.Need-returns-2
 returns-2 c = normal-over (c .before .before .before .before .before .before .before .before .before .before .before .before .pre .0) (c .before .before .before .before .earliest-by .ensures) (c .enum-told .given .1)
 

@@ -1,3 +1,4 @@
+-- `reduce` meets its contract: a byte for each state, and then `reduce_by`. Assumes nothing.
 use Rattle.canonical.proofs.Normalizing.{reducible-part, reduces-part}
 use borrow.Author.Needs.{needs}
 use Rattle.canonical.proofs.normal.reduce.Statement.{statement}
@@ -6,43 +7,33 @@ use Rattle.canonical.proofs.normal.reduce.Reads as reads
 use Rattle.canonical.proofs.normal.reduce.Lts as lts
 use Rattle.canonical.proofs.normal.reduce_by.Reads as reduce-by-reads
 
--- src/normal.rt:44:41
 sub-reduce-by : tie.Need-sub-reduce-by
 sub-reduce-by c = search needs
 
--- src/normal.rt:44:41
 part-old-start : tie.Need-part-old-start
 part-old-start c = search needs
 
--- src/normal.rt:44:41
 part-old-end : tie.Need-part-old-end
 part-old-end c = search needs
 
--- src/normal.rt:44:57
 sub-reduce-by-2 : tie.Need-sub-reduce-by-2
 sub-reduce-by-2 c = search needs
 
--- src/normal.rt:44:57
 part-classes-start : tie.Need-part-classes-start
 part-classes-start c = search needs
 
--- src/normal.rt:44:57
 part-classes-end : tie.Need-part-classes-end
 part-classes-end c = search needs
 
--- src/normal.rt:44:5
 reduce-by-requires : tie.Need-reduce-by-requires
 reduce-by-requires c κs = let p = reducible-part (c .before .before .before .before .before .before .before .before .before .before .args .k) (c .before .before .before .before .before .before .before .before .before .before .pre .0) in (p .0, p .1, p .2, c .before .before .before .before .before .before .before .before .before .before .pre .1, c .before .before .before .before .before .before .before .before .before .before .pre .2)
 
--- src/normal.rt:30:1
 same-length : tie.Need-same-length
 same-length c = search needs
 
--- src/normal.rt:30:1
 same-length-2 : tie.Need-same-length-2
 same-length-2 c = search needs
 
--- src/normal.rt:30:1
 returns : tie.Need-returns
 returns c = reduces-part (c .before .before .before .before .before .before .before .before .before .before .before .before .before .before .before .before .before .args .k) (c .before .before .before .before .before .before .before .before .before .before .before .before .before .before .before .before .before .pre .0) (c .before .before .before .before .before .before .reduce-by .ensures)
 

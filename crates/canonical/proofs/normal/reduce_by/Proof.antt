@@ -1,3 +1,4 @@
+-- `reduce_by` meets its contract: the classes, and the quotient by them. Assumes nothing.
 use Prim.Native.Nat.{ℕ}
 use native.Mathlib.Omega.{arith}
 use lib.ListN.{length-replicate}
@@ -10,39 +11,30 @@ use Rattle.canonical.proofs.normal.reduce_by.Lts as lts
 use Rattle.canonical.proofs.classes.settle_classes.Reads as settle-classes-reads
 use Rattle.canonical.proofs.quotient.merge.Reads as merge-reads
 
--- src/normal.rt:24:66
 slice-aggregate-settle-classes : tie.Need-slice-aggregate-settle-classes
 slice-aggregate-settle-classes c = search needs
 
--- src/normal.rt:24:9
 settle-classes-requires : tie.Need-settle-classes-requires
 settle-classes-requires c κs = search needs
 
--- src/normal.rt:25:46
 slice-aggregate-merge : tie.Need-slice-aggregate-merge
 slice-aggregate-merge c = search needs
 
--- src/normal.rt:25:5
 merge-requires : tie.Need-merge-requires
 merge-requires c κs = settled-mergeable (c .before .before .before .before .before .before .before .before .before .before .before .before .before .before .before .before .before .before .before .before .before .pre .0) (c .before .before .before .before .before .before .before .before .before .settle-classes .ensures) (omega (arith, c .before .before .before .before .before .before .before .before .before .settle-classes .kept .1 .1 .1 .1 .1 .0, length-replicate {A = ℕ} 128 0)) (c .before .before .before .before .before .before .before .before .before .before .before .before .before .before .before .before .before .before .before .before .before .pre .3) (c .before .before .before .before .before .before .before .before .before .before .before .before .before .before .before .before .before .before .before .before .before .pre .4)
 
--- src/normal.rt:10:1
 same-length : tie.Need-same-length
 same-length c = search needs
 
--- src/normal.rt:10:1
 same-length-2 : tie.Need-same-length-2
 same-length-2 c = search needs
 
--- src/normal.rt:10:1
 same-length-3 : tie.Need-same-length-3
 same-length-3 c = search needs
 
--- src/normal.rt:10:1
 same-length-4 : tie.Need-same-length-4
 same-length-4 c = search needs
 
--- src/normal.rt:10:1
 returns : tie.Need-returns
 returns c = settled-reduces (c .before .before .before .before .before .before .before .before .before .before .before .before .before .before .before .before .before .before .before .before .before .before .before .before .before .before .pre .0) (c .before .before .before .before .before .before .before .before .before .before .before .before .before .before .settle-classes .ensures) (c .before .before .before .before .merge .ensures)
 

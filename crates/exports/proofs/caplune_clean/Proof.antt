@@ -1,0 +1,44 @@
+-- `caplune_clean` meets its contract. Assumes nothing.
+use mathlib.Core.Path.{refl, ap}
+use Rattle.earliest.specs.Answers.{formOf}
+use Rattle.exports.proofs.Telling.{tells-accepted, tells-refused}
+use borrow.Author.Needs.{needs}
+use Rattle.exports.proofs.caplune_clean.Statement.{statement}
+use Rattle.exports.proofs.caplune_clean.Tie as tie
+
+clean-requires : tie.Need-clean-requires
+clean-requires c κs = search needs
+
+enum-known-k : tie.Need-enum-known-k
+enum-known-k c = search needs
+
+enum-known-x : tie.Need-enum-known-x
+enum-known-x c = search needs
+
+code-requires : tie.Need-code-requires
+code-requires c κs = search needs
+
+same-length : tie.Need-same-length
+same-length c = search needs
+
+returns : tie.Need-returns
+returns c = tells-accepted (c .before .before .before .before .before .clean .result) (c .before .before .before .before .before .clean .ensures) (ap formOf (c .before .k .given .1)) refl refl
+
+same-length-2 : tie.Need-same-length-2
+same-length-2 c = search needs
+
+returns-2 : tie.Need-returns-2
+returns-2 c = tells-refused (c .before .before .before .before .before .before .clean .result) (c .before .before .before .before .before .before .clean .ensures) (ap formOf (c .before .before .x .given .1)) (c .code .ensures) refl
+
+pub caplune-clean-spec : {M : Type 1} → statement M
+caplune-clean-spec =
+    tie.close
+    (tie.spec
+    clean-requires
+    enum-known-k
+    enum-known-x
+    code-requires
+    same-length
+    returns
+    same-length-2
+    returns-2)
