@@ -37,7 +37,7 @@ module _ (S : Sides) (n n′ : ℕ) (outs : List ℕ) (l : Leaf (S .ins)) (L : L
 
   -- ---- the terms of a parent
   -- in step up to mark m, they are alike along its address
-  agree-along : (q a m : ℕ) → q ≤ count → (0 < q → a < length (S .ins)) → Agree S (leftBody (S .ins) P q a) (rightBody (S .ins) P q a) m → Along (Begin (byteMark (S .bytes) (at (S .starts) (leftBody (S .ins) P q a) + m)) (byteMark (S .bytes′) (at (S .starts′) (rightBody (S .ins) P q a) + m))) (leftTerm M P q a) (rightTerm M′ P q a) (place (leftTerm M P q a) m)
+  pub agree-along : (q a m : ℕ) → q ≤ count → (0 < q → a < length (S .ins)) → Agree S (leftBody (S .ins) P q a) (rightBody (S .ins) P q a) m → Along (Begin (byteMark (S .bytes) (at (S .starts) (leftBody (S .ins) P q a) + m)) (byteMark (S .bytes′) (at (S .starts′) (rightBody (S .ins) P q a) + m))) (leftTerm M P q a) (rightTerm M′ P q a) (place (leftTerm M P q a) m)
   unfolding leftBody rightBody leftTerm rightTerm transducer body
   agree-along ℕ.zero a m h g A = spelt-along (initial-spelt L) (initial-spelt L′) m (omega (arith, A .inside)) (omega (arith, A .inside′)) (A .step)
   agree-along (suc p) a m h g A =
@@ -61,7 +61,7 @@ module _ (S : Sides) (n n′ : ℕ) (outs : List ℕ) (l : Leaf (S .ins)) (L : L
         along-map (begin-calls (C .left .from-one)) (rw (mark-is _ _ _ _ (C .left), mark-is _ _ _ _ (C .right)) at (agree-along (pairParent P p) (pairSymbol P p) (pairMark P p) (omega (arith, K .parent)) (K .symbol) (C .agree)))
 
     -- in the initial terms it is the first
-    top-child : pairParent P p ≡ 0 → pairChild P p ≡ 1
+    pub top-child : pairParent P p ≡ 0 → pairChild P p ≡ 1
     unfolding leftBody rightBody
     top-child e =
         let K = linked p h in

@@ -158,7 +158,7 @@ Root m (node k ts) = (0, k) ≡ m
 abbrev pub Begin : Mark → Mark → Term (ℕ × ℕ) → Term (ℕ × ℕ) → Type 0
 Begin e e′ t u = Root e t × Root e′ u
 
-root-call : (e : Mark) (t : Term (ℕ × ℕ)) → Root e t → 1 ≤ e .0 → t ≡ var e
+pub root-call : (e : Mark) (t : Term (ℕ × ℕ)) → Root e t → 1 ≤ e .0 → t ≡ var e
 unfolding Root
 root-call e (var e′) h o = ap var (h .0)
 root-call e (node k ts) h o = absurd (omega (arith, ap (λ m. m .0) h))
@@ -300,14 +300,14 @@ pub begin-calls : {c x y : ℕ} → 1 ≤ c → (t u : Term (ℕ × ℕ)) → Be
 begin-calls o t u b = (root-call _ t (b .0) o, root-call _ u (b .1) o)
 
 -- of two symbols that clash the names are two
-symbols-differ : {bytes bytes′ : List ℕ} {i j : ℕ} → Clashing bytes bytes′ i j → 0 ≡ getD bytes (2 * i) 0 → 0 ≡ getD bytes′ (2 * j) 0 → getD bytes (2 * i + 1) 0 ≡ getD bytes′ (2 * j + 1) 0 → ⊥
+pub symbols-differ : {bytes bytes′ : List ℕ} {i j : ℕ} → Clashing bytes bytes′ i j → 0 ≡ getD bytes (2 * i) 0 → 0 ≡ getD bytes′ (2 * j) 0 → getD bytes (2 * i + 1) 0 ≡ getD bytes′ (2 * j + 1) 0 → ⊥
 symbols-differ (two-symbols e f n) z w h = n h
 symbols-differ (symbol-call e f) z w h = omega arith
 symbols-differ (call-symbol e f) z w h = omega arith
 symbols-differ (two-children e f n) z w h = omega arith
 
 -- of two calls that clash the children are two
-children-differ : {bytes bytes′ : List ℕ} {i j : ℕ} → Clashing bytes bytes′ i j → 0 < getD bytes (2 * i) 0 → 0 < getD bytes′ (2 * j) 0 → getD bytes (2 * i) 0 ≡ getD bytes′ (2 * j) 0 → ⊥
+pub children-differ : {bytes bytes′ : List ℕ} {i j : ℕ} → Clashing bytes bytes′ i j → 0 < getD bytes (2 * i) 0 → 0 < getD bytes′ (2 * j) 0 → getD bytes (2 * i) 0 ≡ getD bytes′ (2 * j) 0 → ⊥
 children-differ (two-symbols e f n) z w h = omega arith
 children-differ (symbol-call e f) z w h = omega arith
 children-differ (call-symbol e f) z w h = omega arith

@@ -3,3 +3,5 @@ pub mod Pairs
 pub mod Paths
 pub mod Shown
 pub mod Other
+pub mod Verdicts
+pub mod Bottoms

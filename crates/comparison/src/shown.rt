@@ -64,7 +64,7 @@ pub(crate) fn wrap(
 }
 
 // One step more above the tree of the bytes lo to hi; with child number 0 the symbol stands there with leaves alone.
-fn add_step(
+pub(crate) fn add_step(
     ins: &[u8],
     e: usize,
     a: usize,

@@ -1,6 +1,5 @@
 // A form in a table of starts and marks, written as a file.
 ghost use Prim.Native.Nat.{ℕ, _+_, _*_, _≤_, _<_};
-ghost use mathlib.Core.Path.{_≡_};
 ghost use lib.ListN.{length, getD};
 ghost use Rattle.earliest.specs.Inner.Forms.{FillsCounts, Writable, WritesForm};
 use formats::alphabet::input_ranks;

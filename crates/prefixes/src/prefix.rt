@@ -202,7 +202,7 @@ fn follow(
     }
 }
 
-// Cuts until no right-hand side cuts any more: by sweeps, and after 32 of them along the calls before each further one.
+// Cuts until no right-hand side cuts any more: by sweeps, and after 8 of them along the calls before each further one.
 pub(crate) fn settle(
     ins: &[u8],
     outs: &[u8],
@@ -218,7 +218,7 @@ pub(crate) fn settle(
     let mut more = true;
     let mut turn: usize = 0;
     while more {
-        if turn < 32 {
+        if turn < 8 {
             turn += 1;
         } else {
             follow(ins, outs, starts, marks, heads, sizes, other);
@@ -228,7 +228,7 @@ pub(crate) fn settle(
 }
 
 // The first input symbol of rank 0.
-fn leaf_symbol(ins: &[u8]) -> usize
+pub fn leaf_symbol(ins: &[u8]) -> usize
     requires { ⌜ Leaf (now ins) ⌝ }
     ensures { λ r. ⌜ (r < length (now (ins .entry))) × (getD (now (ins .entry)) r 0 ≡ 0) ⌝ }
 {

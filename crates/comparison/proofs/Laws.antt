@@ -1,0 +1,52 @@
+-- What a comparison promises: it answers alike exactly if the two files sew alike, and exactly then the part that is handed out is not empty.
+use Prim.Native.Nat.{ℕ, _≤_}
+use native.Mathlib.Decide.{decLt}
+use native.Mathlib.Omega.{arith}
+use mathlib.Core.List.{List, [], _∷_}
+use mathlib.Core.Logic.{_↔_, _≢_, inl, inr, by-cases}
+use mathlib.Core.Option.{Option, some, none as nothing}
+use mathlib.Core.Path.{_≡_, refl, ap, sym, _∙_}
+use lib.ListN.{length, getD, length-append}
+use Rattle.theory.specs.Transducer.{Transducer}
+use Rattle.theory.proofs.Terms.{conflict}
+use Rattle.formats.specs.Code.{Mark}
+use Rattle.formats.specs.Refusal.{accepted, Holds}
+use Rattle.formats.specs.Sheet.{markBytes, bodyBytes, bodiesOf, Sheet}
+use Rattle.formats.proofs.Cuts.{length-markBytes}
+use Rattle.formats.proofs.Judging.{accepted-holds}
+use Rattle.canonical.specs.Answers.{SewAlike}
+use Rattle.comparison.specs.Answers.{Found, pairCheck, Compares, comparedAs, FewerMarks, HandsShorter}
+use Rattle.comparison.specs.declared.compare.Comparison.{Comparison}
+use Rattle.comparison.proofs.Comparing.{differ-unlike}
+
+-- what is found says which
+found-exact : {stock s s′ : List ℕ} (tree tree′ address address′ : List ℕ) (v : Option (ℕ × ℕ × ℕ × ℕ)) → Holds (pairCheck stock s s′) → Found stock s s′ tree tree′ address address′ v → (v ≡ nothing) ↔ SewAlike stock s s′
+found-exact tree tree′ address address′ nothing h F = (λ e. F .0, λ a. refl)
+found-exact tree tree′ address address′ (some v) h F = (λ e. conflict (cc), λ a. absurd (differ-unlike h F a))
+
+-- Of two files accepted for comparison under one stock: the answer is alike exactly if the two sew alike.
+pub compare-exact : {stock s s′ tree tree′ address address′ : List ℕ} (r : Comparison) {v : Option (ℕ × ℕ × ℕ × ℕ)} → Compares stock s s′ tree tree′ address address′ r → comparedAs r ≡ accepted v → (v ≡ nothing) ↔ SewAlike stock s s′
+unfolding Holds
+compare-exact {stock} {s} {s′} {tree} {tree′} {address} {address′} r {v} J e = let w = accepted-holds (rw e at J) in found-exact tree tree′ address address′ v (w .0 .1) (w .1)
+
+-- bodies of which the first has a mark have bytes
+bytes-some : (bs : List (List Mark)) → 1 ≤ length bs → 1 ≤ length (getD bs 0 []) → 1 ≤ length (bodyBytes bs)
+unfolding bodyBytes
+bytes-some [] h g = absurd (omega arith)
+bytes-some (b ∷ bs) h g = omega (arith, length-append (markBytes b) (bodyBytes bs), length-markBytes b, g)
+
+-- so the marks of a file are never empty
+marks-some : {ins outs s : List ℕ} {n : ℕ} {M : Transducer ℕ} (S : Sheet ins outs s n M) → S .bytes ≢ []
+marks-some {ins} {n = n} {M} S e =
+    let C = S .encodes .contents in
+    let w = bytes-some (bodiesOf (length ins) n M) (omega (arith, C .bodies)) (C .some 0 (omega (arith, C .bodies))) in
+    absurd (omega (arith, ap length (S .encodes .marks-coded ∙ e)))
+
+fewer-some : {stock s s′ part : List ℕ} → FewerMarks stock s s′ part → part ≢ []
+fewer-some F e = by-cases (decLt (length (F .sheet′ .bytes)) (length (F .sheet .bytes))) (λ h. marks-some (F .sheet′) (sym (F .right h) ∙ e)) (λ h. marks-some (F .sheet) (sym (F .left (omega arith)) ∙ e))
+
+-- Of two files accepted for comparison under one stock: the part that is handed out is not empty exactly if the two sew alike.
+pub shorter-exact : {stock s s′ part : List ℕ} → HandsShorter stock s s′ part → Holds (pairCheck stock s s′) → SewAlike stock s s′ ↔ (part ≢ [])
+shorter-exact (inl (h, inl (a, F))) g = (λ b. fewer-some F, λ n. a)
+shorter-exact (inl (h, inr (f, e))) g = (λ b. absurd (f b), λ n. absurd (n e))
+shorter-exact (inr (f, e)) g = absurd (f g)

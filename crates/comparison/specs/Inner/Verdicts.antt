@@ -1,0 +1,56 @@
+-- What is answered of two earliest forms in tables, and of the parts of two files.
+use Prim.Native.Nat.{ℕ, _<_}
+use mathlib.Core.List.{List}
+use mathlib.Core.Option.{Option, some, none as nothing}
+use mathlib.Core.Path.{_≡_}
+use Rattle.theory.specs.Earliest.{Earliest}
+use Rattle.theory.specs.Equivalent.{Equivalent}
+use Rattle.theory.specs.Term.{Tree}
+use Rattle.theory.specs.Transducer.{Transducer}
+use Rattle.formats.specs.Alphabets.{Ranks, Leaf, inputs, outputs}
+use Rattle.formats.specs.Refusal.{done, check, Judged}
+use Rattle.formats.specs.Sheet.{Encodes}
+use Rattle.formats.specs.declared.refusal.Refusal.{Refusal}
+use Rattle.prefixes.specs.Alphabet.{alphabet}
+use Rattle.prefixes.specs.Inner.Heads.{machine, Layout}
+use Rattle.earliest.specs.Inner.Loaded.{EarliestOf}
+use Rattle.canonical.specs.Answers.{Alike}
+use Rattle.comparison.specs.Answers.{Difference, Written, comparedAs}
+use Rattle.comparison.specs.declared.compare.Comparison.{Comparison}
+use Rattle.comparison.specs.declared.compare.Comparison.the-variants as compared
+
+-- two earliest forms in tables, over alphabets within the limits
+pub record Comparable (ins outs starts bytes : List ℕ) (k : ℕ) (starts′ bytes′ : List ℕ) (k′ : ℕ) : Type 0 where
+  pub ins-ranks : Ranks 16 ins
+  pub outs-ranks : Ranks 64 outs
+  pub leaf : Leaf ins
+  pub left : Layout ins outs starts bytes k
+  pub right : Layout ins outs starts′ bytes′ k′
+  pub left-earliest : (l : Leaf ins) → Earliest (alphabet ins l) (machine ins outs starts bytes k) (λ q. q < k)
+  pub right-earliest : (l : Leaf ins) → Earliest (alphabet ins l) (machine ins outs starts′ bytes′ k′) (λ q. q < k′)
+
+-- a difference of two transducers stands in the areas
+pub record Shows (ins outs : List ℕ) (M M′ : Transducer ℕ) (tree tree′ address address′ : List ℕ) (nodes numbers b b′ : ℕ) : Type 0 where
+  pub shown : Tree
+  pub place : List ℕ
+  pub written : Written shown place tree tree′ address address′ nodes numbers
+  pub difference : Difference ins outs M M′ shown place b b′
+
+-- what is answered of two earliest forms: they are equivalent, or a difference
+pub record ComparesForms (ins outs starts bytes : List ℕ) (k : ℕ) (starts′ bytes′ : List ℕ) (k′ : ℕ) (tree tree′ address address′ : List ℕ) (r : Comparison) : Type 0 where
+  pub same : r ≡ compared.Alike → ((l : Leaf ins) → Equivalent (alphabet ins l) (machine ins outs starts bytes k) (machine ins outs starts′ bytes′ k′)) × (tree′ ≡ tree) × (address′ ≡ address)
+  pub differ : (nodes numbers b b′ : ℕ) → r ≡ compared.Differ nodes numbers b b′ → Shows ins outs (machine ins outs starts bytes k) (machine ins outs starts′ bytes′ k′) tree tree′ address address′ nodes numbers b b′
+  pub answered : (x : Refusal) → r ≡ compared.Refused x → ⊥
+
+-- what is answered of the parts of two files
+abbrev pub FoundParts : List ℕ → ℕ → List ℕ → List ℕ → ℕ → List ℕ → List ℕ → List ℕ → List ℕ → List ℕ → List ℕ → Option (ℕ × ℕ × ℕ × ℕ) → Type 0
+FoundParts stock n counts bytes n′ counts′ bytes′ tree tree′ address address′ nothing =
+    ((M M′ : Transducer ℕ) → Encodes (inputs stock) (outputs stock) n counts bytes M → Encodes (inputs stock) (outputs stock) n′ counts′ bytes′ M′ → Alike (inputs stock) M M′) × (tree′ ≡ tree) × (address′ ≡ address)
+FoundParts stock n counts bytes n′ counts′ bytes′ tree tree′ address address′ (some v) =
+    (d : Tree) × ((place : List ℕ) × (Written d place tree tree′ address address′ (v .0) (v .1) × ((M M′ : Transducer ℕ) → Encodes (inputs stock) (outputs stock) n counts bytes M → Encodes (inputs stock) (outputs stock) n′ counts′ bytes′ M′ → Difference (inputs stock) (outputs stock) M M′ d place (v .2) (v .3))))
+
+abbrev pub ComparesParts : List ℕ → ℕ → List ℕ → List ℕ → ℕ → List ℕ → List ℕ → List ℕ → List ℕ → List ℕ → List ℕ → Comparison → Type 0
+ComparesParts stock n counts bytes n′ counts′ bytes′ tree tree′ address address′ r =
+    Judged ((tree′ ≡ tree) × (address′ ≡ address)) (FoundParts stock n counts bytes n′ counts′ bytes′ tree tree′ address address′)
+    (check 7 ((k : ℕ) × ((cs : List ℕ) × ((bs : List ℕ) × EarliestOf stock n counts bytes k cs bs))) (check 7 ((k : ℕ) × ((cs : List ℕ) × ((bs : List ℕ) × EarliestOf stock n′ counts′ bytes′ k cs bs))) done))
+    (comparedAs r)
