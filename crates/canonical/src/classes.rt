@@ -139,7 +139,7 @@ fn refine(
 }
 
 // The classes of equivalent states, and the least member of each; says how many classes there are. `old` holds zeros.
-pub fn settle_classes(
+pub(crate) fn settle_classes(
     ins: &[u8],
     starts: &[u16],
     marks: &[u8],

@@ -78,7 +78,7 @@ fn reduce(
 }
 
 // The normal form of the transducer whose n, counts and marks these are.
-pub fn normal_by(
+pub(crate) fn normal_by(
     stock: &[u8],
     n: usize,
     counts: &[u8],

@@ -69,7 +69,7 @@ fn merge_state(
 }
 
 // Writes the quotient: `starts2` says where its bodies start in `out`.
-pub fn merge(
+pub(crate) fn merge(
     ins: &[u8],
     outs: &[u8],
     starts: &[u16],

@@ -97,7 +97,14 @@ fn sweep_distances(
 }
 
 // The distances of n states, from zeros: sweeps over the states until one finds nothing.
-pub fn fill_distances(ins: &[u8], starts: &[u16], marks: &[u8], n: usize, b: usize, dist: &mut [u8])
+pub(crate) fn fill_distances(
+    ins: &[u8],
+    starts: &[u16],
+    marks: &[u8],
+    n: usize,
+    b: usize,
+    dist: &mut [u8],
+)
     requires { ⌜ Fillable (now ins) (now starts) (now marks) n (now dist) ⌝ }
     ensures { λ _. ⌜ FillsDistances (now (ins .entry)) (now (starts .entry)) (now (marks .entry)) n b (now (dist .exit)) ⌝ }
 {
@@ -148,7 +155,7 @@ pub struct Fallen {
 }
 
 // The steps from q along which the distances fall, two bytes each: a symbol, and the child that the next step goes on with, 0 at the last.
-pub fn fall(
+pub(crate) fn fall(
     ins: &[u8],
     starts: &[u16],
     marks: &[u8],

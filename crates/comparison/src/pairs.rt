@@ -295,7 +295,7 @@ fn walk_pairs(
 }
 
 // Whether the two transducers are equivalent, or where two of their bodies clash; the list of pairs leads there.
-pub fn search(
+pub(crate) fn search(
     ins: &[u8],
     starts1: &[u16],
     marks1: &[u8],

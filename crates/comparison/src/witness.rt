@@ -369,7 +369,7 @@ fn trace(
 }
 
 // The tree and the address that show that the bodies of parent q for symbol a clash at mark m, and the two symbols.
-pub fn show(
+pub(crate) fn show(
     ins: &[u8],
     outs: &[u8],
     starts1: &[u16],

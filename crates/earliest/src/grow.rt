@@ -215,7 +215,7 @@ fn grow(
 }
 
 // The earliest form of the transducer with n states whose bodies start where `starts` says.
-pub fn early_form(
+pub(crate) fn early_form(
     ins: &[u8],
     outs: &[u8],
     starts: &[u16],
