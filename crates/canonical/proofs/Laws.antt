@@ -114,7 +114,7 @@ cleaned {stock} {s} {before} {after} r {v} J e =
 
 module _ {stock s s′ : List ℕ} {k k′ : ℕ} {counts bytes counts′ bytes′ : List ℕ} (F : NormalFile stock s k counts bytes) (F′ : NormalFile stock s′ k′ counts′ bytes′) where
   -- the transducers of two files are alike if two of them are
-  sheets-alike : Alike (inputs stock) (F .machine) (F′ .machine) ↔ SewAlike stock s s′
+  pub sheets-alike : Alike (inputs stock) (F .machine) (F′ .machine) ↔ SewAlike stock s s′
   sheets-alike =
       let l = F .alphabets .leaf in
       let few = F .alphabets .ins .few in (

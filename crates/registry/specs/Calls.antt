@@ -1,0 +1,63 @@
+-- Lists of calls: an accepted making, then entries, each lent head, records and area as the call before it left them.
+use Prim.Native.Nat.{ℕ, suc, _≤_}
+use mathlib.Core.List.{List, [], _∷_, List·Memᴰ}
+use mathlib.Core.Logic.{_↔_}
+use mathlib.Core.Option.{some, Option, none as nothing}
+use mathlib.Core.Path.{_≡_}
+use Rattle.theory.specs.Registry.{History}
+use Rattle.canonical.specs.Answers.{SewAlike}
+use Rattle.registry.specs.Answers.{Makes, CleanFile, Enters}
+use Rattle.registry.specs.Book.{body}
+use Rattle.registry.specs.declared.book.Head.{Head}
+use Rattle.registry.specs.declared.book.Record.{Record}
+use Rattle.registry.specs.declared.book.Entered.{Entered}
+use Rattle.registry.specs.declared.book.Entered.the-variants as entering
+use Rattle.registry.specs.declared.book.Made.the-variants as making
+
+-- head, records and area, as one call leaves them to the next
+pub record Book : Type 0 where
+  pub head : Head
+  pub records : List Record
+  pub area : List ℕ
+
+-- b is what an accepted making with the alphabets `stock` leaves, whatever stood there before it
+pub record MadeWith (stock : List ℕ) (b : Book) : Type 0 where
+  pub before : Book
+  pub call : Makes stock (before .head) (before .records) (before .area) (b .head) (b .records) (b .area) making.Empty
+
+-- the number that an entry answers; a refusal has none
+abbrev pub answerOf : Entered → Option ℕ
+answerOf (entering.Number n) = some n
+answerOf (entering.Refused r) = nothing
+
+-- an entry of the file s, lent b, answers a and leaves b′
+pub record EntersFile (b : Book) (s : List ℕ) (a : Option ℕ) (b′ : Book) : Type 0 where
+  pub answer : Entered
+  pub call : Enters s (b .head) (b .records) (b .area) (b′ .head) (b′ .records) (b′ .area) answer
+  pub told : answerOf answer ≡ a
+
+-- the files entered and the answers, the last first: from an accepted making on, refused entries included, up to the book b
+abbrev pub Entries : List ℕ → List (List ℕ × Option ℕ) → Book → Type 0
+Entries stock log b = History (MadeWith stock) EntersFile log b
+
+-- how many entries were accepted
+unfoldable pub acceptances : List (List ℕ × Option ℕ) → ℕ
+acceptances [] = 0
+acceptances ((s, some n) ∷ log) = suc (acceptances log)
+acceptances ((s, nothing) ∷ log) = acceptances log
+
+-- what is promised of such a list, of any length and with any files
+pub record Orderly (stock : List ℕ) (log : List (List ℕ × Option ℕ)) (b : Book) : Type 0 where
+  -- any two accepted entries got one number exactly if their transducers are equivalent (01: their sheets sew alike)
+  pub exact : (s s′ : List ℕ) (n n′ : ℕ) → List·Memᴰ (s, some n) log → List·Memᴰ (s′, some n′) log → SewAlike stock s s′ ↔ (n ≡ n′)
+  -- whatever was accepted is still held at the number answered
+  pub there : (s : List ℕ) (n : ℕ) → List·Memᴰ (s, some n) log → (1 ≤ n) × (n ≤ b .head .held) × CleanFile stock s (body (b .records) (b .area) n)
+  -- the count is that of the entries accepted
+  pub answered : b .head .answered ≡ acceptances log
+  -- the alphabets are those of the making
+  pub alphabets : body (b .records) (b .area) 0 ≡ stock
+
+-- what stays of b₀ in b, which other entries led to: each body at its number
+pub record Stays (b₀ b : Book) : Type 0 where
+  pub held : b₀ .head .held ≤ b .head .held
+  pub bodies : (m : ℕ) → m ≤ b₀ .head .held → body (b .records) (b .area) m ≡ body (b₀ .records) (b₀ .area) m
