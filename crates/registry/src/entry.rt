@@ -49,10 +49,11 @@ pub fn count(h: Head, t: Table, n: usize) -> Stepped
     requires { ⌜ h .answered < 18446744073709551615 ⌝ }
     ensures { λ r. ⌜ Counts h t n r ⌝ }
 {
+    let answered = h.answered + 1;
     let head = Head {
         held: h.held,
         used: h.used,
-        answered: h.answered + 1,
+        answered: answered,
     };
     Stepped {
         head: head,

@@ -1,6 +1,7 @@
 // One answer, printed as a line: the sample's name, then what the library said.
 ghost use mathlib.Core.Path.{_≡_};
 ghost use Rattle.formats.specs.Refusal as refusals;
+use comparison::compare::Comparison;
 use earliest::earliest::Formed;
 use formats::alphabet::AlphabetsRead;
 use formats::bytes::wide;
@@ -30,7 +31,7 @@ fn number_of(r: Refusal) -> u64
     }
 }
 
-fn text(s: &[u8]) {
+pub(crate) fn text(s: &[u8]) {
     io::write_all(STDOUT_FILENO, s);
 }
 
@@ -150,6 +151,19 @@ pub(crate) fn forms(name: &[u8], early: Formed, normal: Formed) {
     form(b"trimmed ", early);
     form(b"; clean ", normal);
     text(b"\n");
+}
+
+// What a comparison answered: alike, and how long the bodies of the shorter one are; or the two symbols, then the tree and the address.
+pub(crate) fn comparison(a: Comparison, tree: &[u8], address: &[u8], shorter: usize) {
+    match a {
+        Comparison::Alike => one(b"alike, bodies of the shorter ", shorter),
+        Comparison::Differ(nodes, numbers, left, right) => {
+            two(b"differ, blocks ", left, b" and ", right);
+            start(b"its design:", tree, nodes);
+            start(b"its place:", address, numbers);
+        }
+        Comparison::Refused(r) => refused(r),
+    }
 }
 
 // Bytes in decimal, each after a space.

@@ -59,7 +59,7 @@ fn fill_lines(sheet: &mut [u8; 1045], at: usize, next: u8)
 }
 
 // T', but its axiom is n calls joined by n - 1 f, which stand before all calls: 17 + 4 * n bytes. Every byte is 0 before.
-fn fill_joined(sheet: &mut [u8; 1045], n: usize)
+pub(crate) fn fill_joined(sheet: &mut [u8; 1045], n: usize)
     requires { ⌜ (1 ≤ n) × (n ≤ 17) ⌝ }
 {
     sheet[0] = 1;
@@ -76,7 +76,7 @@ fn fill_joined(sheet: &mut [u8; 1045], n: usize)
 
 // n states with the right-hand sides of T', where each calls the next one and the last calls the first; the axiom is one call:
 // 5 + 16 * n bytes. Every byte is 0 before.
-fn fill_ring(sheet: &mut [u8; 1045], n: usize)
+pub(crate) fn fill_ring(sheet: &mut [u8; 1045], n: usize)
     requires { ⌜ (1 ≤ n) × (n ≤ 65) ⌝ }
 {
     sheet[0] = n as u8;

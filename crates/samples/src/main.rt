@@ -1,4 +1,4 @@
-// Document 01's small inputs and samples that need no more than one transducer, a line for each: its name, and the answer.
+// Document 01's small inputs and samples, a line for each: its name, and the answer.
 // What is printed is in the document's words: stock (alphabets), design (input tree), sheet (transducer), pass (state), block
 // (output symbol), place (address), single (linear), trimmed (earliest form), clean (normal form).
 mod addresses;
@@ -9,6 +9,7 @@ mod cleaning;
 mod inputs;
 mod limits;
 mod linear;
+mod pairs;
 mod parts;
 mod transducers;
 mod translations;
@@ -27,4 +28,5 @@ fn main() {
     addresses::run();
     linear::run();
     cleaning::run();
+    pairs::run();
 }
