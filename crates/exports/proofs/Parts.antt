@@ -2,7 +2,7 @@
 -- Assumes nothing.
 use Prim.Native.Nat.{ℕ, _+_, _*_, _-_, _≤_}
 use native.Mathlib.Omega.{arith}
-use mathlib.Core.List.{List}
+use mathlib.Core.List.{List, [], _∷_}
 use mathlib.Core.Path.{_≡_, refl, ap}
 use lib.ListN.{length, length-append}
 use Rattle.formats.specs.Alphabets.{inputs, outputs}
@@ -14,6 +14,11 @@ use Rattle.formats.proofs.Judging.{accepted-holds}
 use Rattle.formats.proofs.Sheets.{encodes-long}
 use Rattle.formats.proofs.Verdicts.{accepted-long}
 use Rattle.exports.specs.Exported.{FileParts}
+
+-- a part of no length is empty
+pub length-zero : (l : List ℕ) → length l ≡ 0 → l ≡ []
+length-zero [] h = refl
+length-zero (a ∷ l) h = absurd (omega arith)
 
 -- the length of the counts, as the code computes it
 abbrev pub countsSize : ℕ → List ℕ → ℕ

@@ -1,18 +1,20 @@
 -- What the exported functions return and leave: the number and the values of an answer that keeps the library's promise.
-use Prim.Native.Nat.{ℕ}
-use mathlib.Core.List.{List}
+use Prim.Native.Nat.{ℕ, _<_}
+use mathlib.Core.List.{List, []}
+use mathlib.Core.Logic.{_⊎_}
 use mathlib.Core.Option.{Option, some, none as nothing}
 use mathlib.Core.Path.{_≡_}
-use lib.ListN.{length}
+use lib.ListN.{length, drop}
 use Rattle.theory.specs.Transducer.{Transducer}
 use Rattle.formats.specs.Alphabets.{inputs, outputs}
-use Rattle.formats.specs.Answers.{alphabetsRead, ReadsAlphabets, treeRead, ReadsTree, fileRead, ReadsFile, fileWritten, WritesFile}
+use Rattle.formats.specs.Answers.{alphabetsRead, ReadsAlphabets, treeRead, ReadsTree, fileRead, ReadsFile, fileWritten, WritesFile, HandsMarks}
 use Rattle.formats.specs.Refusal.{Outcome, accepted, refused}
 use Rattle.formats.specs.Sheet.{Sheet}
 use Rattle.transducer.specs.Answers.{linearTest, TestsLinear, translated, Translates, found, FindsSymbol}
 use Rattle.transducer.specs.Linear.{oneIf}
 use Rattle.earliest.specs.Answers.{formOf, MakesEarliest}
 use Rattle.canonical.specs.Answers.{Cleans}
+use Rattle.comparison.specs.Answers.{comparedAs, Compares, HandsShorter}
 
 -- an acceptance is returned as 0, and what is left is told by its values; a refusal as its number, and all is left as before
 unfoldable pub told : {A L : Type 0} → (A → L → Type 0) → Outcome A → L → L → ℕ → Type 0
@@ -70,3 +72,31 @@ ExportsEarliest stock file area area′ before after r = Exported (MakesEarliest
 
 abbrev pub ExportsClean : List ℕ → List ℕ → List ℕ → List ℕ → ℕ × ℕ × ℕ → ℕ × ℕ × ℕ → ℕ → Type 0
 ExportsClean stock file area area′ before after r = Exported (Cleans stock file area area′) formOf (λ v after. after ≡ v) before after r
+
+-- 1 if alike, and the other values stay; else 0 and the values
+abbrev pub comparisonLeft : ℕ × ℕ × ℕ × ℕ × ℕ → Option (ℕ × ℕ × ℕ × ℕ) → ℕ × ℕ × ℕ × ℕ × ℕ
+comparisonLeft before nothing = (1, before .1, before .2, before .3, before .4)
+comparisonLeft before (some v) = (0, v .0, v .1, v .2, v .3)
+
+-- the numbers of nodes and of address numbers, and the two symbols; the promise says what is left in the areas, also by a refusal
+abbrev pub ExportsComparison : List ℕ → List ℕ → List ℕ → List ℕ → List ℕ → List ℕ → List ℕ → ℕ × ℕ × ℕ × ℕ × ℕ → ℕ × ℕ × ℕ × ℕ × ℕ → ℕ → Type 0
+ExportsComparison stock s s′ tree tree′ address address′ before after r = Exported (Compares stock s s′ tree tree′ address address′) comparedAs (λ v after. after ≡ comparisonLeft before v) before after r
+
+-- the part is the marks of the file s, which they end: from `start` on, so long
+pub record EndsFile (stock s part : List ℕ) (start size : ℕ) : Type 0 where
+  pub marks : HandsMarks stock s part
+  pub some : 0 < length part
+  pub length-is : size ≡ length part
+  pub there : part ≡ drop start s
+
+-- which of two files has the part, and where: the first if it is its marks
+unfoldable pub TellsPart : List ℕ → List ℕ → List ℕ → List ℕ → ℕ → ℕ → ℕ → Type 0
+TellsPart stock s s′ part start size which =
+    ((which ≡ 0) × (part ≡ []) × (start ≡ 0) × (size ≡ 0))
+    ⊎ (((which ≡ 1) × EndsFile stock s part start size)
+    ⊎ ((which ≡ 2) × (HandsMarks stock s part → ⊥) × EndsFile stock s′ part start size))
+
+pub record ExportsShorter (stock s s′ : List ℕ) (start size which : ℕ) : Type 0 where
+  pub part : List ℕ
+  pub handed : HandsShorter stock s s′ part
+  pub told-by : TellsPart stock s s′ part start size which

@@ -1,2 +1,3 @@
--- What the exported functions return and leave.
+-- What the exported functions return and leave; Registered: those of the registry.
 pub mod Exported
+pub mod Registered

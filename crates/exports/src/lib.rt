@@ -1,9 +1,16 @@
-// The library for Rust and C: numbers and byte slices only. Each function returns 0, or the number that document 01's table
-// gives the refusal, and gives its values through its last parameters, which a refusal leaves as they were.
+// The library for Rust and C: numbers and slices of numbers only. Each function returns 0, or the number that document 01's
+// table gives the refusal, and gives its values through its last parameters, which a refusal leaves as they were. The two
+// that hand out a part of what is lent say what they return.
 ghost use mathlib.Core.Path.{_≡_};
 ghost use Rattle.formats.specs.Refusal.{number};
-ghost use Rattle.exports.specs.Exported.{ExportsAlphabets, ExportsTree, ExportsFile, ExportsWriting, ExportsLinear, ExportsTranslation, ExportsSymbol, ExportsEarliest, ExportsClean};
+ghost use Rattle.exports.specs.Exported.{ExportsAlphabets, ExportsTree, ExportsFile, ExportsWriting, ExportsLinear, ExportsTranslation, ExportsSymbol, ExportsEarliest, ExportsClean, ExportsComparison, ExportsShorter};
+
+pub mod registered;
+
 use canonical::normal::clean;
+use comparison::compare::Comparison;
+use comparison::compare::compare;
+use comparison::shorter::shorter;
 use earliest::earliest::Formed;
 use earliest::earliest::earliest_form;
 use formats::alphabet::AlphabetsRead;
@@ -12,6 +19,7 @@ use formats::alphabet::read_alphabets;
 use formats::file::FileRead;
 use formats::file::FileWritten;
 use formats::file::read_transducer;
+use formats::file::transducer_marks;
 use formats::file::write_transducer;
 use formats::refusal::Refusal;
 use formats::tree::TreeRead;
@@ -235,4 +243,66 @@ pub extern "C" fn caplune_clean(
         }
         Formed::Refused(x) => code(x),
     }
+}
+
+// Compares two transducers: `alike` is 1 if they are equivalent (01: sew alike), and the other numbers stay as they were. If
+// not, `alike` is 0; `tree` begins with an input tree (01: design) of so many nodes and `address` with an address (01: place)
+// of so many numbers, and `left` and `right` are the symbols there of the first and of the second output tree.
+#[no_mangle]
+pub extern "C" fn caplune_compare(
+    stock: &[u8],
+    first: &[u8],
+    second: &[u8],
+    tree: &mut [u8],
+    address: &mut [u8],
+    alike: &mut usize,
+    nodes: &mut usize,
+    numbers: &mut usize,
+    left: &mut usize,
+    right: &mut usize,
+) -> u32
+    ensures { λ r. ⌜ ExportsComparison (now (stock .entry)) (now (first .entry)) (now (second .entry)) (now (tree .entry)) (now (tree .exit)) (now (address .entry)) (now (address .exit)) (now (alike .entry), now (nodes .entry), now (numbers .entry), now (left .entry), now (right .entry)) (now (alike .exit), now (nodes .exit), now (numbers .exit), now (left .exit), now (right .exit)) r ⌝ }
+{
+    match compare(stock, first, second, tree, address) {
+        Comparison::Alike => {
+            *alike = 1;
+            0
+        }
+        Comparison::Differ(n, m, b, c) => {
+            *alike = 0;
+            *nodes = n;
+            *numbers = m;
+            *left = b;
+            *right = c;
+            0
+        }
+        Comparison::Refused(x) => code(x),
+    }
+}
+
+// The marks of the one with fewer of two equivalent transducers, of the first if both have as many: 1 if they are a part of
+// the first file and 2 if of the second, where they start in it and how long they are. 0, 0 and 0 for an empty part: of two
+// that differ, and on a refusal.
+#[no_mangle]
+pub extern "C" fn caplune_shorter<'a>(
+    stock: &[u8],
+    first: &'a [u8],
+    second: &'a [u8],
+    start: &mut usize,
+    size: &mut usize,
+) -> usize
+    ensures { λ r. ⌜ ExportsShorter (now (stock .entry)) (now (first .entry)) (now (second .entry)) (now (start .exit)) (now (size .exit)) r ⌝ }
+{
+    let part = shorter(stock, first, second).len();
+    *size = part;
+    if part == 0 {
+        *start = 0;
+        return 0;
+    }
+    if transducer_marks(stock, first).len() == part {
+        *start = first.len() - part;
+        return 1;
+    }
+    *start = second.len() - part;
+    2
 }
