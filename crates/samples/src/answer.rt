@@ -166,6 +166,57 @@ pub(crate) fn comparison(a: Comparison, tree: &[u8], address: &[u8], shorter: us
     }
 }
 
+fn code(r: u32) {
+    text(b"refused ");
+    io::print_decimal(STDOUT_FILENO, r as u64);
+    text(b"\n");
+}
+
+// What making a registry answered.
+pub(crate) fn made(r: u32) {
+    if r == 0 {
+        text(b"a new book\n");
+    } else {
+        text(b"a new book: ");
+        code(r);
+    }
+}
+
+// What an entry answered.
+pub(crate) fn entered(name: &[u8], r: u32, number: usize) {
+    text(name);
+    if r == 0 {
+        one(b"number ", number);
+    } else {
+        code(r);
+    }
+}
+
+// The head of a registry.
+pub(crate) fn head(held: usize, used: usize, answered: u64) {
+    text(b"sheets ");
+    number(held);
+    text(b", bytes ");
+    number(used);
+    text(b", answered ");
+    io::print_decimal(STDOUT_FILENO, answered);
+    text(b"\n");
+}
+
+// The first two records and the last one, by start and size.
+pub(crate) fn records(a: usize, b: usize, c: usize, d: usize, y: usize, z: usize) {
+    two(b"record 0: ", a, b" ", b);
+    two(b"record 1: ", c, b" ", d);
+    two(b"record 33: ", y, b" ", z);
+}
+
+// Where a body starts, and how long it is.
+pub(crate) fn body(i: usize, start: usize, size: usize) {
+    text(b"body ");
+    number(i);
+    two(b": from ", start, b", bytes ", size);
+}
+
 // Bytes in decimal, each after a space.
 pub(crate) fn bytes(name: &[u8], s: &[u8]) {
     text(name);

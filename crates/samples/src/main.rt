@@ -5,6 +5,7 @@ mod addresses;
 mod alphabets;
 mod answer;
 mod bodies;
+mod book;
 mod cleaning;
 mod inputs;
 mod limits;
@@ -29,4 +30,5 @@ fn main() {
     linear::run();
     cleaning::run();
     pairs::run();
+    book::run();
 }
