@@ -1,7 +1,8 @@
 //! The C functions of the proved library, as they stand in `libexports.a`.
 //!
 //! Each returns 0, or the number that the paper's table gives the refusal, and gives its values
-//! through its last parameters. A refusal leaves these, and every area, as they were.
+//! through its last parameters. A refusal leaves these, and every area, as they were. The two that
+//! hand out a part of what is lent, [`caplune_shorter`] and [`caplune_body`], tell where it is.
 //!
 //! A slice passes as a pointer and a length, two parameters of their own. They are declared so, and
 //! not as `&[u8]`: that type passes as one aggregate of two words, which goes on the stack whole
@@ -10,9 +11,9 @@
 //!
 //! # Safety
 //!
-//! Every pointer with a length is to so many bytes, initialised, none of them null even where the
-//! length is 0; an area is lent to nobody else; the other pointers are to a `usize` each, distinct
-//! and outside of the areas.
+//! Every pointer with a length is to so many bytes, or numbers for `records`, initialised, none of
+//! them null even where the length is 0; an area is lent to nobody else; the other pointers are to
+//! one number each, distinct and outside of the areas.
 
 extern "C" {
     /// Reads two alphabets: the numbers of input and of output symbols. Refuses by 2.
@@ -125,4 +126,83 @@ extern "C" {
         marks: *mut usize,
         length: *mut usize,
     ) -> u32;
+
+    /// Compares two transducers: 1 in `alike` if they are equivalent, and the other four values stay; or
+    /// 0, with an input tree of so many nodes at the start of the one area, an address of so many numbers
+    /// at the start of the other, and the symbols there of the first and the second output tree. Refuses
+    /// by 1, by 2, by 4 and 5 for the first, by 4 and 5 for the second, by 7 for the first, and by 7 for
+    /// the second.
+    pub fn caplune_compare(
+        stock: *const u8,
+        stock_length: usize,
+        first: *const u8,
+        first_length: usize,
+        second: *const u8,
+        second_length: usize,
+        tree: *mut u8,
+        tree_length: usize,
+        address: *mut u8,
+        address_length: usize,
+        alike: *mut usize,
+        nodes: *mut usize,
+        numbers: *mut usize,
+        left: *mut usize,
+        right: *mut usize,
+    ) -> u32;
+
+    /// Finds the marks of that of two equivalent transducers which has fewer, the first on a tie. Returns
+    /// the file they are a part of, 1 or 2, with their start there and their size; or 0, 0 and 0 where
+    /// the two differ or are refused.
+    pub fn caplune_shorter(
+        stock: *const u8,
+        stock_length: usize,
+        first: *const u8,
+        first_length: usize,
+        second: *const u8,
+        second_length: usize,
+        start: *mut usize,
+        size: *mut usize,
+    ) -> usize;
+
+    /// Makes a registry of alphabets, whatever stood in the head, the records and the area before. A
+    /// record is two numbers, start and size. Refuses by 9, 2 and 8.
+    pub fn caplune_make_registry(
+        held: *mut usize,
+        used: *mut usize,
+        answered: *mut u64,
+        records: *mut usize,
+        records_length: usize,
+        area: *mut u8,
+        area_length: usize,
+        stock: *const u8,
+        stock_length: usize,
+    ) -> u32;
+
+    /// Enters a transducer into a registry: the number of its normal form. Refuses by 9, 4, 5, 7 and 8.
+    pub fn caplune_enter(
+        held: *mut usize,
+        used: *mut usize,
+        answered: *mut u64,
+        records: *mut usize,
+        records_length: usize,
+        area: *mut u8,
+        area_length: usize,
+        file: *const u8,
+        file_length: usize,
+        number: *mut usize,
+    ) -> u32;
+
+    /// Finds the normal form of this number. Returns its length, with its start in the area; or 0 and 0
+    /// for the number 0, for one that is not held, and where the call is refused.
+    pub fn caplune_body(
+        held: usize,
+        used: usize,
+        answered: u64,
+        records: *const usize,
+        records_length: usize,
+        area: *const u8,
+        area_length: usize,
+        number: usize,
+        start: *mut usize,
+    ) -> usize;
 }

@@ -9,7 +9,7 @@
 //! The paper's words, and the words used here: a stock is a pair of ranked alphabets; a design is
 //! an input tree and a plan an output tree; a sheet is a transducer, a pass a state, a line a
 //! right-hand side, the opening the initial term; a place is an address; the trimmed sheet is the
-//! earliest form, and the clean sheet the normal form.
+//! earliest form, and the clean sheet the normal form; the book is a registry.
 //!
 //! ```
 //! // a of rank 1 and e of rank 0; f of rank 2 and e of rank 0
@@ -32,6 +32,29 @@
 //! let mut area = vec![9; 20_483];
 //! assert_eq!(caplune::clean(&stock, &other, &mut area), Ok(caplune::Form { states: 1, marks: 7, length: 21 }));
 //! assert_eq!((&area[..21], area[21]), (&file[..], 9));
+//! // the two are equivalent, of equally many marks; the third has q(e) = f(e, e)
+//! let third = [1, 0, 3, 0, 3, 0, 3, 0, 0, 1, 0, 1, 0, 0, 0, 1, 0, 1, 0, 0, 0, 0, 1, 0, 1];
+//! let (mut tree, mut address) = ([0; caplune::TREE_AREA], [0; caplune::ADDRESS_AREA]);
+//! let mut compare = |other: &[u8]| match caplune::compare(&stock, &file, other, &mut tree, &mut address).unwrap() {
+//!     caplune::Comparison::Alike => true,
+//!     caplune::Comparison::Differ(shown) => {
+//!         let symbol = |file: &[u8]| caplune::symbol_at(&stock, file, shown.tree, shown.address).unwrap();
+//!         assert_eq!((symbol(&file), symbol(other)), (Some(shown.first), Some(shown.second)));
+//!         assert_ne!(shown.first, shown.second);
+//!         false
+//!     }
+//! };
+//! assert!(compare(&other) && !compare(&third));
+//! assert_eq!(caplune::shorter(&stock, &other, &file), Some(&other[7..]));
+//! assert_eq!(caplune::shorter(&stock, &other, &third), None);
+//! // a registry: equivalent transducers get one number
+//! let mut head = caplune::Head::default();
+//! let (mut records, mut area) = ([caplune::Record::default(); caplune::RECORDS], [9; 60]);
+//! caplune::make_registry(&mut head, &mut records, &mut area, &stock).unwrap();
+//! let mut enter = |file: &[u8]| caplune::enter(&mut head, &mut records, &mut area, file).unwrap();
+//! assert_eq!((enter(&file), enter(&other), enter(&third)), (1, 1, 2));
+//! assert_eq!(head, caplune::Head { held: 2, used: 56, answered: 3 });
+//! assert_eq!(caplune::body(&head, &records, &area, 1), &file[..]);
 //! ```
 use std::fmt;
 
@@ -116,6 +139,58 @@ pub struct Form {
     pub marks: usize,
     /// The length of its file, 5 to 20,483.
     pub length: usize,
+}
+
+/// The least length of the area for the input tree of a difference: 384 levels of four nodes.
+pub const TREE_AREA: usize = 1_536;
+/// The least length of the area for the address of a difference: 256 right-hand sides of 63 levels.
+pub const ADDRESS_AREA: usize = 16_128;
+
+/// What a comparison finds.
+#[derive(Clone, Copy, Debug, PartialEq, Eq)]
+pub enum Comparison<'a> {
+    /// The output trees are equal on every input tree.
+    Alike,
+    /// They are not on this one.
+    Differ(Difference<'a>),
+}
+
+/// An input tree, and an address at which its two output trees have two symbols.
+#[derive(Clone, Copy, Debug, PartialEq, Eq)]
+pub struct Difference<'a> {
+    /// The input tree: at most 1,536 nodes and 384 levels.
+    pub tree: &'a [u8],
+    /// The address: at most 16,128 numbers.
+    pub address: &'a [u8],
+    /// The symbol there in the output tree of the first transducer.
+    pub first: u8,
+    /// The symbol there in the output tree of the second transducer.
+    pub second: u8,
+}
+
+/// How many records a registry has: one of the stock, and one of each of 32 normal forms.
+pub const RECORDS: usize = 33;
+
+/// The head of a registry.
+#[repr(C)]
+#[derive(Clone, Copy, Debug, Default, PartialEq, Eq)]
+pub struct Head {
+    /// The normal forms held, 0 to 32.
+    pub held: usize,
+    /// The bytes of the area that are used.
+    pub used: usize,
+    /// The entries answered.
+    pub answered: u64,
+}
+
+/// Where a registry has the stock or a normal form in its area; unused ones are 0 and 0.
+#[repr(C)]
+#[derive(Clone, Copy, Debug, Default, PartialEq, Eq)]
+pub struct Record {
+    /// The byte at which it starts.
+    pub start: usize,
+    /// How many bytes it has.
+    pub size: usize,
 }
 
 /// Reads two alphabets.
@@ -255,18 +330,16 @@ pub fn symbol_at(stock: &[u8], file: &[u8], tree: &[u8], address: &[u8]) -> Resu
     answer(number, || (there == 1).then_some(symbol as u8))
 }
 
-/// Writes the earliest form of a transducer to the start of `area` (the paper: the trimmed sheet).
-///
-/// Its states are pairs of a state and an open end of that state's largest common prefix, numbered as
-/// first met. Returns how many states and marks it has and how long its file is; what follows the file
-/// in the area stays. Refuses by 1 an area under 20,483 bytes, by 2, 4 and 5 as [`read_transducer`]
-/// does, and by 7 an earliest form of over 128 states, of over 64 marks in its initial term or a
-/// right-hand side, or of over 8,192 marks in all; the area then is as it was.
-pub fn earliest_form(stock: &[u8], file: &[u8], area: &mut [u8]) -> Result<Form, Refusal> {
+/// A C function that writes a form.
+type WriteForm =
+    unsafe extern "C" fn(*const u8, usize, *const u8, usize, *mut u8, usize, *mut usize, *mut usize, *mut usize) -> u32;
+
+/// The answer of a C function that writes a form.
+fn form(write: WriteForm, stock: &[u8], file: &[u8], area: &mut [u8]) -> Result<Form, Refusal> {
     let (mut states, mut marks, mut length) = (0, 0, 0);
     // SAFETY: each pointer and length are those of a slice, and the others are to locals.
     let number = unsafe {
-        ffi::caplune_earliest_form(
+        write(
             stock.as_ptr(),
             stock.len(),
             file.as_ptr(),
@@ -281,6 +354,17 @@ pub fn earliest_form(stock: &[u8], file: &[u8], area: &mut [u8]) -> Result<Form,
     answer(number, || Form { states, marks, length })
 }
 
+/// Writes the earliest form of a transducer to the start of `area` (the paper: the trimmed sheet).
+///
+/// Its states are pairs of a state and an open end of that state's largest common prefix, numbered as
+/// first met. Returns how many states and marks it has and how long its file is; what follows the file
+/// in the area stays. Refuses by 1 an area under 20,483 bytes, by 2, 4 and 5 as [`read_transducer`]
+/// does, and by 7 an earliest form of over 128 states, of over 64 marks in its initial term or a
+/// right-hand side, or of over 8,192 marks in all; the area then is as it was.
+pub fn earliest_form(stock: &[u8], file: &[u8], area: &mut [u8]) -> Result<Form, Refusal> {
+    form(ffi::caplune_earliest_form, stock, file, area)
+}
+
 /// Writes the normal form of a transducer to the start of `area` (the paper: cleaning).
 ///
 /// It is the earliest form with equivalent states made one, numbered as first met: two transducers
@@ -288,20 +372,157 @@ pub fn earliest_form(stock: &[u8], file: &[u8], area: &mut [u8]) -> Result<Form,
 /// Returns how many states and marks it has and how long its file is; what follows the file in the
 /// area stays. Refuses by 1, 2, 4, 5 and 7 as [`earliest_form`] does; the area then is as it was.
 pub fn clean(stock: &[u8], file: &[u8], area: &mut [u8]) -> Result<Form, Refusal> {
-    let (mut states, mut marks, mut length) = (0, 0, 0);
+    form(ffi::caplune_clean, stock, file, area)
+}
+
+/// Compares two transducers (the paper: whether two sheets sew alike).
+///
+/// Returns that they are equivalent; or a difference, whose input tree is written to the start of
+/// `tree` and whose address to the start of `address`; which difference is the library's choice. What
+/// follows them in the areas stays, and all of both where the two are equivalent. Refuses by 1 an area
+/// under [`TREE_AREA`] or [`ADDRESS_AREA`] bytes, by 2 what is not a stock, by 4 and 5 as
+/// [`read_transducer`] does first `first` and then `second`, and by 7 as [`earliest_form`] does first
+/// `first` and then `second`; the areas then are as they were.
+pub fn compare<'a>(
+    stock: &[u8],
+    first: &[u8],
+    second: &[u8],
+    tree: &'a mut [u8],
+    address: &'a mut [u8],
+) -> Result<Comparison<'a>, Refusal> {
+    let (mut alike, mut nodes, mut numbers, mut left, mut right) = (0, 0, 0, 0, 0);
     // SAFETY: each pointer and length are those of a slice, and the others are to locals.
     let number = unsafe {
-        ffi::caplune_clean(
+        ffi::caplune_compare(
             stock.as_ptr(),
             stock.len(),
-            file.as_ptr(),
-            file.len(),
-            area.as_mut_ptr(),
-            area.len(),
-            &mut states,
-            &mut marks,
-            &mut length,
+            first.as_ptr(),
+            first.len(),
+            second.as_ptr(),
+            second.len(),
+            tree.as_mut_ptr(),
+            tree.len(),
+            address.as_mut_ptr(),
+            address.len(),
+            &mut alike,
+            &mut nodes,
+            &mut numbers,
+            &mut left,
+            &mut right,
         )
     };
-    answer(number, || Form { states, marks, length })
+    answer(number, || match alike {
+        1 => Comparison::Alike,
+        _ => Comparison::Differ(Difference {
+            tree: &tree[..nodes],
+            address: &address[..numbers],
+            first: left as u8,
+            second: right as u8,
+        }),
+    })
+}
+
+/// Finds the shorter of two equivalent transducers.
+///
+/// Returns the marks of the one that has fewer, of `first` if both have as many, as a part of that
+/// file; they are never empty. Returns `None` where the two differ, and where [`compare`] with areas
+/// that are long enough would refuse.
+pub fn shorter<'a>(stock: &[u8], first: &'a [u8], second: &'a [u8]) -> Option<&'a [u8]> {
+    let (mut start, mut size) = (0, 0);
+    // SAFETY: each pointer and length are those of a slice, and the others are to locals.
+    let which = unsafe {
+        ffi::caplune_shorter(
+            stock.as_ptr(),
+            stock.len(),
+            first.as_ptr(),
+            first.len(),
+            second.as_ptr(),
+            second.len(),
+            &mut start,
+            &mut size,
+        )
+    };
+    match which {
+        0 => None,
+        1 => Some(&first[start..start + size]),
+        _ => Some(&second[start..start + size]),
+    }
+}
+
+/// Makes a registry of normal forms of transducers over one stock (the paper: a book).
+///
+/// It is the head, the first [`RECORDS`] records and the area, all of them lent to each call that has
+/// to do with it, and holds the stock alone, whatever stood there before. Records past these, and the
+/// area behind the stock, stay. Refuses by 9 fewer records, by 2 what is not a stock, and by 8 an area
+/// that is shorter than the stock; head, records and area then are as they were.
+pub fn make_registry(head: &mut Head, records: &mut [Record], area: &mut [u8], stock: &[u8]) -> Result<(), Refusal> {
+    // SAFETY: each pointer and length are those of a slice, and the others are to the fields of the
+    // head. A record is two numbers, so that the records are twice as many numbers.
+    let number = unsafe {
+        ffi::caplune_make_registry(
+            &mut head.held,
+            &mut head.used,
+            &mut head.answered,
+            records.as_mut_ptr().cast(),
+            2 * records.len(),
+            area.as_mut_ptr(),
+            area.len(),
+            stock.as_ptr(),
+            stock.len(),
+        )
+    };
+    answer(number, || ())
+}
+
+/// Enters a transducer into a registry.
+///
+/// Returns the lowest number, from 1 on, under which its normal form is held; a normal form that is not
+/// held is added behind the others and gets the next number. Either way one more answer is counted. So
+/// two transducers get one number exactly if they are equivalent. Refuses by 9 what is not a registry
+/// or has counted as many answers as can be counted, by 4, 5 and 7 as [`clean`] does under the stock of
+/// the registry, and by 8 a normal form that is not held where 32 are or the area has no room for it;
+/// head, records and area then are as they were.
+pub fn enter(head: &mut Head, records: &mut [Record], area: &mut [u8], file: &[u8]) -> Result<usize, Refusal> {
+    let mut entered = 0;
+    // SAFETY: each pointer and length are those of a slice, and the others are to the fields of the
+    // head and to a local. A record is two numbers, so that the records are twice as many numbers.
+    let number = unsafe {
+        ffi::caplune_enter(
+            &mut head.held,
+            &mut head.used,
+            &mut head.answered,
+            records.as_mut_ptr().cast(),
+            2 * records.len(),
+            area.as_mut_ptr(),
+            area.len(),
+            file.as_ptr(),
+            file.len(),
+            &mut entered,
+        )
+    };
+    answer(number, || entered)
+}
+
+/// Finds a normal form in a registry by its number.
+///
+/// Returns its file as a part of `area`; an empty part for 0, for a number that is not held, and where
+/// [`enter`] would refuse by 9.
+pub fn body<'a>(head: &Head, records: &[Record], area: &'a [u8], number: usize) -> &'a [u8] {
+    let mut start = 0;
+    // SAFETY: each pointer and length are those of a slice, and the last is to a local. A record is two
+    // numbers, so that the records are twice as many numbers.
+    let size = unsafe {
+        ffi::caplune_body(
+            head.held,
+            head.used,
+            head.answered,
+            records.as_ptr().cast(),
+            2 * records.len(),
+            area.as_ptr(),
+            area.len(),
+            number,
+            &mut start,
+        )
+    };
+    &area[start..start + size]
 }

@@ -10,7 +10,7 @@ mod generate;
 mod lent;
 
 use caplune::{ffi, independent, Form, Refusal};
-use generate::alike::{chain, chain_alphabets, prefixed, small_alphabets, small_transducer};
+use generate::alike::{any, chain, chain_alphabets};
 use generate::samples::*;
 use generate::{trees, Alphabets, Random, Transducer};
 use independent::MAX_FILE;
@@ -191,28 +191,6 @@ fn order_of_refusals() {
     tally.settle(&OUTCOMES, 3);
 }
 
-/// Alphabets and a transducer: any ones, small ones or ones with long prefixes, some of them changed in
-/// ways that keep them equivalent.
-fn sheet(random: &mut Random) -> (Alphabets, Transducer) {
-    let (alphabets, sheet) = match random.below(4) {
-        0 => prefixed(random),
-        1 => {
-            let alphabets = Alphabets::random(random);
-            let sheet = Transducer::random(random, &alphabets);
-            return (alphabets, sheet);
-        }
-        _ => {
-            let alphabets = small_alphabets(random);
-            let (states, most) = (random.pick(&[2, 5, 12]), random.pick(&[3, 5, 9, 16]));
-            let sheet = small_transducer(random, &alphabets, states, most);
-            (alphabets, sheet)
-        }
-    };
-    let steps = random.pick(&[0, 0, 3, 8]);
-    let alike = sheet.alike(random, &alphabets, steps);
-    (alphabets, alike)
-}
-
 /// Damages one of the two files, or both; or swaps, empties or replaces one.
 fn damage(random: &mut Random, stock: &mut Vec<u8>, file: &mut Vec<u8>) {
     match random.below(12) {
@@ -247,7 +225,7 @@ fn generated_cases() {
     let (mut states, mut marks, mut inputs, mut merged) = (0, 0, 0, 0);
     for seed in 0..50_000 {
         let mut random = Random::new(seed + 10_000_000);
-        let (alphabets, sheet) = sheet(&mut random);
+        let (alphabets, sheet) = any(&mut random);
         let (mut stock, mut file) = (alphabets.file(), sheet.file());
         if let Ok(form) = forms(&mut tally, &stock, &file) {
             let told = size(&stock, &form);
@@ -288,19 +266,11 @@ fn all_small_files() {
             break;
         }
     }
-    let called: [&[u8]; 6] =
-        [&[0, 1], &[1, 0], &[0, 0, 0, 1, 0, 1], &[0, 0, 0, 1, 1, 0], &[0, 0, 1, 0, 0, 1], &[0, 0, 1, 0, 1, 0]];
-    let mut cleaned = BTreeSet::new();
-    for initial in called {
-        for inner in called {
-            for leaf in [called[0], called[2]] {
-                let form = forms(&mut tally, S, &file(1, &[initial, inner, leaf])).expect("it is within the limits");
-                cleaned.insert(form);
-            }
-        }
-    }
-    println!("72 transducers of one state, {} normal forms", cleaned.len());
-    assert!(cleaned.len() > 20 && cleaned.len() < 72);
+    let files = one_state();
+    let cleaned: BTreeSet<_> =
+        files.iter().map(|file| forms(&mut tally, S, file).expect("it is within the limits")).collect();
+    println!("{} transducers of one state, {} normal forms", files.len(), cleaned.len());
+    assert!(cleaned.len() > 20 && cleaned.len() < files.len());
     let wanted = OUTCOMES.into_iter().filter(|(_, outcome)| matches!(*outcome, "accepted" | "refused 4" | "refused 5"));
     tally.settle(&wanted.collect::<Vec<_>>(), 3);
 }
@@ -312,7 +282,7 @@ fn alike_by_construction() {
     let (mut same, mut others) = (0, 0);
     for seed in 0..5_000 {
         let mut random = Random::new(seed + 11_000_000);
-        let (alphabets, sheet) = sheet(&mut random);
+        let (alphabets, sheet) = any(&mut random);
         let stock = alphabets.file();
         let Ok(expected) = forms(&mut tally, &stock, &sheet.file()) else { continue };
         let mut changed = vec![
@@ -382,7 +352,7 @@ fn outputs_stay() {
     let (mut built, mut too_long) = (0, 0);
     for seed in 0..3_000 {
         let mut random = Random::new(seed + 12_000_000);
-        let (alphabets, sheet) = sheet(&mut random);
+        let (alphabets, sheet) = any(&mut random);
         let (stock, file) = (alphabets.file(), sheet.file());
         let Ok(form) = forms(&mut tally, &stock, &file) else { continue };
         let mut area = vec![0; MAX_FILE];

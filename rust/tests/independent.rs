@@ -9,7 +9,7 @@ mod oracle;
 use caplune::independent::*;
 use generate::alike::{chain, chain_alphabets, prefixed, prefixed_transducer, small_alphabets, small_transducer};
 use generate::samples::*;
-use generate::{trees, Growth, Random};
+use generate::{affordable, enough, trees, Growth, Random};
 use oracle::Oracle;
 use std::collections::BTreeMap;
 use Verdict::{Alike, Differ};
@@ -350,11 +350,6 @@ fn prefixes_of_outputs() {
     tally.settle(&[("with symbols and open ends", 500), ("others", 2_000)]);
 }
 
-/// The number of nodes up to which all input trees are tried: not more than `most` trees.
-fn affordable(ranks: &[u8], most: usize) -> usize {
-    (1..40).take_while(|&limit| count_trees(ranks, limit) <= most).last().unwrap_or(0)
-}
-
 /// The minimal transducer is accepted, minimal, and gives the outputs of its transducer on all small
 /// input trees, where the outputs are once looked at node by node and once built.
 #[test]
@@ -392,22 +387,6 @@ fn outputs_stay() {
         }
     }
     tally.settle(&[("outputs built", 20_000), ("refused by 7", 10)]);
-}
-
-/// The nodes of an input tree that is enough to tell two transducers apart.
-///
-/// Let their minimal earliest transducers have K states together, and not be one. From their initial
-/// terms on, calls at the same places lead down an input tree, one level for each call, to states
-/// whose right-hand sides differ in more than the names called: by Moore's rounds at most K - 1
-/// levels, and one for the symbol of these right-hand sides. There a symbol stands against another
-/// symbol, or against a call, or two calls on different sub-trees against each other; a call can be
-/// given two roots, and with one of them differs from the other side, whose input can be left as it
-/// is. The least trees for two roots have at most K + 1 levels: one for each call at the root of a
-/// right-hand side, and no state has to be called twice. These levels are a path; what is beside it
-/// can be leaves.
-fn enough(states: usize, ranks: &[u8]) -> usize {
-    let highest = usize::from(*ranks.iter().max().unwrap());
-    1 + highest.max(1) * (2 * states + 1)
 }
 
 /// Equivalence by minimal transducers against the search for a difference, which is made far enough.
@@ -481,14 +460,7 @@ fn verdicts() {
 /// All pairs of transducers of one state over S with terms of at most three marks.
 #[test]
 fn all_small_pairs() {
-    let called: [&[u8]; 6] =
-        [&[0, 1], &[1, 0], &[0, 0, 0, 1, 0, 1], &[0, 0, 0, 1, 1, 0], &[0, 0, 1, 0, 0, 1], &[0, 0, 1, 0, 1, 0]];
-    let mut files = Vec::new();
-    for initial in called {
-        for inner in called {
-            files.extend([called[0], called[2]].map(|leaf| file(1, &[initial, inner, leaf])));
-        }
-    }
+    let files = one_state();
     let mut alike = 0;
     for first in &files {
         for second in &files {

@@ -48,6 +48,15 @@ fn main() {
     reading(&cases);
     translating(&cases);
     cleaning();
+    println!();
+    println!("The independent comparison minimizes both and compares the two files: it shows no difference. The");
+    println!("proved one makes both earliest, joins states pair by pair, and where the two differ shows an input");
+    println!("tree of so many nodes and an address so deep. The size is that of both files.");
+    comparing();
+    println!();
+    println!("An entry minimizes the transducer and compares it with what is held. Both registries are as they");
+    println!("were before each call. The size is that of the file.");
+    entering();
     stylesheets(&cases);
     string_transducers();
 }
@@ -218,6 +227,149 @@ fn cleaning() {
             &mut || sheet.independent(&mut area.borrow_mut()),
         );
     }
+}
+
+/// Whether two transducers are equivalent.
+fn comparing() {
+    for Pair { name, stock, first, second } in pairs() {
+        let areas = RefCell::new((vec![1; caplune::TREE_AREA], vec![1; caplune::ADDRESS_AREA]));
+        let proved = || {
+            let (tree, address) = &mut *areas.borrow_mut();
+            caplune::compare(&stock, black_box(&first), &second, tree, address).map(|comparison| match comparison {
+                caplune::Comparison::Alike => None,
+                caplune::Comparison::Differ(shown) => Some((shown.tree.len(), shown.address.len())),
+            })
+        };
+        let independent = || independent::compare(&stock, black_box(&first), &second);
+        let (shown, verdict) = (proved().expect("they are compared"), independent());
+        let outcome = match shown {
+            None => "alike".to_string(),
+            Some((nodes, numbers)) => format!("{nodes} nodes, {numbers} deep"),
+        };
+        let expected = if shown.is_none() { independent::Verdict::Alike } else { independent::Verdict::Differ };
+        assert_eq!(verdict, Ok(expected), "{name}");
+        line(
+            &format!("compare, {name}: {outcome}"),
+            first.len() + second.len(),
+            &mut || discard(black_box(proved())),
+            &mut || discard(black_box(independent())),
+        );
+    }
+}
+
+/// Two transducers to compare.
+struct Pair {
+    name: &'static str,
+    stock: Vec<u8>,
+    first: Vec<u8>,
+    second: Vec<u8>,
+}
+
+fn pairs() -> Vec<Pair> {
+    let sheets = sheets();
+    let pair = |name, stock: &[u8], first, second| Pair { name, stock: stock.to_vec(), first, second };
+    let cleaned = |sheet: &Sheet| sheet.clean().expect("it is minimized");
+    // the minimal transducer with another leaf in its last right-hand side
+    let changed = |sheet: &Sheet| {
+        let mut file = cleaned(sheet);
+        let last = file.len() - 1;
+        let rank = |symbol: u8| sheet.stock[2 + usize::from(sheet.stock[0]) + usize::from(symbol)];
+        let other = (0..64).find(|&symbol| symbol != file[last] && rank(symbol) == 0);
+        file[last] = other.expect("the alphabets have two leaves");
+        file
+    };
+    let by_name = |name: &str| sheets.iter().find(|sheet| sheet.name == name).expect("there is one");
+    let (t_prime, random) = (by_name("T'"), by_name("128 random states"));
+    let (chain, wide) = (by_name("merging, chain of 128"), by_name("merging, chain of 128, 30 calls"));
+    // Rows of states that go round, and agree on the states met until all are joined. At v each calls the
+    // one before, at w the next one below g, at z the next one and the last one h(c), and gives c at e.
+    let row_stock = [4, 4, 4, 4, 0, 3, 1, 1, 0];
+    let row = |states: u8, back: u8, symbols: usize| {
+        rows(states, 4, &[1, 0], &|state, symbol| {
+            let last = state + 1 == states;
+            let next = if last { back } else { state + 1 };
+            match symbol {
+                0 => vec![1, state.saturating_sub(1)],
+                1 => [vec![0; 2 * symbols], vec![1, next]].concat(),
+                2 if last => vec![0, 1, 0, 2],
+                2 => vec![1, next],
+                _ => vec![0, 2],
+            }
+        })
+    };
+    // at 15 symbols each state calls the next alone, and gives c at the last symbol; only the last gives d
+    let alone = rows(128, 16, &[1, 0], &|state, symbol| match symbol {
+        15 => vec![0, 1 + state / 127],
+        _ => vec![1, (state + 1).min(127)],
+    });
+    vec![
+        pair("T' and T", &t_prime.stock, t_prime.file.clone(), cleaned(t_prime)),
+        pair("T' and T with d", &t_prime.stock, t_prime.file.clone(), changed(t_prime)),
+        pair("random, minimized", &random.stock, random.file.clone(), cleaned(random)),
+        pair("random, a leaf changed", &random.stock, random.file.clone(), changed(random)),
+        pair("chain of 128", &chain.stock, chain.file.clone(), chain.file.clone()),
+        pair("128, 30 calls", &wide.stock, wide.file.clone(), wide.file.clone()),
+        pair("128, 30 calls", &wide.stock, wide.file.clone(), changed(wide)),
+        pair("128 calls alone and c", &wide.stock, alone, file(0, &[&[0, 1]])),
+        pair("two rows of 128", &row_stock, row(128, 1, 0), row(128, 0, 0)),
+        pair("two of 128, 59 g", &row_stock, row(128, 1, 59), row(128, 0, 59)),
+    ]
+}
+
+/// Entry into a registry.
+fn entering() {
+    // u and e of ranks 1 and 0 to g, c, d of ranks 1, 0, 0; each state calls the next below g, and gives c
+    // at e; the last gives d
+    let stock = [2, 1, 0, 3, 1, 0, 0];
+    let chain = |states: u8| {
+        rows(states, 2, &[1, 0], &|state, symbol| match symbol {
+            0 => vec![0, 0, 1, (state + 1).min(states - 1)],
+            _ => vec![0, 1 + u8::from(state + 1 == states)],
+        })
+    };
+    let all = |count: u8| (2..2 + count).map(chain).collect::<Vec<_>>();
+    let random = sheets().into_iter().find(|sheet| sheet.name == "128 random states").expect("there is one");
+    entry("first of 1", &stock, &all(1), &chain(2));
+    entry("last of 32", &stock, &all(32), &chain(33));
+    entry("behind 1", &stock, &all(1), &chain(3));
+    entry("behind 31", &stock, &all(31), &chain(33));
+    entry("behind 32", &stock, &all(32), &chain(34));
+    entry("chain of 128", &stock, &[], &chain(128));
+    entry("128 random states", &random.stock, &[], &random.file);
+    entry("128 random states, held", &random.stock, std::slice::from_ref(&random.file), &random.file);
+}
+
+/// Prints a line for an entry into a registry of these transducers.
+fn entry(name: &str, stock: &[u8], held: &[Vec<u8>], file: &[u8]) {
+    let (mut head, mut records, mut area) = (caplune::Head::default(), [caplune::Record::default(); 33], [1; 65_536]);
+    caplune::make_registry(&mut head, &mut records, &mut area, stock).expect("it is made");
+    for file in held {
+        caplune::enter(&mut head, &mut records, &mut area, file).expect("it is entered");
+    }
+    let mut other = independent::Head { held: head.held, used: head.used, answered: head.answered };
+    let mut others = records.map(|record| independent::Record { start: record.start, length: record.size });
+    let mut other_area = area;
+    let (before, other_before, next) = (head, other, (head.held + 1).min(32));
+    let (record, other_record) = (records[next], others[next]);
+    let mut proved = || {
+        (head, records[next]) = (before, record);
+        caplune::enter(&mut head, &mut records, &mut area, black_box(file)).map_err(caplune::Refusal::number)
+    };
+    let mut independent = || {
+        (other, others[next]) = (other_before, other_record);
+        let mut book = independent::Book { head: &mut other, records: &mut others, area: &mut other_area };
+        book.enter(black_box(file))
+    };
+    let answer = proved();
+    assert_eq!(answer, independent(), "{name}");
+    let outcome = match answer {
+        Ok(number) if number > before.held => "added".to_string(),
+        Ok(_) => "found".to_string(),
+        Err(number) => format!("refused by {number}"),
+    };
+    line(&format!("enter, {name}: {outcome}"), file.len(), &mut || discard(black_box(proved())), &mut || {
+        discard(black_box(independent()))
+    });
 }
 
 /// The states in a ring or a chain: `side` gives the right-hand side of a state at a symbol.

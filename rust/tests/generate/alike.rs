@@ -96,6 +96,28 @@ pub fn prefixed(random: &mut Random) -> (Alphabets, Transducer) {
     (alphabets, sheet)
 }
 
+/// Alphabets and a transducer: any ones, small ones or ones with long prefixes, some of them changed in
+/// ways that keep them equivalent.
+pub fn any(random: &mut Random) -> (Alphabets, Transducer) {
+    let (alphabets, sheet) = match random.below(4) {
+        0 => prefixed(random),
+        1 => {
+            let alphabets = Alphabets::random(random);
+            let sheet = Transducer::random(random, &alphabets);
+            return (alphabets, sheet);
+        }
+        _ => {
+            let alphabets = small_alphabets(random);
+            let (states, most) = (random.pick(&[2, 5, 12]), random.pick(&[3, 5, 9, 16]));
+            let sheet = small_transducer(random, &alphabets, states, most);
+            (alphabets, sheet)
+        }
+    };
+    let steps = random.pick(&[0, 0, 3, 8]);
+    let alike = sheet.alike(random, &alphabets, steps);
+    (alphabets, alike)
+}
+
 /// The number of sub-trees that a term can call.
 fn reach(alphabets: &Alphabets, number: usize) -> u8 {
     number.checked_sub(1).map_or(1, |number| alphabets.inputs[number % alphabets.inputs.len()])

@@ -4,6 +4,7 @@
 #![allow(dead_code)]
 
 pub mod alike;
+pub mod rows;
 pub mod samples;
 
 /// A small generator of numbers: xorshift, with a multiplication at the end.
@@ -168,6 +169,27 @@ pub fn trees(ranks: &[u8], levels: usize, most: usize) -> Option<Vec<Vec<u8>>> {
         trees = next;
     }
     Some(trees)
+}
+
+/// The number of nodes up to which all input trees are tried: not more than `most` trees.
+pub fn affordable(ranks: &[u8], most: usize) -> usize {
+    (1..40).take_while(|&limit| caplune::independent::count_trees(ranks, limit) <= most).last().unwrap_or(0)
+}
+
+/// The nodes of an input tree that is enough to tell two transducers apart.
+///
+/// Let their minimal earliest transducers have K states together, and not be one. From their initial
+/// terms on, calls at the same places lead down an input tree, one level for each call, to states
+/// whose right-hand sides differ in more than the names called: by Moore's rounds at most K - 1
+/// levels, and one for the symbol of these right-hand sides. There a symbol stands against another
+/// symbol, or against a call, or two calls on different sub-trees against each other; a call can be
+/// given two roots, and with one of them differs from the other side, whose input can be left as it
+/// is. The least trees for two roots have at most K + 1 levels: one for each call at the root of a
+/// right-hand side, and no state has to be called twice. These levels are a path; what is beside it
+/// can be leaves.
+pub fn enough(states: usize, ranks: &[u8]) -> usize {
+    let highest = usize::from(*ranks.iter().max().unwrap());
+    1 + highest.max(1) * (2 * states + 1)
 }
 
 /// An input tree, most of them within the limits.

@@ -15,6 +15,20 @@ pub fn file(states: usize, terms: &[&[u8]]) -> Vec<u8> {
     Transducer { states, terms: terms.iter().map(|term| term.to_vec()).collect() }.file()
 }
 
+/// All transducers of one state over S with terms of at most three marks, of which the state gives e or
+/// f(e, e) at e.
+pub fn one_state() -> Vec<Vec<u8>> {
+    let terms: [&[u8]; 6] =
+        [&[0, 1], &[1, 0], &[0, 0, 0, 1, 0, 1], &[0, 0, 0, 1, 1, 0], &[0, 0, 1, 0, 0, 1], &[0, 0, 1, 0, 1, 0]];
+    let mut files = Vec::new();
+    for initial in terms {
+        for inner in terms {
+            files.extend([terms[0], terms[2]].map(|leaf| file(1, &[initial, inner, leaf])));
+        }
+    }
+    files
+}
+
 /// M: q(a(x1, x2)) = d(q(x1), d(q(x1), e)), q(e) = d(d(e, e), d(e, e)).
 pub fn m() -> Vec<u8> {
     let side = [0, 0, 1, 0, 0, 0, 1, 0, 0, 1];

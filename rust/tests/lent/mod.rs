@@ -1,4 +1,8 @@
 //! What is lent for writing, with a pattern in it, and how often each outcome occurred.
+
+// Each test program uses some of it.
+#![allow(dead_code)]
+
 use caplune::Refusal;
 use std::collections::BTreeMap;
 use std::sync::OnceLock;

@@ -1,0 +1,609 @@
+//! Holds the proved registry against the independent one (the paper: the book): on the paper's samples,
+//! on lists of entries, and on heads, records and areas that are damaged.
+//!
+//! Every call is made three times, each time on a memory of its own: by the safe function of this crate,
+//! by the C function itself, and by the independent function. The answers have to be the same, and so
+//! have the three memories afterwards, with what stands around what was lent. `cargo test --release
+//! --offline --test registry -- --nocapture` prints how often each outcome occurred.
+mod generate;
+mod lent;
+
+use caplune::{ffi, independent, Head, Record, RECORDS};
+use generate::alike::{chain, chain_alphabets, prefixed_transducer, small_alphabets, small_transducer};
+use generate::samples::*;
+use generate::{Alphabets, Random, Transducer};
+use lent::{number, Tally, BEFORE};
+use std::collections::BTreeMap;
+
+/// What is lent, in the middle of what has to stay.
+#[derive(Clone, Debug, PartialEq)]
+struct Memory {
+    head: Head,
+    /// How many records are lent.
+    count: usize,
+    all_records: Vec<Record>,
+    /// How many bytes are lent.
+    size: usize,
+    bytes: Vec<u8>,
+}
+
+/// How many records and bytes stand before and behind what is lent.
+const RECORDS_AROUND: usize = 3;
+const BYTES_AROUND: usize = 24;
+
+impl Memory {
+    /// With a pattern in all of it.
+    fn new(count: usize, size: usize) -> Self {
+        let record = |index: usize| Record { start: 1_000 + index, size: usize::MAX - index };
+        Memory {
+            head: Head { held: 77, used: 78, answered: 79 },
+            count,
+            all_records: (0..count + 2 * RECORDS_AROUND).map(record).collect(),
+            size,
+            bytes: (0..size + 2 * BYTES_AROUND).map(|index| (index * 167 + 91) as u8).collect(),
+        }
+    }
+
+    fn lend(&mut self) -> (&mut Head, &mut [Record], &mut [u8]) {
+        let records = &mut self.all_records[RECORDS_AROUND..RECORDS_AROUND + self.count];
+        (&mut self.head, records, &mut self.bytes[BYTES_AROUND..BYTES_AROUND + self.size])
+    }
+
+    fn records(&self) -> &[Record] {
+        &self.all_records[RECORDS_AROUND..RECORDS_AROUND + self.count]
+    }
+
+    fn area(&self) -> &[u8] {
+        &self.bytes[BYTES_AROUND..BYTES_AROUND + self.size]
+    }
+
+    /// What `call` answers and leaves, head and records being those of the independent implementation.
+    fn independent<T>(
+        &mut self,
+        call: impl FnOnce(&mut independent::Head, &mut [independent::Record], &mut [u8]) -> T,
+    ) -> T {
+        let (head, records, area) = self.lend();
+        let mut other = independent::Head { held: head.held, used: head.used, answered: head.answered };
+        let mut others: Vec<independent::Record> =
+            records.iter().map(|record| independent::Record { start: record.start, length: record.size }).collect();
+        let answer = call(&mut other, &mut others, area);
+        *head = Head { held: other.held, used: other.used, answered: other.answered };
+        for (record, other) in records.iter_mut().zip(others) {
+            *record = Record { start: other.start, size: other.length };
+        }
+        answer
+    }
+}
+
+/// Makes a registry in the memory three times, and answers what all three do.
+fn make(tally: &mut Tally, memory: &mut Memory, stock: &[u8]) -> Result<(), u32> {
+    let [mut safe, mut exported] = [memory.clone(), memory.clone()];
+    let stock_lent = stock.to_vec();
+    let expected =
+        memory.independent(|head, records, area| independent::Book::make(stock, head, records, area).map(|_| ()));
+    let (head, records, area) = safe.lend();
+    assert_eq!(number(caplune::make_registry(head, records, area, &stock_lent)), expected, "{stock:?}");
+    let (head, records, area) = exported.lend();
+    // SAFETY: each pointer and length are those of a slice, and the others are to the fields of the head.
+    let refused = unsafe {
+        ffi::caplune_make_registry(
+            &mut head.held,
+            &mut head.used,
+            &mut head.answered,
+            records.as_mut_ptr().cast(),
+            2 * records.len(),
+            area.as_mut_ptr(),
+            area.len(),
+            stock_lent.as_ptr(),
+            stock_lent.len(),
+        )
+    };
+    assert_eq!(refused, expected.err().unwrap_or(0), "{stock:?}");
+    assert!(safe == *memory && exported == *memory && stock_lent == stock, "{stock:?}");
+    tally.count("make_registry", &expected, "accepted");
+    expected
+}
+
+/// Enters a transducer three times, and answers the number of all three.
+fn enter(tally: &mut Tally, memory: &mut Memory, file: &[u8]) -> Result<usize, u32> {
+    let [mut safe, mut exported] = [memory.clone(), memory.clone()];
+    let (before, file_lent) = (memory.head, file.to_vec());
+    let told = || format!("{before:?} {file:?}");
+    let expected = memory.independent(|head, records, area| independent::Book { head, records, area }.enter(file));
+    let (head, records, area) = safe.lend();
+    assert_eq!(number(caplune::enter(head, records, area, &file_lent)), expected, "{}", told());
+    let (head, records, area) = exported.lend();
+    let mut entered = BEFORE[0];
+    // SAFETY: each pointer and length are those of a slice, and the others are to the fields of the head
+    // and to a local.
+    let refused = unsafe {
+        ffi::caplune_enter(
+            &mut head.held,
+            &mut head.used,
+            &mut head.answered,
+            records.as_mut_ptr().cast(),
+            2 * records.len(),
+            area.as_mut_ptr(),
+            area.len(),
+            file_lent.as_ptr(),
+            file_lent.len(),
+            &mut entered,
+        )
+    };
+    let left = (expected.err().unwrap_or(0), expected.unwrap_or(BEFORE[0]));
+    assert_eq!((refused, entered), left, "{}", told());
+    assert!(safe == *memory && exported == *memory && file_lent == file, "{}", told());
+    let added = if memory.head.held > before.held { "added" } else { "found" };
+    tally.count("enter", &expected, added);
+    expected
+}
+
+/// The body of this number, which all three hand out: the same bytes, and in the same place.
+fn body<'a>(tally: &mut Tally, memory: &'a mut Memory, number: usize) -> &'a [u8] {
+    let expected = memory.independent(|head, records, area| {
+        let part = independent::Book { head, records, area }.body(number).map(|part| (part.as_ptr(), part.len()));
+        part.map(|(from, length)| (from as usize, length))
+    });
+    let name = if expected.is_ok_and(|(_, length)| length > 0) { "body" } else { "empty" };
+    tally.count("body", &expected, name);
+    let (from, length) = expected.unwrap_or((0, 0));
+    let (head, records, area) = (&memory.head, memory.records(), memory.area());
+    let part = caplune::body(head, records, area, number);
+    assert_eq!(part.len(), length, "{head:?} {number}");
+    let mut start = BEFORE[0];
+    // SAFETY: each pointer and length are those of a slice, and the last is to a local.
+    let size = unsafe {
+        ffi::caplune_body(
+            head.held,
+            head.used,
+            head.answered,
+            records.as_ptr().cast(),
+            2 * records.len(),
+            area.as_ptr(),
+            area.len(),
+            number,
+            &mut start,
+        )
+    };
+    let expected_start = if length > 0 { from - area.as_ptr() as usize } else { 0 };
+    assert_eq!((size, start), (length, expected_start), "{head:?} {number}");
+    if length > 0 {
+        assert_eq!(part.as_ptr() as usize, from);
+    }
+    part
+}
+
+/// The bodies of all numbers that can be held, and of some that cannot.
+fn bodies(tally: &mut Tally, memory: &mut Memory) {
+    let before = memory.clone();
+    for number in (0..40).chain([63, 255, 256, 1 << 32, 1 << 63, usize::MAX]) {
+        body(tally, memory, number);
+    }
+    assert_eq!(*memory, before);
+}
+
+/// The outcomes that the paper has.
+const OUTCOMES: [(&str, &str); 14] = [
+    ("make_registry", "accepted"),
+    ("make_registry", "refused 2"),
+    ("make_registry", "refused 8"),
+    ("make_registry", "refused 9"),
+    ("enter", "added"),
+    ("enter", "found"),
+    ("enter", "refused 4"),
+    ("enter", "refused 5"),
+    ("enter", "refused 7"),
+    ("enter", "refused 8"),
+    ("enter", "refused 9"),
+    ("body", "body"),
+    ("body", "empty"),
+    ("body", "refused 9"),
+];
+
+#[test]
+fn samples() {
+    let mut tally = Tally::default();
+    for (size, answers, used) in [
+        (60, [Ok(1), Ok(1), Ok(2)], 56),
+        (56, [Ok(1), Ok(1), Ok(2)], 56),
+        (55, [Ok(1), Ok(1), Err(8)], 27),
+        (27, [Ok(1), Ok(1), Err(8)], 27),
+        (26, [Err(8), Err(8), Err(8)], 6),
+        (6, [Err(8), Err(8), Err(8)], 6),
+    ] {
+        let mut memory = Memory::new(RECORDS, size);
+        assert_eq!(make(&mut tally, &mut memory, S), Ok(()));
+        assert_eq!(memory.head, Head { held: 0, used: 6, answered: 0 });
+        assert_eq!([T, T_PRIME, U].map(|file| enter(&mut tally, &mut memory, file)), answers);
+        let answered = answers.iter().filter(|answer| answer.is_ok()).count() as u64;
+        let held = answers.iter().filter_map(|answer| answer.ok()).max().unwrap_or(0);
+        assert_eq!(memory.head, Head { held, used, answered });
+        bodies(&mut tally, &mut memory);
+        if held > 0 {
+            assert_eq!(body(&mut tally, &mut memory, 1), T);
+        }
+        if held > 1 {
+            assert_eq!(body(&mut tally, &mut memory, 2), independent::clean(S, U).unwrap());
+        }
+    }
+    let mut memory = Memory::new(RECORDS, 5);
+    let before = memory.clone();
+    assert_eq!(make(&mut tally, &mut memory, S), Err(8));
+    assert_eq!(memory, before);
+}
+
+/// Records past the 33rd are neither read nor altered, and fewer are no registry.
+#[test]
+fn numbers_of_records() {
+    let mut tally = Tally::default();
+    for count in (0..=40).chain([70, 1_000]) {
+        let mut memory = Memory::new(count, 60);
+        let before = memory.clone();
+        let made = make(&mut tally, &mut memory, S);
+        assert_eq!(made, if count < 33 { Err(9) } else { Ok(()) });
+        if made.is_err() {
+            assert_eq!(make(&mut tally, &mut memory, &[]), Err(9));
+            assert_eq!(memory, before);
+            assert_eq!(enter(&mut tally, &mut memory, T), Err(9));
+        } else {
+            assert_eq!(make(&mut tally, &mut memory, &[]), Err(2));
+            assert_eq!([T, U].map(|file| enter(&mut tally, &mut memory, file)), [Ok(1), Ok(2)]);
+            assert_eq!(memory.records()[33..], before.records()[33..]);
+        }
+        bodies(&mut tally, &mut memory);
+        // a registry that is whole but for the number of records lent
+        let mut whole = Memory::new(RECORDS, 60);
+        assert_eq!(make(&mut tally, &mut whole, S), Ok(()));
+        whole.count = count.min(RECORDS);
+        assert_eq!(enter(&mut tally, &mut whole, T), if count < 33 { Err(9) } else { Ok(1) });
+        bodies(&mut tally, &mut whole);
+    }
+}
+
+/// In the C functions, a last number without a partner is no record.
+#[test]
+fn odd_numbers() {
+    for (count, expected) in [(0, 9), (1, 9), (65, 9), (66, 0), (67, 0)] {
+        let (mut head, mut numbers, mut area) = (Head::default(), vec![5; count], [7; 60]);
+        // SAFETY: each pointer and length are those of a slice, and the others are to the fields of the head.
+        let refused = unsafe {
+            ffi::caplune_make_registry(
+                &mut head.held,
+                &mut head.used,
+                &mut head.answered,
+                numbers.as_mut_ptr(),
+                count,
+                area.as_mut_ptr(),
+                area.len(),
+                S.as_ptr(),
+                S.len(),
+            )
+        };
+        assert_eq!(refused, expected);
+        let mut left = vec![5; count];
+        if expected == 0 {
+            left[..66].fill(0);
+            left[1] = 6;
+        }
+        assert_eq!(numbers, left);
+    }
+}
+
+/// A registry with T and U in it, in an area of 80 bytes.
+fn made(tally: &mut Tally) -> Memory {
+    let mut memory = Memory::new(35, 80);
+    assert_eq!(make(tally, &mut memory, S), Ok(()));
+    assert_eq!([T, U].map(|file| enter(tally, &mut memory, file)), [Ok(1), Ok(2)]);
+    memory
+}
+
+#[test]
+fn damaged() {
+    let mut tally = Tally::default();
+    let made = made(&mut tally);
+    type Damage = fn(&mut Memory);
+    let record = |memory: &mut Memory, index: usize, start: usize, size: usize| {
+        memory.lend().1[index] = Record { start, size };
+    };
+    // an entry of T is answered so, and one of what is not read is refused by 9 where that is
+    let mut entry = |expected: Result<usize, u32>, damage: &dyn Fn(&mut Memory)| {
+        let mut memory = made.clone();
+        damage(&mut memory);
+        bodies(&mut tally, &mut memory);
+        let mut other = memory.clone();
+        assert_eq!(enter(&mut tally, &mut memory, T), expected);
+        let refused = enter(&mut tally, &mut other, &[1, 0, 3]);
+        assert_eq!(refused, Err(if expected == Err(9) { 9 } else { 4 }));
+    };
+    let in_order: [Damage; 5] = [
+        |_| (),
+        |memory| memory.head.answered = u64::MAX - 1,
+        |memory| memory.size = 56,
+        |memory| memory.lend().1[33] = Record::default(),
+        |memory| memory.lend().2[56..].fill(0),
+    ];
+    in_order.iter().for_each(|damage| entry(Ok(1), damage));
+    let heads: [Damage; 12] = [
+        |memory| memory.head.held = 33,
+        |memory| memory.head.held = 34,
+        |memory| memory.head.held = 3,
+        |memory| memory.head.held = 1,
+        |memory| memory.head.held = 0,
+        |memory| memory.head.held = usize::MAX,
+        |memory| memory.head.used = 57,
+        |memory| memory.head.used = 55,
+        |memory| memory.head.used = 0,
+        |memory| memory.head.used = usize::MAX,
+        |memory| memory.head.answered = u64::MAX,
+        |memory| memory.head = Head::default(),
+    ];
+    heads.iter().for_each(|damage| entry(Err(9), damage));
+    let areas: [Damage; 6] = [
+        |memory| memory.size = 55,
+        |memory| memory.size = 5,
+        |memory| memory.size = 0,
+        |memory| memory.lend().2[0] = 0,
+        |memory| memory.lend().2[5] = 5,
+        |memory| memory.lend().2[2] = 1,
+    ];
+    areas.iter().for_each(|damage| entry(Err(9), damage));
+    // the records in order are (0, 6), (6, 21), (27, 29), and unused ones
+    for (index, start, size) in [
+        (0, 1, 6),
+        (0, 0, 5),
+        (0, 0, 7),
+        (0, usize::MAX, 6),
+        (0, 0, usize::MAX),
+        (1, 5, 21),
+        (1, 7, 21),
+        (1, 6, 20),
+        (1, 6, 22),
+        (1, 6, usize::MAX),
+        (1, 6, usize::MAX - 5),
+        (1, 0, 0),
+        (2, 27, 28),
+        (2, 27, 30),
+        (2, 26, 29),
+        (2, 0, 29),
+        (2, 0, 0),
+        (3, 56, 0),
+        (3, 0, 1),
+        (3, 1, 0),
+        (32, 56, 0),
+        (32, 0, 1),
+        (32, usize::MAX, usize::MAX),
+    ] {
+        entry(Err(9), &|memory| record(memory, index, start, size));
+    }
+    // sizes whose sum is the bytes used only if it goes round
+    entry(Err(9), &|memory| {
+        record(memory, 1, 6, usize::MAX - 9);
+        record(memory, 2, usize::MAX - 3, 60);
+    });
+    // the end of one body moved into the next: T is no longer held, and there is room for it
+    entry(Ok(3), &|memory| {
+        record(memory, 1, 6, 20);
+        record(memory, 2, 26, 30);
+    });
+    // an empty body
+    entry(Ok(1), &|memory| {
+        record(memory, 3, 56, 0);
+        memory.head.held = 3;
+    });
+    // one record fewer, and the bytes used to its end
+    entry(Ok(1), &|memory| {
+        record(memory, 2, 0, 0);
+        memory.head = Head { held: 1, used: 27, answered: 0 };
+    });
+    entry(Ok(1), &|memory| {
+        (1..3).for_each(|index| record(memory, index, 0, 0));
+        memory.head = Head { held: 0, used: 6, answered: 7 };
+    });
+}
+
+/// The count of answers goes up to the last number but no further; a refused entry is not counted.
+#[test]
+fn last_answer() {
+    let mut tally = Tally::default();
+    let mut memory = made(&mut tally);
+    memory.head.answered = u64::MAX - 2;
+    assert_eq!(enter(&mut tally, &mut memory, T_PRIME), Ok(1));
+    assert_eq!(enter(&mut tally, &mut memory, &[]), Err(4));
+    assert_eq!(memory.head.answered, u64::MAX - 1);
+    bodies(&mut tally, &mut memory);
+    assert_eq!(enter(&mut tally, &mut memory, U), Ok(2));
+    assert_eq!(memory.head.answered, u64::MAX);
+    let before = memory.clone();
+    assert_eq!(enter(&mut tally, &mut memory, T), Err(9));
+    assert_eq!(enter(&mut tally, &mut memory, &[]), Err(9));
+    bodies(&mut tally, &mut memory);
+    assert_eq!(memory, before);
+}
+
+/// With one body twice, an entry answers the lower number.
+#[test]
+fn lowest_number() {
+    let mut tally = Tally::default();
+    let mut memory = Memory::new(RECORDS, 82);
+    let (head, records, area) = memory.lend();
+    *head = Head { held: 3, used: 73, answered: 5 };
+    // bodies 1 to 3: U as it is, which is not minimal; T; T
+    records.fill(Record::default());
+    let rows = [(0, 6), (6, 25), (31, 21), (52, 21)].map(|(start, size)| Record { start, size });
+    records[..4].copy_from_slice(&rows);
+    area[..73].copy_from_slice(&[S, U, T, T].concat());
+    assert_eq!(enter(&mut tally, &mut memory, T_PRIME), Ok(2));
+    assert_eq!(enter(&mut tally, &mut memory, U), Err(8));
+    assert_eq!(memory.head, Head { held: 3, used: 73, answered: 6 });
+    bodies(&mut tally, &mut memory);
+}
+
+/// Up to 32 transducers are held, and the 33rd is refused; those held are still found.
+#[test]
+fn full() {
+    let mut tally = Tally::default();
+    let stock = chain_alphabets().file();
+    let sheet = |number: usize| chain(number, 1, 2).file();
+    let lengths: Vec<usize> =
+        (1..=32).map(|number| independent::clean(&stock, &sheet(number)).unwrap().len()).collect();
+    let all = stock.len() + lengths.iter().sum::<usize>();
+    for (size, most) in [(1 << 16, 32), (all, 32), (all - 1, 31), (all - lengths[31], 31)] {
+        let mut memory = Memory::new(RECORDS, size);
+        assert_eq!(make(&mut tally, &mut memory, &stock), Ok(()));
+        for round in 1..=2 {
+            for number in 1..=33 {
+                let expected = if number <= most { Ok(number) } else { Err(8) };
+                assert_eq!(enter(&mut tally, &mut memory, &sheet(number)), expected);
+            }
+            assert_eq!((memory.head.held, memory.head.answered), (most, (most * round) as u64));
+            bodies(&mut tally, &mut memory);
+        }
+    }
+}
+
+/// Damages head, records or area, and often more than once; some of it is still a registry.
+fn damage(random: &mut Random, memory: &mut Memory) {
+    loop {
+        let Head { held, used, .. } = memory.head;
+        let near = |random: &mut Random, number: usize| match random.below(6) {
+            0 => 0,
+            1 => usize::MAX,
+            2 => random.below(100),
+            3 => number.wrapping_add(1),
+            4 => number.wrapping_sub(1),
+            _ => number,
+        };
+        let index = random.below(memory.count.max(1));
+        match random.below(12) {
+            0 => memory.head.held = near(random, held),
+            1 => memory.head.held = random.range(30, 34),
+            2 => memory.head.used = near(random, used),
+            3 => memory.head.answered = random.pick(&[0, 5, u64::MAX, u64::MAX - 1]),
+            4 if index < memory.count => {
+                let record = &mut memory.lend().1[index];
+                record.start = near(random, record.start);
+            }
+            5 if index < memory.count => {
+                let record = &mut memory.lend().1[index];
+                record.size = near(random, record.size);
+            }
+            6 => memory.count = random.range(0, memory.count),
+            7 => memory.size = random.range(0, memory.size),
+            8 => memory.size = used.min(memory.size),
+            9 => {
+                let (_, records, area) = memory.lend();
+                let stock = records.first().map_or(0, |record| record.size).min(area.len());
+                if stock > 0 {
+                    area[random.below(stock)] = random.below(6) as u8;
+                }
+            }
+            // the last body is taken out
+            10 if held > 0 && held < memory.count => {
+                memory.lend().1[held] = Record::default();
+                let record = memory.records()[held - 1];
+                memory.head = Head { held: held - 1, used: record.start.wrapping_add(record.size), answered: 3 };
+            }
+            // two bodies are made one
+            11 if held > 1 && held < memory.count => {
+                let record = std::mem::take(&mut memory.lend().1[held]);
+                let size = &mut memory.lend().1[held - 1].size;
+                *size = size.wrapping_add(record.size);
+                memory.head.held -= 1;
+            }
+            _ => continue,
+        }
+        if random.once_in(2) {
+            return;
+        }
+    }
+}
+
+/// Alphabets, and transducers of few shapes over them, many of them equivalent, with some that are
+/// refused.
+fn pool(random: &mut Random) -> (Alphabets, Vec<Vec<u8>>) {
+    let alphabets = if random.once_in(3) { chain_alphabets() } else { small_alphabets(random) };
+    let mut sheets: Vec<Transducer> = Vec::new();
+    for _ in 0..random.pick(&[3, 10, 45]) {
+        sheets.push(match random.below(4) {
+            0 => prefixed_transducer(random, &alphabets, 4, 9),
+            1 if alphabets.inputs == [1, 0] && alphabets.outputs == [1, 0, 0] => {
+                chain(random.range(1, 40), random.below(2), 2)
+            }
+            _ => {
+                let (states, most) = (random.range(1, 4), random.pick(&[1, 3, 5, 9]));
+                small_transducer(random, &alphabets, states, most)
+            }
+        });
+    }
+    let mut files: Vec<Vec<u8>> = Vec::new();
+    for sheet in &sheets {
+        files.push(sheet.file());
+        let steps = random.pick(&[2, 5, 10]);
+        files.push(sheet.alike(random, &alphabets, steps).file());
+        if random.once_in(4) {
+            files.push(sheet.with_one_mark_changed(random, &alphabets).unwrap_or_else(|| sheet.clone()).file());
+        }
+        if random.once_in(8) {
+            let mut file = sheet.file();
+            generate::damage(random, &mut file);
+            files.push(file);
+        }
+    }
+    files.push(prefixed_transducer(random, &alphabets, 70, 12).file());
+    (alphabets, files)
+}
+
+/// Lists of entries: any two accepted ones got one number exactly if their minimal transducers are one,
+/// each is still held at its number, and as many are counted as were accepted.
+#[test]
+fn lists() {
+    let mut tally = Tally::default();
+    let mut full = 0;
+    for seed in 0..120 {
+        let mut random = Random::new(seed + 30_000_000);
+        let (alphabets, files) = pool(&mut random);
+        let stock = alphabets.file();
+        let size = match random.below(6) {
+            0 => random.range(0, 40),
+            1 => random.range(20, 300),
+            2 => random.range(300, 2_000),
+            _ => random.range(2_000, 30_000),
+        };
+        let mut memory = Memory::new(random.pick(&[33, 33, 34, 40]), size);
+        if make(&mut tally, &mut memory, &stock).is_err() {
+            continue;
+        }
+        let mut numbers: BTreeMap<Vec<u8>, usize> = BTreeMap::new();
+        let mut accepted = 0;
+        for _ in 0..250 {
+            let file = &files[random.below(files.len())];
+            if let Ok(number) = enter(&mut tally, &mut memory, file) {
+                let clean = independent::clean(&stock, file).expect("it was accepted");
+                let next = numbers.len() + 1;
+                assert_eq!(*numbers.entry(clean).or_insert(next), number);
+                accepted += 1;
+            }
+            if random.once_in(10) {
+                let mut other = memory.clone();
+                damage(&mut random, &mut other);
+                bodies(&mut tally, &mut other);
+                let _ = enter(&mut tally, &mut other, file);
+                if random.once_in(4) {
+                    let _ = make(&mut tally, &mut other, &stock);
+                }
+            }
+        }
+        assert_eq!((memory.head.held, memory.head.answered), (numbers.len(), accepted));
+        bodies(&mut tally, &mut memory);
+        for (clean, number) in numbers {
+            assert_eq!(body(&mut tally, &mut memory, number), clean);
+        }
+        full += usize::from(memory.head.held == 32);
+        let mut stock = stock;
+        generate::damage(&mut random, &mut stock);
+        let _ = make(&mut tally, &mut memory, &stock);
+    }
+    println!("{full} with 32 transducers");
+    assert!(full > 10);
+    tally.settle(&OUTCOMES, 10);
+}
