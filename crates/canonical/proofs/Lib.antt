@@ -1,6 +1,6 @@
 -- Laws of the normal form. Keys: marks and bodies by their keys. Refining: the classes of equivalent states. Merging: writing the quotient, body after body, and what the new file says.
 -- Normalizing, Cleaning: the normal form of a transducer, and of a file. Alike: input trees and equivalence. Laws: what cleaning promises of two files and of its own results.
--- Samples, SampleTrimmed, SampleM, Table: the samples of document 01 that are proved.
+-- Samples, SampleTrimmed, SampleM: the samples of document 01 that are proved.
 pub mod Keys
 pub mod Refining
 pub mod Merging
@@ -11,4 +11,3 @@ pub mod Laws
 pub mod Samples
 pub mod SampleTrimmed
 pub mod SampleM
-pub mod Table

@@ -20,12 +20,11 @@ use Rattle.theory.proofs.Terms.{conflict}
 use Rattle.formats.specs.Alphabets.{Alphabets, stock, inputs, outputs, Leaf}
 use Rattle.formats.specs.Code.{Ranked, flat, Call}
 use Rattle.formats.specs.Sheet.{Encodes, countBytes, markBytes, bodyBytes, each, terms}
-use Rattle.transducer.proofs.Table.{below}
+use Rattle.transducer.proofs.Samples.{below, leaf}
 use Rattle.prefixes.specs.Alphabet.{alphabet, childrenOf}
-use Rattle.prefixes.proofs.Table.{pairs, M, M-machine, M-sheet, d, e, line, G}
+use Rattle.prefixes.proofs.Samples.{pairs, M, M-machine, M-sheet, d, e, line, G}
 use Rattle.canonical.specs.Answers.{NormalFile}
 use Rattle.canonical.proofs.Normalizing.{encoded-wf}
-use Rattle.canonical.proofs.Samples.{leaf}
 
 pairs-alphabets : Alphabets pairs
 unfolding stock inputs outputs

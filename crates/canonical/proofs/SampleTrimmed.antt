@@ -1,10 +1,10 @@
--- The earliest form of T' (document 01): two states, the ⊤ of pref(q) = f(⊤, ⊤).
+-- The earliest forms of T' and U (document 01): two states, the ⊤ of pref(q) = f(⊤, ⊤).
 -- Assumes nothing.
 use Prim.Native.Nat.{ℕ, suc, _<_, _-_}
 use native.Mathlib.Omega.{arith}
 use mathlib.Core.List.{List, [], _∷_}
 use mathlib.Core.Logic.{_≢_}
-use mathlib.Core.Option.{some, Option·elim, Option·getD, Option·some-injective}
+use mathlib.Core.Option.{some, Option·elim, Option·some-injective}
 use mathlib.Core.Path.{_≡_, refl, ap, sym}
 use lib.ListN.{getD, getElem?}
 use Rattle.theory.specs.Discovered.{Discovered, Read, ReadRhs, read-call, read-node, read-none, read-more, no-rhs, read-rhs, read-initial, read-state}
@@ -14,7 +14,7 @@ use Rattle.theory.specs.Listing.{Indexes, listed}
 use Rattle.theory.specs.Pref.{IsPref, Prefs}
 use Rattle.theory.specs.Prefix.{Pattern, any, keeps, no-more, also}
 use Rattle.theory.specs.Registry.{found, added}
-use Rattle.theory.specs.Term.{var, bind, mapT, count, sub, root, symbolAt}
+use Rattle.theory.specs.Term.{Term, var, bind, mapT, count, sub, root, symbolAt}
 use Rattle.theory.specs.Transducer.{Transducer, output, closed, run, pick, renamed}
 use Rattle.theory.specs.Trimmed.{Trimmed}
 use Rattle.theory.proofs.Identity.{identical-refl}
@@ -22,14 +22,15 @@ use Rattle.theory.proofs.Terms.{conflict}
 use Rattle.formats.specs.Alphabets.{inputs, outputs, Leaf}
 use Rattle.formats.specs.Code.{Ranked, flat, Call}
 use Rattle.formats.specs.Sheet.{Encodes, countBytes, markBytes, bodyBytes, each, terms}
-use Rattle.transducer.proofs.Table.{S, S-alphabets, below}
+use Rattle.transducer.proofs.Samples.{S, S-alphabets, below, leaf, chain}
 use Rattle.prefixes.specs.Alphabet.{alphabet, childrenOf}
-use Rattle.prefixes.proofs.Table.{EachOpen, at-open}
+use Rattle.prefixes.proofs.Samples.{EachOpen, at-open}
 use Rattle.earliest.specs.Answers.{EarliestFile}
-use Rattle.canonical.proofs.Samples.{T′, T′-sheet, one-state, once, late, f, leaf, chain, G, leaf-allowed, chain-allowed, doubles}
+use Rattle.canonical.proofs.Samples.{T′, T′-sheet, U, U-sheet, one-state, once, late, f, G, leaf-allowed, chain-allowed, doubles}
 
-unfoldable T′-machine : Transducer ℕ
-T′-machine = one-state once late
+-- T' and U by their initial terms
+abbrev machine : Term (ℕ × ℕ) → Transducer ℕ
+machine t = one-state t late
 
 abbrev prefix : ℕ → Pattern
 prefix q = f (var tt) (var tt)
@@ -42,7 +43,6 @@ abbrev number : ℕ × List ℕ → ℕ
 number s = getD (s .1) 0 0 - 1
 
 numbers : Indexes states number
-unfolding getElem?
 numbers = record { index = index }
   where
     index : (n : ℕ) (q : ℕ × List ℕ) → getElem? states n ≡ some q → number q ≡ n
@@ -50,14 +50,33 @@ numbers = record { index = index }
     index (suc ℕ.zero) q e = ap number (sym (Option·some-injective _ _ e))
     index (suc (suc n)) q e = conflict (cc)
 
--- initial term f(p(x), q(x)); p(a(x)) = q(a(x)) = f(p(x), q(x)), p(e) = q(e) = e
-unfoldable T′-form : Transducer ℕ
-T′-form = listed (earliestForm T′-machine prefix) states number
+-- p(a(x)) = q(a(x)) = f(p(x), q(x)), p(e) = q(e) = e; of T' the initial term is f(p(x), q(x)), of U f(f(p(x), q(x)), f(p(x), q(x)))
+unfoldable form : Term (ℕ × ℕ) → Transducer ℕ
+form t = listed (earliestForm (machine t) prefix) states number
 
-module _ (l : Leaf (inputs S)) where
+-- the call q(x) with pref(q) put in
+abbrev both : Term (ℕ × (ℕ × List ℕ))
+both = f (var (1, (0, 1 ∷ []))) (var (1, (0, 2 ∷ [])))
+
+-- it calls both states, in their order
+again : Read both states states
+again = read-node (read-more (read-call (found {n = 0} refl)) (read-more (read-call (found {n = 1} refl)) read-none))
+
+-- first met, it meets the one and then the other
+first : Read both [] states
+first = read-node (read-more (read-call (added empty)) (read-more (read-call (added unlike)) read-none))
+  where
+    empty : (n : ℕ) → getElem? {A = ℕ × List ℕ} [] n ≢ some (0, 1 ∷ [])
+    empty n e = conflict (cc)
+
+    unlike : (n : ℕ) → getElem? {A = ℕ × List ℕ} ((0, 1 ∷ []) ∷ []) n ≢ some (0, 2 ∷ [])
+    unlike ℕ.zero e = omega (arith, ap number (Option·some-injective _ _ e))
+    unlike (suc n) e = conflict (cc)
+
+module _ (l : Leaf (inputs S)) (t : Term (ℕ × ℕ)) where
   -- an address splits if e gives the symbol e there, and a(e) gives f
-  split : {v : List ℕ} → symbolAt (output T′-machine leaf 0) v ≡ some (1, 0) → symbolAt (output T′-machine chain 0) v ≡ some (0, 2) → Splits (G l) T′-machine 0 v
-  unfolding T′-machine one-state
+  split : {v : List ℕ} → symbolAt (output (machine t) leaf 0) v ≡ some (1, 0) → symbolAt (output (machine t) chain 0) v ≡ some (0, 2) → Splits (G l) (machine t) 0 v
+  unfolding one-state
   split x y = record {
     one = (1, 0);
     two = (0, 2);
@@ -66,71 +85,75 @@ module _ (l : Leaf (inputs S)) where
     differ = λ s. omega (arith, ap (λ b. b .0) s);
   }
 
-  opens-split : EachOpen (prefix 0) (Splits (G l) T′-machine 0)
-  unfolding T′-machine one-state late leaf chain bind output closed run pick symbolAt root sub count
+  opens-split : EachOpen (prefix 0) (Splits (G l) (machine t) 0)
+  unfolding one-state late leaf chain bind output closed run pick symbolAt root sub count
   opens-split = (split refl refl, (split refl refl, tt))
 
-  is-pref : IsPref (G l) T′-machine 0 (prefix 0)
-  unfolding T′-machine
-  is-pref = record { common = λ t A. rw (doubles l once once A 0) (keeps (also any (also any no-more))); splits = at-open (prefix 0) (Splits (G l) T′-machine 0) opens-split }
+  is-pref : IsPref (G l) (machine t) 0 (prefix 0)
+  is-pref = record { common = λ u A. rw (doubles l t t A 0) (keeps (also any (also any no-more))); splits = at-open (prefix 0) (Splits (G l) (machine t) 0) opens-split }
 
-  prefs : Prefs (G l) T′-machine (λ q. q < 1) prefix
+  prefs : Prefs (G l) (machine t) (λ q. q < 1) prefix
   prefs ℕ.zero h = is-pref
   prefs (suc q) h = absurd (omega arith)
 
-  -- the right-hand sides of both states call both, in their order
-  again : Read (f (var (1, (0, 1 ∷ []))) (var (1, (0, 2 ∷ [])))) states states
-  unfolding getElem?
-  again = read-node (read-more (read-call (found {n = 0} refl)) (read-more (read-call (found {n = 1} refl)) read-none))
-
-  -- the initial term meets the one and then the other
-  first : Read (f (var (1, (0, 1 ∷ []))) (var (1, (0, 2 ∷ [])))) [] states
-  unfolding getElem?
-  first = read-node (read-more (read-call (added empty)) (read-more (read-call (added unlike)) read-none))
-    where
-      empty : (n : ℕ) → getElem? {A = ℕ × List ℕ} [] n ≢ some (0, 1 ∷ [])
-      empty n e = conflict (cc)
-
-      unlike : (n : ℕ) → getElem? {A = ℕ × List ℕ} ((0, 1 ∷ []) ∷ []) n ≢ some (0, 2 ∷ [])
-      unlike ℕ.zero e = omega (arith, ap number (Option·some-injective _ _ e))
-      unlike (suc n) e = conflict (cc)
-
-  first-rhs : ReadRhs (G l) (earliestForm T′-machine prefix) (0, 1 ∷ []) states 2 states
-  unfolding T′-machine one-state late earliestForm expand opened label bind sub Option·getD alphabet childrenOf inputs
+  first-rhs : ReadRhs (G l) (earliestForm (machine t) prefix) (0, 1 ∷ []) states 2 states
+  unfolding one-state late earliestForm expand opened label bind sub alphabet childrenOf inputs
   first-rhs = read-rhs (read-rhs no-rhs refl again) refl (read-node read-none)
 
-  second-rhs : ReadRhs (G l) (earliestForm T′-machine prefix) (0, 2 ∷ []) states 2 states
-  unfolding T′-machine one-state late earliestForm expand opened label bind sub Option·getD alphabet childrenOf inputs
+  second-rhs : ReadRhs (G l) (earliestForm (machine t) prefix) (0, 2 ∷ []) states 2 states
+  unfolding one-state late earliestForm expand opened label bind sub alphabet childrenOf inputs
   second-rhs = read-rhs (read-rhs no-rhs refl again) refl (read-node read-none)
 
-  met : Discovered (G l) (earliestForm T′-machine prefix) states
-  unfolding T′-machine one-state late earliestForm expand opened label bind alphabet inputs getElem?
-  met = read-state (read-state (read-initial first) refl first-rhs) refl second-rhs
+  -- where the initial term with pref(q) put in meets both states
+  module _ (initial : Read (expand prefix t) [] states) where
+    met : Discovered (G l) (earliestForm (machine t) prefix) states
+    unfolding one-state late earliestForm alphabet inputs
+    met = read-state (read-state (read-initial initial) refl first-rhs) refl second-rhs
 
-  T′-trimmed : Trimmed (G l) T′-machine (λ q. q < 1) T′-form 2
-  unfolding T′-form
-  T′-trimmed = record { prefix = prefix; prefs = prefs; states = states; number = number; numbers = numbers; met = met; form = identical-refl _ 2 }
+    trimmed : Trimmed (G l) (machine t) (λ q. q < 1) (form t) 2
+    unfolding form
+    trimmed = record { prefix = prefix; prefs = prefs; states = states; number = number; numbers = numbers; met = met; form = identical-refl _ 2 }
 
--- ---- its file
+form-ranked : (t : Term (ℕ × ℕ)) (q a : ℕ) → q < 2 → a < 2 → Ranked (Call 2 (getD (inputs S) a 0)) (outputs S) (form t .rhs q a)
+unfolding form one-state late earliestForm expand opened label bind sub Option·elim listed renamed mapT inputs outputs Ranked count
+form-ranked t q a h = below 2 (λ q. (a : ℕ) → a < 2 → Ranked (Call 2 (getD (inputs S) a 0)) (outputs S) (form t .rhs q a)) (below 2 _ (omega arith), (below 2 _ (omega arith), tt)) q h a
+
+-- ---- T'
 abbrev pub T′-counts : List ℕ
 T′-counts = 0 ∷ 3 ∷ 0 ∷ 3 ∷ 0 ∷ 1 ∷ 0 ∷ 3 ∷ 0 ∷ 1 ∷ []
 
 abbrev pub T′-bytes : List ℕ
 T′-bytes = 0 ∷ 0 ∷ 1 ∷ 0 ∷ 1 ∷ 1 ∷ 0 ∷ 0 ∷ 1 ∷ 0 ∷ 1 ∷ 1 ∷ 0 ∷ 1 ∷ 0 ∷ 0 ∷ 1 ∷ 0 ∷ 1 ∷ 1 ∷ 0 ∷ 1 ∷ []
 
-form-ranked : (q a : ℕ) → q < 2 → a < 2 → Ranked (Call 2 (getD (inputs S) a 0)) (outputs S) (T′-form .rhs q a)
-unfolding T′-form T′-machine one-state late earliestForm expand opened label bind sub Option·getD Option·elim listed renamed mapT getElem? inputs outputs Ranked count
-form-ranked q a h = below 2 (λ q. (a : ℕ) → a < 2 → Ranked (Call 2 (getD (inputs S) a 0)) (outputs S) (T′-form .rhs q a)) (below 2 _ (omega arith), (below 2 _ (omega arith), tt)) q h a
-
-T′-encodes : Encodes (inputs S) (outputs S) 2 T′-counts T′-bytes T′-form
-unfolding T′-form T′-machine one-state late earliestForm expand opened label bind sub Option·getD Option·elim listed renamed mapT getElem? inputs outputs Ranked count flat countBytes markBytes bodyBytes each terms
+T′-encodes : Encodes (inputs S) (outputs S) 2 T′-counts T′-bytes (form once)
+unfolding form one-state late earliestForm expand opened label bind sub Option·elim listed renamed mapT inputs outputs Ranked count flat countBytes markBytes bodyBytes each terms
 T′-encodes = record {
-  over = record { initial = omega arith; rhs = form-ranked; sort = below 2 _ (refl, (refl, tt)) };
+  over = record { initial = omega arith; rhs = form-ranked once; sort = below 2 _ (refl, (refl, tt)) };
   contents = record { states = omega arith; bodies = refl; some = below 5 _ (omega arith); few = below 5 _ (omega arith); all = omega arith };
   counts-coded = refl;
   marks-coded = refl;
 }
 
 pub T′-trims : EarliestFile S T′ 2 T′-counts T′-bytes
-unfolding T′-machine
-T′-trims = record { alphabets = S-alphabets; states = 1; machine = T′-machine; sheet = T′-sheet; form = T′-form; trimmed = T′-trimmed (S-alphabets .leaf); encodes = T′-encodes }
+unfolding expand opened label bind
+T′-trims = record { alphabets = S-alphabets; states = 1; machine = machine once; sheet = T′-sheet; form = form once; trimmed = trimmed (S-alphabets .leaf) once first; encodes = T′-encodes }
+
+-- ---- U
+abbrev pub U-early-counts : List ℕ
+U-early-counts = 0 ∷ 7 ∷ 0 ∷ 3 ∷ 0 ∷ 1 ∷ 0 ∷ 3 ∷ 0 ∷ 1 ∷ []
+
+abbrev pub U-early-bytes : List ℕ
+U-early-bytes = 0 ∷ 0 ∷ 0 ∷ 0 ∷ 1 ∷ 0 ∷ 1 ∷ 1 ∷ 0 ∷ 0 ∷ 1 ∷ 0 ∷ 1 ∷ 1 ∷ 0 ∷ 0 ∷ 1 ∷ 0 ∷ 1 ∷ 1 ∷ 0 ∷ 1 ∷ 0 ∷ 0 ∷ 1 ∷ 0 ∷ 1 ∷ 1 ∷ 0 ∷ 1 ∷ []
+
+U-early-encodes : Encodes (inputs S) (outputs S) 2 U-early-counts U-early-bytes (form (f once once))
+unfolding form one-state late earliestForm expand opened label bind sub Option·elim listed renamed mapT inputs outputs Ranked count flat countBytes markBytes bodyBytes each terms
+U-early-encodes = record {
+  over = record { initial = omega arith; rhs = form-ranked (f once once); sort = below 2 _ (refl, (refl, tt)) };
+  contents = record { states = omega arith; bodies = refl; some = below 5 _ (omega arith); few = below 5 _ (omega arith); all = omega arith };
+  counts-coded = refl;
+  marks-coded = refl;
+}
+
+pub U-trims : EarliestFile S U 2 U-early-counts U-early-bytes
+unfolding expand opened label bind
+U-trims = record { alphabets = S-alphabets; states = 1; machine = machine (f once once); sheet = U-sheet; form = form (f once once); trimmed = trimmed (S-alphabets .leaf) (f once once) (read-node (read-more first (read-more again read-none))); encodes = U-early-encodes }

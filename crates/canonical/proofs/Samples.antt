@@ -21,7 +21,7 @@ use Rattle.theory.proofs.Terms.{conflict}
 use Rattle.formats.specs.Alphabets.{inputs, outputs, Leaf}
 use Rattle.formats.specs.Code.{Ranked, flat, Call}
 use Rattle.formats.specs.Sheet.{Encodes, Sheet, countBytes, markBytes, bodyBytes, each, terms}
-use Rattle.transducer.proofs.Table.{S, T, S-alphabets, T-machine, T-sheet, twice, line, below}
+use Rattle.transducer.proofs.Samples.{S, T, S-alphabets, T-machine, T-sheet, twice, line, below, leaf, chain}
 use Rattle.prefixes.specs.Alphabet.{alphabet, childrenOf}
 use Rattle.canonical.specs.Answers.{NormalFile}
 use Rattle.canonical.proofs.Normalizing.{encoded-wf}
@@ -67,13 +67,6 @@ one-state t r = record { sort = λ q. 0; initial = t; rhs = λ q a. r a }
 -- f(s, t)
 abbrev pub f : {A : Type 0} → Term A → Term A → Term A
 f s t = node 0 (more s (more t none))
-
--- the input trees e and a(e)
-unfoldable pub leaf : Tree
-leaf = node 1 none
-
-unfoldable pub chain : Tree
-chain = node 0 (more leaf none)
 
 module _ (l : Leaf (inputs S)) where
   abbrev pub G : Grammar
@@ -160,7 +153,7 @@ T′-sheet = record {
   };
 }
 
-U-sheet : Sheet (inputs S) (outputs S) U 1 (one-state (f once once) late)
+pub U-sheet : Sheet (inputs S) (outputs S) U 1 (one-state (f once once) late)
 unfolding one-state late inputs outputs Ranked count flat countBytes markBytes bodyBytes each terms
 U-sheet = record {
   counts = 0 ∷ 3 ∷ 0 ∷ 3 ∷ 0 ∷ 3 ∷ [];

@@ -53,6 +53,22 @@ module _ {rs : List Record} {i at : ℕ} (P : Passed rs i at) where
   pub all-passed : {held used : ℕ} → i ≡ suc held → used ≡ at → Follow held used rs
   all-passed {held} h u = record { starts = λ k g. P .starts k (omega arith); sum = u ∙ P .sum ∙ ap (total rs) h }
 
+-- records that are alike up to n pass alike
+total-same : (rs rs′ : List Record) (n : ℕ) → ((i : ℕ) → i < n → recordAt rs′ i ≡ recordAt rs i) → total rs′ n ≡ total rs n
+unfolding total
+total-same rs rs′ zero f = refl
+total-same rs rs′ (suc n) f = ap₂ _+_ (total-same rs rs′ n (λ i h. f i (omega arith))) (ap (λ w. w .size) (f n (omega arith)))
+
+pub passed-same : {rs rs′ : List Record} {n at : ℕ} → ((i : ℕ) → i < n → recordAt rs′ i ≡ recordAt rs i) → Passed rs n at → Passed rs′ n at
+passed-same {rs} {rs′} {n} f P = record {
+  starts = λ i h. ap (λ w. w .start) (f i h) ∙ P .starts i h ∙ sym (total-same rs rs′ i (λ k g. f k (omega arith)));
+  sum = P .sum ∙ sym (total-same rs rs′ n f);
+}
+
+-- bodies that follow one another are passed
+pub follow-passed : {held used : ℕ} {rs : List Record} → Follow held used rs → Passed rs (suc held) used
+follow-passed F = record { starts = λ i h. F .starts i (omega arith); sum = F .sum }
+
 -- where a body ends
 module _ {held used : ℕ} {rs : List Record} (F : Follow held used rs) where
   pub body-end : (i : ℕ) → i ≤ held → recordAt rs i .start + recordAt rs i .size ≤ used

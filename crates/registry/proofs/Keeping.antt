@@ -79,17 +79,20 @@ bodyOf b n = body (b .records) (b .area) n
 
 -- ---- an added body
 module _ {h : Head} {rs : List Record} {area x : List ℕ} {n : ℕ} {h′ : Head} {rs′ : List Record} {area′ : List ℕ} (C : Chained h rs area) (A : Added h rs area x n h′ rs′ area′) where
-  added-stays : (m : ℕ) → m ≤ h .held → body rs′ area′ m ≡ body rs area m
+  -- the other records stay, and the new one tells where x stands
+  pub added-other : (m : ℕ) → m ≢ n → recordAt rs′ m ≡ recordAt rs m
+  added-other m o = ap (λ w. recordAt w m) (A .records) ∙ getD-set-other rs n m (record { start = h .used; size = length x }) noRecord o
+
+  pub added-record : recordAt rs′ n ≡ record { start = h .used; size = length x }
+  added-record = ap (λ w. recordAt w n) (A .records) ∙ getD-set-same rs n (record { start = h .used; size = length x }) noRecord (omega (arith, A .next, A .room .few, C .many))
+
+  pub added-stays : (m : ℕ) → m ≤ h .held → body rs′ area′ m ≡ body rs area m
   added-stays m g =
-      let o : m ≢ n = λ e. omega (arith, A .next) in
-      let e : recordAt rs′ m ≡ recordAt rs m = ap (λ w. recordAt w m) (A .records) ∙ getD-set-other rs n m (record { start = h .used; size = length x }) noRecord o in
-      ap₂ (λ (w : Record) (l : List ℕ). take (w .size) (drop (w .start) l)) e (A .bodies)
+      ap₂ (λ (w : Record) (l : List ℕ). take (w .size) (drop (w .start) l)) (added-other m (λ e. omega (arith, A .next))) (A .bodies)
       ∙ before-stays area x (h .used) (A .room .fits) (recordAt rs m .start) (recordAt rs m .size) (body-end (C .follow) m g)
 
-  added-there : body rs′ area′ n ≡ x
-  added-there =
-      let e : recordAt rs′ n ≡ record { start = h .used; size = length x } = ap (λ w. recordAt w n) (A .records) ∙ getD-set-same rs n (record { start = h .used; size = length x }) noRecord (omega (arith, A .next, A .room .few, C .many)) in
-      ap₂ (λ (w : Record) (l : List ℕ). take (w .size) (drop (w .start) l)) e (A .bodies) ∙ put-there area x (h .used) (A .room .fits)
+  pub added-there : body rs′ area′ n ≡ x
+  added-there = ap₂ (λ (w : Record) (l : List ℕ). take (w .size) (drop (w .start) l)) added-record (A .bodies) ∙ put-there area x (h .used) (A .room .fits)
 
 -- ---- bodies stay, and there are never fewer
 pub stays-refl : {b : Book} → Stays b b

@@ -6,6 +6,7 @@ use mathlib.Core.List.{List, [], _∷_, List·Memᴰ, List·Memᴰ·head, List·
 use mathlib.Core.Logic.{_↔_, ⊎-elim}
 use mathlib.Core.Option.{some, Option, none as nothing}
 use mathlib.Core.Path.{_≡_, refl, sym, ap, ap₂, subst, _∙_}
+use lib.ListN.{length}
 use Rattle.theory.specs.Registry.{Entry, accepted, refused, History, begun, entered, Keeps}
 use Rattle.theory.proofs.Registry.{numbers-exact}
 use Rattle.theory.proofs.Terms.{conflict}
@@ -21,11 +22,8 @@ use Rattle.registry.proofs.Keeping.{answered-by, bodyOf, stays-refl, st
 
 -- ---- an accepted making
 module _ {stock : List ℕ} {b : Book} (M : MadeWith stock b) where
-  made-held : b .head .held ≡ 0
-  made-held = ap (λ w. w .held) (accepted-holds (M .call) .1 .head)
-
-  made-answered : b .head .answered ≡ 0
-  made-answered = ap (λ w. w .answered) (accepted-holds (M .call) .1 .head)
+  pub made-head : b .head ≡ record { held = 0; used = length stock; answered = 0 }
+  made-head = accepted-holds (M .call) .1 .head
 
   made-stock : bodyOf b 0 ≡ stock
   unfolding Holds
@@ -58,7 +56,7 @@ module _ {stock : List ℕ} where
   -- the count is that of the entries accepted
   pub counted : {log : List (List ℕ × Option ℕ)} {b : Book} → Entries stock log b → b .head .answered ≡ acceptances log
   unfolding acceptances
-  counted (begun M) = made-answered M
+  counted (begun M) = ap (λ w. w .answered) (made-head M)
   counted (entered {log} {t} h E) =
       ⊎-elim
       (λ U. ap (λ w. w .answered) (U .head) ∙ counted h ∙ ap (λ o. acceptances ((t, o) ∷ log)) (sym (U .answer)))
@@ -153,7 +151,7 @@ module _ {stock : List ℕ} where
 
   keeps : Keeps (MadeWith stock) (Step stock) itemsOf (Item stock)
   unfolding items
-  keeps = record { empty = λ b M. ap (items (b .records) (b .area) 1) (made-held M); entry = step-entry }
+  keeps = record { empty = λ b M. ap (λ w. items (b .records) (b .area) 1 (w .held)) (made-head M); entry = step-entry }
 
   -- clean files are equal exactly if the transducers are alike
   alike-exact : (s s′ x x′ : List ℕ) → CleanFile stock s x → CleanFile stock s′ x′ → SewAlike stock s s′ ↔ (x ≡ x′)

@@ -1,10 +1,10 @@
--- The samples of document 01 that need the normal forms of one transducer, as rows of one table, and that each row is so.
+-- A sample of document 01: the transducer M over the alphabets `pairs`, its file, and its common prefix.
 -- Assumes nothing.
 use Prim.Native.Nat.{ℕ, suc, _<_}
 use native.Mathlib.Omega.{arith}
-use mathlib.Core.List.{List, List·Memᴰ, List·Memᴰ·head, List·Memᴰ·tail, [], _∷_}
+use mathlib.Core.List.{List, [], _∷_}
 use mathlib.Core.Option.{some}
-use mathlib.Core.Path.{_≡_, refl, sym, ap, subst}
+use mathlib.Core.Path.{_≡_, refl, ap}
 use lib.ListN.{getD}
 use Rattle.theory.specs.Earliest.{Splits}
 use Rattle.theory.specs.Grammar.{Grammar, Allowed, rule, AllAllowed, end, next}
@@ -16,19 +16,10 @@ use Rattle.theory.proofs.Terms.{conflict, subs-zero}
 use Rattle.formats.specs.Alphabets.{inputs, outputs, Leaf}
 use Rattle.formats.specs.Code.{Ranked, flat, Call}
 use Rattle.formats.specs.Sheet.{Sheet, countBytes, markBytes, bodyBytes, each, terms}
-use Rattle.transducer.proofs.Table.{below}
+use Rattle.transducer.proofs.Samples.{below, leaf}
 use Rattle.prefixes.specs.Alphabet.{alphabet, childrenOf}
 
--- ---- what a row says
-pub data Row : Type 0 where
-  -- pref(q) of this state of the transducer of the sheet is the pattern (01: its head)
-  prefix : (stock sheet : List ℕ) (state : ℕ) (pattern : Pattern) → Row
-
--- what a row claims, by the definitions that the promises are made of
-abbrev pub Says : Row → Type 0
-Says (prefix stock sheet state pattern) = (n : ℕ) × ((M : Transducer ℕ) × (Sheet (inputs stock) (outputs stock) sheet n M × (state < n) × ((l : Leaf (inputs stock)) → IsPref (alphabet (inputs stock) l) M state pattern)))
-
--- ---- the files and the rows
+-- ---- the files
 -- two input symbols, a with two children and the leaf e; two output symbols, d with two children and the leaf e
 abbrev pub pairs : List ℕ
 pairs = 2 ∷ 2 ∷ 0 ∷ 2 ∷ 2 ∷ 0 ∷ []
@@ -47,9 +38,6 @@ e = node 1 none
 -- pref(q) is d(d(⊤, ⊤), d(⊤, e))
 abbrev pub M-pref : Pattern
 M-pref = d (d (var tt) (var tt)) (d (var tt) e)
-
-abbrev pub rows : List Row
-rows = prefix pairs M 0 M-pref ∷ []
 
 -- ---- P holds of each address where the pattern has ⊤: so of whatever address is open
 abbrev mutual
@@ -113,10 +101,7 @@ shaped = keeps (also (keeps (also any (also any no-more))) (also (keeps (also an
 again : {t : Tree} → Prefix M-pref t → Prefix M-pref (d t (d t e))
 again (keeps (also x (also y no-more))) = shaped
 
--- the input trees e and a(e, e)
-leaf : Tree
-leaf = node 1 none
-
+-- the input tree a(e, e)
 pair : Tree
 pair = node 0 (more leaf (more leaf none))
 
@@ -162,19 +147,3 @@ module _ (l : Leaf (inputs pairs)) where
 
   pub M-is-pref : IsPref G M-machine 0 M-pref
   M-is-pref = record { common = λ t A. begins A; splits = at-open M-pref (Splits G M-machine 0) opens-split }
-
--- ---- every row
-abbrev All : List Row → Type 0
-All [] = Unit {0}
-All (row ∷ rs) = Says row × All rs
-
-listed : {rs : List Row} {row : Row} → All rs → List·Memᴰ row rs → Says row
-listed w (List·Memᴰ·head x) = subst Says (sym x) (w .0)
-listed w (List·Memᴰ·tail m) = listed (w .1) m
-
-all-rows : All rows
-all-rows = ((1, (M-machine, (M-sheet, omega arith, M-is-pref))), tt)
-
--- each row of the table is so
-pub table : (row : Row) → List·Memᴰ row rows → Says row
-table row m = listed all-rows m

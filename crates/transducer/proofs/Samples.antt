@@ -1,9 +1,9 @@
--- The samples of document 01 that need one transducer, as rows of one table, and that each row is so. What the entry points then answer is in Laws.
+-- Samples of document 01: the alphabets S and the transducer T, its file, its outputs, and that it is not linear. What the entry points then answer is in Laws.
 -- Assumes nothing.
 use Prim.Native.Nat.{ℕ, suc, _≤_, _<_}
 use native.Mathlib.Omega.{arith}
-use mathlib.Core.List.{List, List·Memᴰ, List·Memᴰ·head, List·Memᴰ·tail, [], _∷_}
-use mathlib.Core.Path.{_≡_, refl, sym, subst}
+use mathlib.Core.List.{List, [], _∷_}
+use mathlib.Core.Path.{_≡_, refl}
 use lib.ListN.{length, getD}
 use Rattle.theory.specs.Size.{size, levels}
 use Rattle.theory.specs.Term.{Term, var, node, none, more, Tree, bind, count}
@@ -15,25 +15,7 @@ use Rattle.formats.specs.Tree.{InputTree}
 use Rattle.transducer.specs.Linear.{Linear, calls}
 use Rattle.transducer.specs.Output.{Output}
 
--- ---- what a row says
-pub data Row : Type 0 where
-  -- the file is one of alphabets
-  alphabets : (stock : List ℕ) → Row
-  -- the transducer of the sheet gives this plan on the design
-  translates : (stock sheet design plan : List ℕ) → Row
-  -- what it gives fits an area of k bytes
-  fits : (stock sheet design : List ℕ) (k : ℕ) → Row
-  -- the transducer of the sheet is not linear (01: single)
-  not-linear : (stock sheet : List ℕ) → Row
-
--- what a row claims, by the definitions that the promises are made of
-abbrev pub Says : Row → Type 0
-Says (alphabets stock) = Alphabets stock
-Says (translates stock sheet design plan) = (t : Tree) × (Output stock sheet design t × (code t ≡ plan))
-Says (fits stock sheet design k) = (t : Tree) × (Output stock sheet design t × (size t ≤ k))
-Says (not-linear stock sheet) = (n : ℕ) × ((M : Transducer ℕ) × (Sheet (inputs stock) (outputs stock) sheet n M × (Linear (length (inputs stock)) n M → ⊥)))
-
--- ---- the files and the rows
+-- ---- the files
 -- two input symbols, a with one child and the leaf e; two output symbols, f with two children and the leaf e
 abbrev pub S : List ℕ
 S = 2 ∷ 1 ∷ 0 ∷ 2 ∷ 2 ∷ 0 ∷ []
@@ -41,15 +23,6 @@ S = 2 ∷ 1 ∷ 0 ∷ 2 ∷ 2 ∷ 0 ∷ []
 -- initial term f(q(x), q(x)); q(a(x)) = f(q(x), q(x)), q(e) = e
 abbrev pub T : List ℕ
 T = 1 ∷ 0 ∷ 3 ∷ 0 ∷ 3 ∷ 0 ∷ 1 ∷ 0 ∷ 0 ∷ 1 ∷ 0 ∷ 1 ∷ 0 ∷ 0 ∷ 0 ∷ 1 ∷ 0 ∷ 1 ∷ 0 ∷ 0 ∷ 1 ∷ []
-
-abbrev pub rows : List Row
-rows =
-    alphabets S
-    ∷ translates S T (1 ∷ []) (0 ∷ 1 ∷ 1 ∷ [])
-    ∷ translates S T (0 ∷ 1 ∷ []) (0 ∷ 0 ∷ 1 ∷ 1 ∷ 0 ∷ 1 ∷ 1 ∷ [])
-    ∷ fits S T (0 ∷ 1 ∷ []) 7
-    ∷ not-linear S T
-    ∷ []
 
 -- ---- P holds of 0, of 1, .. and of n - 1: so of each number below n
 abbrev pub Each : ℕ → (ℕ → Type 0) → Type 0
@@ -104,54 +77,38 @@ T-sheet = record {
 }
 
 -- its initial term calls child 1 twice
-T-not-linear : Linear (length (inputs S)) 1 T-machine → ⊥
+pub T-not-linear : Linear (length (inputs S)) 1 T-machine → ⊥
 unfolding T-machine twice calls
 T-not-linear L = omega (arith, L .initial 1)
 
 -- ---- its outputs
 -- e
-leaf : Tree
+unfoldable pub leaf : Tree
 leaf = node 1 none
 
 -- a(e)
-chain : Tree
+unfoldable pub chain : Tree
 chain = node 0 (more leaf none)
 
-leaf-design : InputTree (inputs S) (1 ∷ []) leaf
+pub leaf-design : InputTree (inputs S) (1 ∷ []) leaf
 unfolding leaf inputs Ranked count flat size levels
 leaf-design = record { ranked = omega arith; coded = refl; small = omega arith; flat = omega arith }
 
-chain-design : InputTree (inputs S) (0 ∷ 1 ∷ []) chain
+pub chain-design : InputTree (inputs S) (0 ∷ 1 ∷ []) chain
 unfolding chain leaf inputs Ranked count flat size levels
 chain-design = record { ranked = omega arith; coded = refl; small = omega arith; flat = omega arith }
 
-T-output : {design : List ℕ} {d : Tree} → InputTree (inputs S) design d → Output S T design (translate T-machine d)
+pub T-output : {design : List ℕ} {d : Tree} → InputTree (inputs S) design d → Output S T design (translate T-machine d)
 T-output {d = d} D = record { states = 1; machine = T-machine; input = d; is-sheet = T-sheet; is-tree = D; given = refl }
 
-on-leaf : code (translate T-machine leaf) ≡ 0 ∷ 1 ∷ 1 ∷ []
+pub on-leaf : code (translate T-machine leaf) ≡ 0 ∷ 1 ∷ 1 ∷ []
 unfolding T-machine twice line leaf bind translate output closed run pick flat
 on-leaf = refl
 
-on-chain : code (translate T-machine chain) ≡ 0 ∷ 0 ∷ 1 ∷ 1 ∷ 0 ∷ 1 ∷ 1 ∷ []
+pub on-chain : code (translate T-machine chain) ≡ 0 ∷ 0 ∷ 1 ∷ 1 ∷ 0 ∷ 1 ∷ 1 ∷ []
 unfolding T-machine twice line leaf chain bind translate output closed run pick flat
 on-chain = refl
 
-room-chain : size (translate T-machine chain) ≤ 7
+pub room-chain : size (translate T-machine chain) ≤ 7
 unfolding T-machine twice line leaf chain bind translate output closed run pick size
 room-chain = omega arith
-
--- ---- every row
-abbrev All : List Row → Type 0
-All [] = Unit {0}
-All (row ∷ rs) = Says row × All rs
-
-listed : {rs : List Row} {row : Row} → All rs → List·Memᴰ row rs → Says row
-listed w (List·Memᴰ·head e) = subst Says (sym e) (w .0)
-listed w (List·Memᴰ·tail m) = listed (w .1) m
-
-all-rows : All rows
-all-rows = (S-alphabets, ((_, (T-output leaf-design, on-leaf)), ((_, (T-output chain-design, on-chain)), ((_, (T-output chain-design, room-chain)), ((1, (T-machine, (T-sheet, T-not-linear))), tt)))))
-
--- each row of the table is so
-pub table : (row : Row) → List·Memᴰ row rows → Says row
-table row m = listed all-rows m

@@ -1,0 +1,182 @@
+-- What a making and any entries leave is a registry again, as long as one more answer can be counted; and what an entry answers whose clean file is known and has a place.
+-- Assumes nothing.
+use Prim.Native.Nat.{ℕ, zero, suc, _+_, _≤_, _<_}
+use native.Mathlib.Omega.{arith, by-contra}
+use mathlib.Core.List.{List, _∷_, _++_}
+use mathlib.Core.Logic.{inl, inr, ⊎-elim}
+use mathlib.Core.Option.{some, Option}
+use mathlib.Core.Path.{_≡_, refl, sym, ap, subst, _∙_}
+use lib.ListN.{length, set, drop, replicate, length-append, length-replicate, length-set, getD-replicate, List·getD-append}
+use lib.Seq.{sets, length-sets}
+use Rattle.theory.specs.Registry.{begun, entered}
+use Rattle.theory.proofs.Terms.{conflict}
+use Rattle.formats.specs.Alphabets.{Alphabets}
+use Rattle.formats.specs.Refusal.{accepted, done, Holds}
+use Rattle.formats.specs.Sheet.{file, sheetCheck}
+use Rattle.formats.proofs.Judging.{pass, accept, accepted-holds, must-accept}
+use Rattle.formats.proofs.Sheets.{sheet-counted}
+use Rattle.earliest.specs.Answers.{EarliestFile, formCheck}
+use Rattle.canonical.specs.Answers.{NormalFile}
+use Rattle.registry.specs.Answers.{CleanFile, Lowest, NotHeld, Room, HasPlace, Known, Added, Gives, numberOf}
+use Rattle.registry.specs.Book.{noRecord, recordAt, body, Follow, Unused, Chained}
+use Rattle.registry.specs.Calls.{Book, MadeWith, EntersFile, Entries, answerOf}
+use Rattle.registry.specs.declared.book.Entered.{Entered}
+use Rattle.registry.specs.declared.book.Entered.the-variants.{Number, Refused}
+use Rattle.registry.specs.declared.book.Head.{Head}
+use Rattle.registry.specs.declared.book.Record.{Record}
+use Rattle.registry.proofs.Chains.{Passed, passed-none, passed-more, passed-same, all-passed, follow-passed}
+use Rattle.registry.proofs.Entering.{clean-unique}
+use Rattle.registry.proofs.Keeping.{Accepted, answered-by, bodyOf, added-other, added-record, added-stays}
+use Rattle.registry.proofs.Laws.{stock-stays}
+
+-- ---- a making
+-- the records that it leaves: one, and 32 that are unused
+abbrev fresh : Record → List Record → List Record
+fresh r rs = r ∷ (replicate 32 noRecord ++ rs)
+
+module _ (r : Record) (rs : List Record) where
+  fresh-many : 33 ≤ length (fresh r rs)
+  fresh-many = omega (arith, length-append (replicate 32 noRecord) rs, length-replicate 32 noRecord)
+
+  fresh-unused : Unused 0 (fresh r rs)
+  fresh-unused = record { none = go }
+    where
+      go : (i : ℕ) → 0 < i → i < 33 → recordAt (fresh r rs) i ≡ noRecord
+      go zero h g = absurd (omega arith)
+      go (suc i) h g = List·getD-append (replicate 32 noRecord) rs noRecord i (omega (arith, length-replicate 32 noRecord)) ∙ getD-replicate 32 i noRecord noRecord (omega arith)
+
+  fresh-follow : r .start ≡ 0 → Follow 0 (r .size) (fresh r rs)
+  fresh-follow e = all-passed (passed-more passed-none refl e) refl (omega arith)
+
+chained-same : {h h′ : Head} {rs rs′ : List Record} {area area′ : List ℕ} → h′ ≡ h → rs′ ≡ rs → area′ ≡ area → Chained h rs area → Chained h′ rs′ area′
+chained-same {h} {h′} {rs} {rs′} {area} {area′} e f g C = subst (λ w. Chained w rs′ area′) (sym e) (subst (λ w. Chained h w area′) (sym f) (subst (λ w. Chained h rs w) (sym g) C))
+
+made-chained : {stock : List ℕ} {b : Book} → MadeWith stock b → bodyOf b 0 ≡ stock → Chained (b .head) (b .records) (b .area)
+unfolding Holds
+made-chained {stock} {b} M e =
+    let w = accepted-holds (M .call) in
+    let B = w .1 in
+    let r : Record = record { start = 0; size = length stock } in
+    let rs = drop 33 (M .before .records) in
+    chained-same (B .head) (B .records) refl (record {
+      many = fresh-many r rs;
+      few = omega arith;
+      follow = fresh-follow r rs refl;
+      inside = omega (arith, w .0 .1 .1 .0, ap length (B .bodies), length-sets (M .before .area) 0 stock);
+      unused = fresh-unused r rs;
+      stock = subst Alphabets (sym (ap (λ v. body v (b .area) 0) (sym (B .records)) ∙ e)) (w .0 .1 .0);
+      countable = omega arith;
+    })
+
+-- ---- an entry
+module _ {h : Head} {rs : List Record} {area x : List ℕ} {n : ℕ} {h′ : Head} {rs′ : List Record} {area′ : List ℕ} (C : Chained h rs area) where
+  known-chained : Known h rs area x n h′ rs′ area′ → h′ .answered < 18446744073709551615 → Chained h′ rs′ area′
+  known-chained K g = chained-same (K .head) (K .records) (K .bodies) (record { many = C .many; few = C .few; follow = C .follow; inside = C .inside; unused = C .unused; stock = C .stock; countable = omega (arith, ap (λ w. w .answered) (K .head)) })
+
+  module _ (A : Added h rs area x n h′ rs′ area′) where
+    added-follow : Follow (h .held + 1) (h .used + length x) rs′
+    added-follow =
+        let P : Passed rs′ (suc (h .held)) (h .used) = passed-same (λ i g. added-other C A i (λ e. omega (arith, A .next))) (follow-passed (C .follow)) in
+        let z : suc (h .held) ≡ n = omega (arith, A .next) in
+        all-passed (passed-more P (sym (ap (recordAt rs′) z ∙ added-record C A)) refl) (omega arith) refl
+
+    added-unused : Unused (h .held + 1) rs′
+    added-unused = record { none = λ i g l. added-other C A i (λ e. omega (arith, A .next)) ∙ C .unused .none i (omega arith) l }
+
+    added-chained : h′ .answered < 18446744073709551615 → Chained h′ rs′ area′
+    added-chained g = chained-same (A .head) refl refl (record {
+      many = omega (arith, C .many, ap length (A .records), length-set rs n (record { start = h .used; size = length x }));
+      few = omega (arith, A .room .few);
+      follow = added-follow;
+      inside = omega (arith, A .room .fits, ap length (A .bodies), length-sets area (h .used) x);
+      unused = added-unused;
+      stock = subst Alphabets (sym (added-stays C A 0 (omega arith))) (C .stock);
+      countable = omega (arith, ap (λ w. w .answered) (A .head));
+    })
+
+gives-area : {h : Head} {rs : List Record} {area x : List ℕ} {n : ℕ} {h′ : Head} {rs′ : List Record} {area′ : List ℕ} → Gives h rs area x n h′ rs′ area′ → length area′ ≡ length area
+gives-area (inl K) = ap length (K .bodies)
+gives-area {h} {area = area} {x = x} (inr A) = ap length (A .bodies) ∙ length-sets area (h .used) x
+
+module _ {b : Book} {s : List ℕ} {a : Option ℕ} {b′ : Book} where
+  -- the area keeps its length
+  pub area-kept : EntersFile b s a b′ → length (b′ .area) ≡ length (b .area)
+  area-kept E = ⊎-elim (λ U. ap length (U .bodies)) (λ A. gives-area (A .gives)) (answered-by E)
+
+  accepted-chained : Accepted b s a b′ → b′ .head .answered < 18446744073709551615 → Chained (b′ .head) (b′ .records) (b′ .area)
+  accepted-chained A g = ⊎-elim (λ K. known-chained (A .chained) K g) (λ N. added-chained (A .chained) N g) (A .gives)
+
+-- What a making and any entries leave is a registry, until no more answer can be counted: no entry before is refused by 9.
+pub still-chained : {stock : List ℕ} {log : List (List ℕ × Option ℕ)} {b : Book} → Entries stock log b → b .head .answered < 18446744073709551615 → Chained (b .head) (b .records) (b .area)
+still-chained (begun M) g = made-chained M (stock-stays (begun M))
+still-chained (entered h E) g = ⊎-elim (λ U. chained-same (U .head) (U .records) (U .bodies) (still-chained h (omega (arith, ap (λ w. w .answered) (U .head))))) (λ A. accepted-chained A g) (answered-by E)
+
+-- ---- an entry whose clean file is known
+-- the file s is accepted for cleaning under the alphabets, and x is its clean file
+pub record CleansTo (stock s x : List ℕ) : Type 0 where
+  pub checks : Holds (sheetCheck stock s (formCheck stock s done))
+  pub clean : CleanFile stock s x
+
+-- a file with a normal form and an earliest form within the limits is accepted
+pub cleans-to : {stock s x : List ℕ} {k : ℕ} {counts bytes : List ℕ} → NormalFile stock s k counts bytes → file k counts bytes ≡ x → (j : ℕ) × ((c : List ℕ) × ((m : List ℕ) × EarliestFile stock s j c m)) → CleansTo stock s x
+unfolding Holds
+cleans-to {k} {counts} {bytes} F e E = record { checks = (sheet-counted (F .sheet), ((F .states, (F .machine, F .sheet)), (E, tt))); clean = record { states = k; counts = counts; bytes = bytes; normal = F; coded = sym e } }
+
+told : (r : Entered) {a : Option ℕ} {n : ℕ} → answerOf r ≡ a → numberOf r ≡ accepted n → a ≡ some n
+told (Number m) {n = n} e f = let z : m ≡ n = cc in sym e ∙ ap (λ k. some k) z
+told (Refused q) e f = conflict (cc)
+
+lowest-unique : {held : ℕ} {rs : List Record} {area x : List ℕ} {m n : ℕ} → Lowest held rs area x m → Lowest held rs area x n → m ≡ n
+lowest-unique {m = m} {n = n} L K = omega (arith, by-contra m n (λ g. L .first n (K .low) g (K .there)), by-contra n m (λ g. K .first m (L .low) g (L .there)))
+
+module _ {stock : List ℕ} {b : Book} {s x : List ℕ} {a : Option ℕ} {b′ : Book} (C : Chained (b .head) (b .records) (b .area)) (same : bodyOf b 0 ≡ stock) (k : CleansTo stock s x) (E : EntersFile b s a b′) where
+  -- it gets a number, if it is held or there is room for it
+  placed : HasPlace (b .head) (b .records) (b .area) x → (n : ℕ) × ((a ≡ some n) × Gives (b .head) (b .records) (b .area) x n (b′ .head) (b′ .records) (b′ .area))
+  unfolding Holds
+  placed p =
+      let k′ = subst (λ t. CleansTo t s x) (sym same) k in
+      let (n, (e, (y, (c, g)))) = must-accept (C, (k′ .checks .0, (k′ .checks .1 .0, (k′ .checks .1 .1 .0, ((x, (k′ .clean, p)), tt))))) (E .call) in
+      (n, (told (E .answer) (E .told) e, rw (clean-unique c (k′ .clean)) at g))
+
+  -- it is held: its number is answered
+  pub entered-known : {n : ℕ} → Lowest (b .head .held) (b .records) (b .area) x n → (a ≡ some n) × Known (b .head) (b .records) (b .area) x n (b′ .head) (b′ .records) (b′ .area)
+  entered-known {n} L = go (placed (inl (n, L)))
+    where
+      go : (m : ℕ) × ((a ≡ some m) × Gives (b .head) (b .records) (b .area) x m (b′ .head) (b′ .records) (b′ .area)) → (a ≡ some n) × Known (b .head) (b .records) (b .area) x n (b′ .head) (b′ .records) (b′ .area)
+      go (m, (e, inl K)) = let z = lowest-unique (K .lowest) L in (rw z at e, rw z at K)
+      go (m, (e, inr A)) = absurd (A .new .none n (L .low) (L .high) (L .there))
+
+  -- it is not, and there is room: it is added
+  pub entered-new : NotHeld (b .head .held) (b .records) (b .area) x → Room (b .head) (b .area) x → (a ≡ some (b .head .held + 1)) × Added (b .head) (b .records) (b .area) x (b .head .held + 1) (b′ .head) (b′ .records) (b′ .area)
+  entered-new N R = go (placed (inr R))
+    where
+      go : (m : ℕ) × ((a ≡ some m) × Gives (b .head) (b .records) (b .area) x m (b′ .head) (b′ .records) (b′ .area)) → (a ≡ some (b .head .held + 1)) × Added (b .head) (b .records) (b .area) x (b .head .held + 1) (b′ .head) (b′ .records) (b′ .area)
+      go (m, (e, inl K)) = absurd (N .none m (K .lowest .low) (K .lowest .high) (K .lowest .there))
+      go (m, (e, inr A)) = (rw (A .next) at e, rw (A .next) at A)
+
+-- ---- there are such calls
+pub makes : {stock : List ℕ} (room : ℕ) → Alphabets stock → length stock ≤ room → (b : Book) × (MadeWith stock b × (length (b .area) ≡ room))
+makes {stock} room A h =
+    let before : Book = record { head = record { held = 0; used = 0; answered = 0 }; records = replicate 33 noRecord; area = replicate room 0 } in
+    let z : length (before .area) ≡ room = length-replicate room 0 in
+    let b : Book = record { head = record { held = 0; used = length stock; answered = 0 }; records = fresh (record { start = 0; size = length stock }) (drop 33 (before .records)); area = sets (before .area) 0 stock } in
+    (b, (record { before = before; call = pass (omega (arith, length-replicate 33 noRecord)) (pass A (pass (omega arith) (accept (record { head = refl; records = refl; bodies = refl })))) }, length-sets (before .area) 0 stock ∙ z))
+
+module _ {stock : List ℕ} {b : Book} {s x : List ℕ} (C : Chained (b .head) (b .records) (b .area)) (same : bodyOf b 0 ≡ stock) (k : CleansTo stock s x) where
+  -- an answer n that leaves b′, as one of the two ways to give a number says
+  gave : (n : ℕ) (b′ : Book) → HasPlace (b .head) (b .records) (b .area) x → Gives (b .head) (b .records) (b .area) x n (b′ .head) (b′ .records) (b′ .area) → EntersFile b s (some n) b′
+  unfolding Holds
+  gave n b′ p g =
+      let k′ = subst (λ t. CleansTo t s x) (sym same) k in
+      record { answer = Number n; call = pass C (pass (k′ .checks .0) (pass (k′ .checks .1 .0) (pass (k′ .checks .1 .1 .0) (pass (x, (k′ .clean, p)) (accept (x, (k′ .clean, g))))))); told = refl }
+
+  pub enters-known : {n : ℕ} → Lowest (b .head .held) (b .records) (b .area) x n → (b′ : Book) × EntersFile b s (some n) b′
+  enters-known {n} L =
+      let b′ : Book = record { head = record { held = b .head .held; used = b .head .used; answered = b .head .answered + 1 }; records = b .records; area = b .area } in
+      (b′, gave n b′ (inl (n, L)) (inl (record { lowest = L; head = refl; records = refl; bodies = refl })))
+
+  pub enters-new : NotHeld (b .head .held) (b .records) (b .area) x → Room (b .head) (b .area) x → (b′ : Book) × EntersFile b s (some (b .head .held + 1)) b′
+  enters-new N R =
+      let n = b .head .held + 1 in
+      let b′ : Book = record { head = record { held = n; used = b .head .used + length x; answered = b .head .answered + 1 }; records = set (b .records) n (record { start = b .head .used; size = length x }); area = sets (b .area) (b .head .used) x } in
+      (b′, gave n b′ (inr R) (inr (record { new = N; room = R; next = refl; head = refl; records = refl; bodies = refl })))

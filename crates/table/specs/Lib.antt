@@ -1,0 +1,2 @@
+-- Table: what the starred samples of document 01 say, row by row.
+pub mod Table

@@ -1,0 +1,106 @@
+-- The starred samples of document 01 as rows of one table: what a row may say, what that comes to by the definitions that the promises are made of, and the rows.
+use Prim.Native.Nat.{ℕ, _*_, _≤_, _<_}
+use mathlib.Core.List.{List, [], _∷_, map}
+use mathlib.Core.Option.{Option, some}
+use mathlib.Core.Path.{_≡_}
+use lib.ListN.{length}
+use Rattle.theory.specs.Pref.{IsPref}
+use Rattle.theory.specs.Prefix.{Pattern}
+use Rattle.theory.specs.Size.{size}
+use Rattle.theory.specs.Term.{Tree}
+use Rattle.theory.specs.Transducer.{Transducer}
+use Rattle.formats.specs.Alphabets.{Alphabets, Leaf, inputs, outputs}
+use Rattle.formats.specs.Code.{code}
+use Rattle.formats.specs.Sheet.{Sheet, file}
+use Rattle.transducer.specs.Linear.{Linear}
+use Rattle.transducer.specs.Output.{Output}
+use Rattle.transducer.proofs.Samples.{S, T}
+use Rattle.prefixes.specs.Alphabet.{alphabet}
+use Rattle.prefixes.proofs.Samples.{pairs, M, M-pref}
+use Rattle.earliest.specs.Answers.{EarliestFile}
+use Rattle.canonical.specs.Answers.{NormalFile}
+use Rattle.canonical.proofs.SampleM.{M-clean}
+use Rattle.canonical.proofs.Samples.{leaf-file, T′, U, U-clean}
+use Rattle.comparison.specs.Answers.{Difference}
+use Rattle.registry.specs.Calls.{Book, Entries}
+
+-- ---- what a row may say
+pub data Row : Type 0 where
+  -- the file is one of alphabets
+  alphabets : (stock : List ℕ) → Row
+  -- the transducer of the sheet gives this plan on the design
+  translates : (stock sheet design plan : List ℕ) → Row
+  -- what it gives fits an area of k bytes
+  fits : (stock sheet design : List ℕ) (k : ℕ) → Row
+  -- the transducer of the sheet is not linear (01: single)
+  not-linear : (stock sheet : List ℕ) → Row
+  -- pref(q) of this state of the transducer of the sheet is the pattern (01: its head)
+  prefix : (stock sheet : List ℕ) (state : ℕ) (pattern : Pattern) → Row
+  -- the sheet cleans to this file, the file of its normal form
+  cleans : (stock sheet clean : List ℕ) → Row
+  -- the normal form has this many states and marks (01: passes and marks of the clean sheet)
+  normal : (stock sheet : List ℕ) (states marks : ℕ) → Row
+  -- the earliest form has this many states (01: passes of the trimmed sheet)
+  earliest : (stock sheet : List ℕ) (states : ℕ) → Row
+  -- on the design the transducers of the two sheets give trees with the unlike symbols b and b′ at the address (01: place)
+  differ : (stock first second design place : List ℕ) (b b′ : ℕ) → Row
+  -- in a registry (01: book) with an area of `room` bytes these files, the last first, get these numbers; then so many bytes are used and entries answered
+  registers : (stock : List ℕ) (room : ℕ) (entered : List (List ℕ × ℕ)) (used answered : ℕ) → Row
+
+-- ---- what that comes to
+pub record DifferOn (stock first second design place : List ℕ) (b b′ : ℕ) : Type 0 where
+  pub states : ℕ
+  pub machine : Transducer ℕ
+  pub sheet : Sheet (inputs stock) (outputs stock) first states machine
+  pub states′ : ℕ
+  pub machine′ : Transducer ℕ
+  pub sheet′ : Sheet (inputs stock) (outputs stock) second states′ machine′
+  pub shown : Tree
+  pub coded : code shown ≡ design
+  pub difference : Difference (inputs stock) (outputs stock) machine machine′ shown place b b′
+
+-- the entries of log were answered with these numbers, and the registry b has so many bytes used and entries answered
+pub record Registered (entered : List (List ℕ × ℕ)) (used answered : ℕ) (log : List (List ℕ × Option ℕ)) (b : Book) : Type 0 where
+  pub numbers : log ≡ map (λ e. (e .0, some (e .1))) entered
+  pub used-are : b .head .used ≡ used
+  pub answered-are : b .head .answered ≡ answered
+
+-- there is a list of entries of these files into such a registry, and every one is answered so
+pub record Registers (stock : List ℕ) (room : ℕ) (entered : List (List ℕ × ℕ)) (used answered : ℕ) : Type 0 where
+  pub one : (log : List (List ℕ × Option ℕ)) × ((b : Book) × (Entries stock log b × (length (b .area) ≡ room) × (map (λ e. e .0) log ≡ map (λ e. e .0) entered)))
+  pub every : (log : List (List ℕ × Option ℕ)) (b : Book) → Entries stock log b → length (b .area) ≡ room → map (λ e. e .0) log ≡ map (λ e. e .0) entered → Registered entered used answered log b
+
+abbrev pub Says : Row → Type 0
+Says (alphabets stock) = Alphabets stock
+Says (translates stock sheet design plan) = (t : Tree) × (Output stock sheet design t × (code t ≡ plan))
+Says (fits stock sheet design k) = (t : Tree) × (Output stock sheet design t × (size t ≤ k))
+Says (not-linear stock sheet) = (n : ℕ) × ((M : Transducer ℕ) × (Sheet (inputs stock) (outputs stock) sheet n M × (Linear (length (inputs stock)) n M → ⊥)))
+Says (prefix stock sheet state pattern) = (n : ℕ) × ((M : Transducer ℕ) × (Sheet (inputs stock) (outputs stock) sheet n M × (state < n) × ((l : Leaf (inputs stock)) → IsPref (alphabet (inputs stock) l) M state pattern)))
+Says (cleans stock sheet clean) = (k : ℕ) × ((counts : List ℕ) × ((bytes : List ℕ) × (NormalFile stock sheet k counts bytes × (file k counts bytes ≡ clean))))
+Says (normal stock sheet states marks) = (counts : List ℕ) × ((bytes : List ℕ) × (NormalFile stock sheet states counts bytes × (length bytes ≡ 2 * marks)))
+Says (earliest stock sheet states) = (counts : List ℕ) × ((bytes : List ℕ) × EarliestFile stock sheet states counts bytes)
+Says (differ stock first second design place b b′) = DifferOn stock first second design place b b′
+Says (registers stock room entered used answered) = Registers stock room entered used answered
+
+-- ---- the rows
+abbrev pub rows : List Row
+rows =
+    alphabets S
+    ∷ translates S T (1 ∷ []) (0 ∷ 1 ∷ 1 ∷ [])
+    ∷ translates S T (0 ∷ 1 ∷ []) (0 ∷ 0 ∷ 1 ∷ 1 ∷ 0 ∷ 1 ∷ 1 ∷ [])
+    ∷ fits S T (0 ∷ 1 ∷ []) 7
+    ∷ cleans S T T
+    ∷ cleans S T′ T
+    ∷ earliest S T′ 2
+    ∷ normal S T′ 1 7
+    ∷ differ S T U (1 ∷ []) (1 ∷ []) 1 0
+    ∷ cleans S U U-clean
+    ∷ normal S U 1 11
+    ∷ prefix pairs M 0 M-pref
+    ∷ cleans pairs M M-clean
+    ∷ normal pairs M 3 23
+    ∷ cleans S leaf-file leaf-file
+    ∷ normal S leaf-file 0 1
+    ∷ not-linear S T
+    ∷ registers S 60 ((U, 2) ∷ (T′, 1) ∷ (T, 1) ∷ []) 56 3
+    ∷ []
