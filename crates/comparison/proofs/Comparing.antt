@@ -151,7 +151,7 @@ module _ {stock counts bytes starts out counts′ bytes′ starts′ out′ : Li
 
 -- ---- of two files: what is answered of their parts is answered of them
 -- a check that holds can be left out
-past : {A Kept : Type 0} {Good : A → Type 0} {k : ℕ} {P : Type 0} {rest : Checks} {r : Outcome A} → P → Judged Kept Good (check k P rest) r → Judged Kept Good rest r
+pub past : {A Kept : Type 0} {Good : A → Type 0} {k : ℕ} {P : Type 0} {rest : Checks} {r : Outcome A} → P → Judged Kept Good (check k P rest) r → Judged Kept Good rest r
 unfolding judged
 past {Kept} {Good} {k} {P} {rest} {r} p j = go (j .verdict)
   where

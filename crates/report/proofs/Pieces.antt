@@ -1,0 +1,141 @@
+-- Pieces of text, one behind the other.
+-- Assumes nothing.
+use Prim.Native.Nat.{ℕ, _+_, _≤_, _<_}
+use native.Mathlib.Numerals.{add-one}
+use native.Mathlib.Omega.{arith}
+use mathlib.Core.List.{List, [], _∷_, _++_}
+use mathlib.Core.Path.{_≡_, refl, ap, sym, _∙_}
+use lib.ListN.{length, getD, drop, set, length-append, drop-of-length-le}
+use lib.Seq.{length-sets, drop-cons}
+use Rattle.formats.specs.Refusal as refusals
+use Rattle.formats.specs.declared.refusal.Refusal.{Refusal}
+use Rattle.formats.specs.declared.refusal.Refusal.the-variants.{ShortArea, BadAlphabets, BadTree, BadContents, BadBody, LongOutput, OverLimits, FullRegistry, BadRegistry}
+use Rattle.formats.proofs.Writing.{Writing, sets-append, begin, room-word, word-more, finish}
+use Rattle.report.specs.Inner.Writing.{Wrote}
+use Rattle.report.specs.Text.{number, rest, separated, differWord, atWord, sizesLine, placeText, symbolText, differLine}
+
+-- one byte
+pub byte-at : (t : List ℕ) {at m to : ℕ} (x : ℕ) → m ≡ at → to ≡ at + 1 → Wrote t (set t m x) at to (x ∷ [])
+byte-at t x e f = record { wrote = rw e; behind = f }
+
+pub one-byte : (t : List ℕ) (at x : ℕ) → Wrote t (set t at x) at (at + 1) (x ∷ [])
+one-byte t at x = byte-at t x refl refl
+
+-- a piece, and another behind it
+pub then : {t u w a b : List ℕ} {at m to : ℕ} → Wrote t u at m a → Wrote u w m to b → Wrote t w at to (a ++ b)
+then {t} {a = a} {b} {at} {m} A B = record {
+  wrote = B .wrote ∙ rw (A .wrote, A .behind) (sym (sets-append a b t at));
+  behind = omega (arith, A .behind, B .behind, length-append a b);
+}
+
+-- the same piece
+pub wrote-as : {t u a b : List ℕ} {at to : ℕ} → a ≡ b → Wrote t u at to a → Wrote t u at to b
+wrote-as e W = rw (← e) W
+
+-- the area stays as long
+pub wrote-long : {t u a : List ℕ} {at to : ℕ} → Wrote t u at to a → length u ≡ length t
+wrote-long {t} {a = a} {at} W = ap length (W .wrote) ∙ length-sets t at a
+
+-- ---- numbers with a byte between them
+module _ (s : ℕ) (items : List ℕ) where
+  separated-none : length items ≡ 0 → separated s items ≡ []
+  unfolding separated
+  separated-none e = go items e
+    where
+      go : (items : List ℕ) → length items ≡ 0 → separated s items ≡ []
+      go [] e = refl
+      go (x ∷ xs) e = absurd (omega arith)
+
+  separated-first : 0 < length items → separated s items ≡ number (getD items 0 0) ++ rest s (drop 1 items)
+  unfolding separated
+  separated-first h = go items h
+    where
+      go : (items : List ℕ) → 0 < length items → separated s items ≡ number (getD items 0 0) ++ rest s (drop 1 items)
+      go [] h = absurd (omega arith)
+      go (x ∷ xs) h = refl
+
+  rest-next : (k : ℕ) → k < length items → rest s (drop k items) ≡ (s ∷ number (getD items k 0)) ++ rest s (drop (k + 1) items)
+  unfolding rest
+  rest-next k h = rw (add-one, drop-cons items k 0 h)
+
+  -- The text is t, and what the numbers from number 1 on leave from `from` on is what those from number k on leave from `to` on.
+  pub record Separating (start : List ℕ) (from k to : ℕ) (t : List ℕ) : Type 0 where
+    pub inside : k ≤ length items
+    pub writing : Writing (rest s (drop 1 items)) from start (rest s (drop k items)) to t
+
+  -- there is none
+  pub none-separated : (t : List ℕ) (at : ℕ) → length items ≡ 0 → Wrote t t at at (separated s items)
+  none-separated t at e = wrote-as (sym (separated-none e)) (record { wrote = refl; behind = omega arith })
+
+  -- the first one is written
+  pub first-room : (t : List ℕ) (at : ℕ) → 0 < length items → at + length (separated s items) ≤ length t → at + length (number (getD items 0 0)) ≤ length t
+  first-room t at some h = omega (arith, ap length (separated-first some), length-append (number (getD items 0 0)) (rest s (drop 1 items)))
+
+  module _ {t u : List ℕ} {at m : ℕ} (some : 0 < length items) (W : Wrote t u at m (number (getD items 0 0))) where
+    pub first-separated : Separating u m 1 m u
+    first-separated = record { inside = some; writing = begin (rest s (drop 1 items)) u m }
+
+    rest-room : at + length (separated s items) ≤ length t → m + length (rest s (drop 1 items)) ≤ length u
+    rest-room h = omega (arith, ap length (separated-first some), length-append (number (getD items 0 0)) (rest s (drop 1 items)), W .behind, wrote-long W)
+
+    -- and the others
+    module _ {k to : ℕ} {w : List ℕ} (S : Separating u m k to w) where
+      pub next-room : k < length items → at + length (separated s items) ≤ length t → to + 1 + length (number (getD items k 0)) ≤ length w
+      next-room there h = omega (arith, room-word (S .writing) (s ∷ number (getD items k 0)) (rest s (drop (k + 1) items)) (rest-next k there) (rest-room h))
+
+      pub all-separated : length items ≤ k → Wrote t w at to (separated s items)
+      unfolding rest
+      all-separated h = let f = finish (S .writing) (ap (rest s) (drop-of-length-le items {i = k} h)) in wrote-as (sym (separated-first some)) (then W (record { wrote = f .1; behind = f .0 }))
+
+  pub next-separated : {start t u : List ℕ} {from k to m : ℕ} → Separating start from k to t → k < length items → Wrote (set t to s) u (to + 1) m (number (getD items k 0)) → Separating start from (k + 1) m u
+  next-separated {t = t} {k = k} {to} S there W = let N = then (one-byte t to s) W in record { inside = omega arith; writing = word-more (S .writing) (s ∷ number (getD items k 0)) (rest s (drop (k + 1) items)) (rest-next k there) (N .behind) (N .wrote) }
+
+-- ---- an address
+pub root-text : (v : List ℕ) → length v ≡ 0 → placeText v ≡ 45 ∷ []
+root-text [] e = refl
+root-text (x ∷ v) e = absurd (omega arith)
+
+pub below-text : (v : List ℕ) → (length v ≡ 0 → ⊥) → placeText v ≡ separated 46 v
+below-text [] f = absurd (f refl)
+below-text (x ∷ v) f = refl
+
+-- ---- the line of a normal form
+module _ (word : List ℕ) (states marks : ℕ) where
+  -- how long it is
+  pub sizes-long : length (sizesLine word states marks) ≡ length word + length (number states) + length (number marks) + 2
+  sizes-long =
+      let a = word ++ number states in
+      let b = a ++ (32 ∷ number marks) in
+      omega (arith, length-append word (number states), length-append a (32 ∷ number marks), length-append b (10 ∷ []))
+
+  -- and how it is written
+  pub sizes-written : {t₀ t₁ t₂ t₃ t₄ t₅ : List ℕ} {p₀ p₁ p₂ p₃ p₄ p₅ : ℕ} → Wrote t₀ t₁ p₀ p₁ word → Wrote t₁ t₂ p₁ p₂ (number states) → Wrote t₂ t₃ p₂ p₃ (32 ∷ []) → Wrote t₃ t₄ p₃ p₄ (number marks) → Wrote t₄ t₅ p₄ p₅ (10 ∷ []) → Wrote t₀ t₅ p₀ p₅ (sizesLine word states marks)
+  sizes-written A B C D E = then (then (then A B) (then C D)) E
+
+-- ---- the line of a refusal: its number has one digit
+pub refusal-low : (r : Refusal) → refusals.number r < 10
+refusal-low ShortArea = omega arith
+refusal-low BadAlphabets = omega arith
+refusal-low BadTree = omega arith
+refusal-low BadContents = omega arith
+refusal-low BadBody = omega arith
+refusal-low LongOutput = omega arith
+refusal-low OverLimits = omega arith
+refusal-low FullRegistry = omega arith
+refusal-low BadRegistry = omega arith
+
+-- ---- the line of a difference
+module _ (tree v : List ℕ) (b b′ : ℕ) where
+  -- how long it is
+  pub differ-long : length (differLine tree v b b′) ≡ length (separated 44 tree) + length (placeText v) + 18
+  differ-long =
+      let x = differWord ++ separated 44 tree in
+      let y = x ++ atWord in
+      let z = y ++ placeText v in
+      let u = z ++ (32 ∷ symbolText b) in
+      let w = u ++ (32 ∷ symbolText b′) in
+      omega (arith, length-append differWord (separated 44 tree), length-append x atWord, length-append y (placeText v), length-append z (32 ∷ symbolText b), length-append u (32 ∷ symbolText b′), length-append w (10 ∷ []))
+
+  -- and how it is written
+  pub differ-written : {t₀ t₁ t₂ t₃ t₄ t₅ t₆ t₇ : List ℕ} {p₀ p₁ p₂ p₃ p₄ p₅ p₆ p₇ : ℕ} → Wrote t₀ t₁ p₀ p₁ differWord → Wrote t₁ t₂ p₁ p₂ (separated 44 tree) → Wrote t₂ t₃ p₂ p₃ atWord → Wrote t₃ t₄ p₃ p₄ (placeText v) → Wrote t₄ t₅ p₄ p₅ (32 ∷ symbolText b) → Wrote t₅ t₆ p₅ p₆ (32 ∷ symbolText b′) → Wrote t₆ t₇ p₆ p₇ (10 ∷ []) → Wrote t₀ t₇ p₀ p₇ (differLine tree v b b′)
+  differ-written A B C D E F G = then (then (then (then (then (then A B) C) D) E) F) G
