@@ -1,0 +1,2 @@
+-- Third: demand 3 is met.
+pub mod Third

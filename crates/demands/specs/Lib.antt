@@ -1,0 +1,2 @@
+-- Third: demand 3 of the user, whole.
+pub mod Third
