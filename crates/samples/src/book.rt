@@ -159,7 +159,12 @@ fn damaged() {
     let short = with_head(b, b.held, 55, b.answered);
     enter(b"T, the head says 55 bytes: ", short, &mut area, &T);
     let full = with_head(b, b.held, b.used, 18446744073709551615);
-    enter(b"T, as many answers as can be counted: ", full, &mut area, &T);
+    enter(
+        b"T, as many answers as can be counted: ",
+        full,
+        &mut area,
+        &T,
+    );
     let last = with_head(b, b.held, b.used, 18446744073709551614);
     show(enter(b"T, one less: ", last, &mut area, &T));
 }
