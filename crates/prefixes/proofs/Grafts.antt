@@ -2,14 +2,15 @@
 -- Assumes nothing.
 use Prim.Native.Nat.{ℕ, suc, _+_, _-_, _*_, _≤_, _<_}
 use native.Mathlib.Decide.{decLt, ℕ-discrete}
+use native.Mathlib.Numerals.{add-one}
 use native.Mathlib.Omega.{arith}
 use mathlib.Core.Bool.{Bool, true, false}
 use mathlib.Core.Logic.{_≢_, by-cases}
 use mathlib.Core.Path.{_≡_, refl, sym, ap, ap₂, _∙_}
-use mathlib.Core.List.{List, [], _∷_, _++_}
+use mathlib.Core.List.{List, [], _∷_, _++_, append-assoc, append-nil}
 use lib.Dec.{ltb, eqb}
 use lib.ListN.{length, getD, take, drop, set, length-append, length-set, List·getD-eq-default}
-use lib.Seq.{slice, slice-empty, length-slice, length-take-le, take-add, take-at, drop-at, take-take, drop-drop, take-append-le, sets-eq, getD-set-same, getD-set-other}
+use lib.Seq.{slice, slice-empty, length-slice, length-take-le, getD-take, getD-drop, take-add, drop-at, take-take, take-suc-set, drop-drop, take-append-le, take-append-add, sets, sets-eq, length-sets, getD-set-same, getD-set-other}
 use borrow.Rule.Slice.PartMut.{putMid, postOf, same-len-mid, mid-len, take-put, drop-put}
 use borrow.Author.Tests.{lt-ltb, le-ltb, eqb-true}
 use Rattle.theory.specs.Lcp.{lcp}
@@ -19,9 +20,8 @@ use Rattle.theory.specs.Term.{Term, var, node, Terms, none, more, count, bind, 
 use Rattle.theory.proofs.Lcps.{lcp-left}
 use Rattle.theory.proofs.Terms.{conflict, count-binds}
 use Rattle.formats.specs.Code.{Ranked, AllRanked, Call, Mark}
-use Rattle.formats.specs.Inner.Decode.{call, symbol, Over, AllOver, Whole}
+use Rattle.formats.specs.Inner.Decode.{call, symbol, first, Over, AllOver, Whole}
 use Rattle.formats.specs.Inner.Layout.{pairs, markAt, markOf}
-use Rattle.formats.specs.Inner.Judging.{Put}
 use Rattle.formats.specs.Inner.Marked.{part}
 use Rattle.formats.proofs.Codes.{Faithful, exactly, reads-back, code-whole, flat-bind}
 use Rattle.formats.proofs.Deciding.{decides-same}
@@ -30,8 +30,10 @@ use Rattle.formats.proofs.Sheets.{whole-ranked}
 use Rattle.transducer.specs.Inner.Written.{spell}
 use Rattle.transducer.proofs.Meaning.{body-read}
 use Rattle.transducer.proofs.Walks.{spell-same}
-use Rattle.prefixes.specs.Inner.Patterns.{top, topIf, topOf, patternCode, IsPattern, readPattern, headAt, grafted, Graftable, Met}
+use Rattle.prefixes.specs.Inner.Patterns.{top, topIf, topOf, patternCode, IsPattern, readPattern, headAt, grafted, Begins, Graftable, Met}
 use Rattle.prefixes.specs.Inner.Heads.{Heads, headOf, bodyTerm, Cuttable, CutBy}
+use Rattle.prefixes.proofs.Ends.{letter-inside}
+use Rattle.prefixes.proofs.Patterns.{patternsAt, Byte, named, free, byte-at}
 
 -- ---- a byte of a pattern
 -- p is over the output alphabet
@@ -172,6 +174,21 @@ head-lent heads sizes q {size} e h =
 pub head-length : (heads sizes : List ℕ) (q : ℕ) → 64 * q + getD sizes q 0 ≤ length heads → length (headAt heads sizes q) ≡ getD sizes q 0
 head-length heads sizes q h = length-slice (64 * q) (64 * q + getD sizes q 0) heads h ∙ omega arith
 
+-- a pattern that begins with the byte of ⊤ is ⊤
+pub head-top : {outs heads sizes : List ℕ} → Heads outs heads sizes → length outs ≤ 64 → (q : ℕ) → q < length sizes → getD heads (64 * q) 0 ≡ top → headOf outs heads sizes q ≡ var tt
+unfolding headOf readPattern first
+head-top {outs} {heads} {sizes} T few q state e =
+    let s = headAt heads sizes q in
+    let there : 0 < count (patternsAt outs s 0) = omega (arith, T .each q state .one) in
+    let some : 0 < getD sizes q 0 = omega (arith, letter-inside (topOf outs) s 0 there, head-length heads sizes q (omega (arith, T .long, T .small q state))) in
+    let z : 64 * q + 0 ≡ 64 * q = omega arith in
+    let x : getD s 0 0 ≡ top = ap (λ l. getD l 0 0) (slice-from heads (64 * q) (getD sizes q 0) (omega (arith, T .long))) ∙ getD-take (getD sizes q 0) (drop (64 * q) heads) 0 0 some ∙ getD-drop (64 * q) heads 0 0 ∙ ap (λ k. getD heads k 0) z ∙ e in
+    go x (byte-at outs s 0 there)
+  where
+    go : {x : ℕ} {F G : Patterns} → x ≡ top → Byte outs x G F → first F ≡ var tt
+    go e (named l h) = absurd (omega arith)
+    go e (free l h) = refl
+
 -- ---- mark by mark
 -- the first mark, where the call (i, q) gives g i q
 module _ (g : ℕ → ℕ → List ℕ) (bytes : List ℕ) (j to : ℕ) (less : j < to) (inside : 2 * to ≤ length bytes) where
@@ -218,6 +235,76 @@ module _ {heads sizes bytes out : List ℕ} {from to : ℕ} (G : Graftable heads
         next = rw e (spell-call (λ i q. headAt heads sizes q) bytes j to g (G .inside) some);
       }
 
+-- ---- the area while a right-hand side is grafted
+-- it begins with what the marks before j spell, at most 64 bytes each
+pub record Grafting (heads sizes bytes : List ℕ) (from to : ℕ) (area₀ area : List ℕ) (w j : ℕ) : Type 0 where
+  pub first : from ≤ j
+  pub last : j ≤ to
+  pub short : w ≤ 64 * (j - from)
+  pub same : length area ≡ length area₀
+  pub so-far : take w area ++ grafted heads sizes bytes j to ≡ grafted heads sizes bytes from to
+
+pub graft-start : {heads sizes bytes area : List ℕ} {from to : ℕ} → Graftable heads sizes bytes from to area → Grafting heads sizes bytes from to area area 0 from
+graft-start G = record { first = omega arith; last = G .ordered; short = omega arith; same = refl; so-far = refl }
+
+-- n of the 64 bytes that the pattern of a state may have
+pub part-length : (heads : List ℕ) (q n : ℕ) → n ≤ 64 → 64 * q + 64 ≤ length heads → length (lentHead heads q n) ≡ n
+part-length heads q n h g = mid-len (64 * q) (64 * q + n) heads (omega arith) ∙ omega arith
+
+-- if they are enough, they begin with the pattern
+head-first : (heads sizes : List ℕ) (q n : ℕ) {size : ℕ} → size ≡ getD sizes q 0 → size ≤ n → 64 * q ≤ length heads → take size (lentHead heads q n) ≡ headAt heads sizes q
+head-first heads sizes q n {size} e h g =
+    let k : 64 * q + n - 64 * q ≡ n = omega arith in
+    rw (k, take-take size n (drop (64 * q) heads) h, e) (sym (slice-from heads (64 * q) (getD sizes q 0) g))
+
+-- a word written behind the first w bytes: they stay, and the first n of the word stand behind them
+take-word : (area word : List ℕ) (w n : ℕ) → n ≤ length word → w + length word ≤ length area → take (w + n) (sets area w word) ≡ take w area ++ take n word
+take-word area word w n h fits =
+    let l : length (take w area) ≡ w = length-take-le w area (omega arith) in
+    let behind = drop (w + length word) area in
+    ap (take (w + n)) (sets-eq word area w fits ∙ append-assoc (take w area) word behind) ∙ ap (λ k. take (k + n) (take w area ++ (word ++ behind))) (sym l) ∙ take-append-add (take w area) (word ++ behind) n ∙ ap (λ r. take w area ++ r) (take-append-le n word behind h)
+
+module _ {heads sizes bytes area₀ : List ℕ} {from to : ℕ} (G : Graftable heads sizes bytes from to area₀) {area : List ℕ} {w j : ℕ} (L : Grafting heads sizes bytes from to area₀ area w j) where
+  module _ (less : j < to) where
+    -- a pattern more has room
+    pub graft-room : w + 64 ≤ length area
+    graft-room = omega (arith, L .short, L .first, L .same, G .few, G .room)
+
+    pub graft-symbol : {area′ : List ℕ} {w′ : ℕ} → getD bytes (2 * j) 0 ≡ 0 → area′ ≡ set area w (getD bytes (2 * j + 1) 0) → w′ ≡ w + 1 → Grafting heads sizes bytes from to area₀ area′ w′ (j + 1)
+    graft-symbol z e f =
+        let x = getD bytes (2 * j + 1) 0 in
+        let s = spell-symbol (λ i q. headAt heads sizes q) bytes j to less (G .inside) z in
+        let r : w < length area = omega (arith, graft-room) in
+        rw (e, f) (record {
+          first = omega (arith, L .first);
+          last = omega arith;
+          short = omega (arith, L .short, L .first);
+          same = length-set area w x ∙ L .same;
+          so-far = rw (add-one, take-suc-set area w x r, append-assoc) (ap (λ r. take w area ++ r) (sym s) ∙ L .so-far);
+        })
+
+    pub graft-call : (n : ℕ) {area′ : List ℕ} {w′ q size : ℕ} → size ≤ n → n ≤ 64 → (getD bytes (2 * j) 0 ≡ 0 → ⊥) → q ≡ getD bytes (2 * j + 1) 0 → size ≡ getD sizes q 0 → area′ ≡ sets area w (lentHead heads q n) → w′ ≡ w + size → Grafting heads sizes bytes from to area₀ area′ w′ (j + 1)
+    graft-call n {q = q} {size} enough few some c d e f =
+        let C = called G j (L .first) less some c in
+        let word = lentHead heads q n in
+        let l : length word ≡ n = part-length heads q n few (C .inside) in
+        let h : take size word ≡ headAt heads sizes q = head-first heads sizes q n d enough (omega (arith, C .inside)) in
+        let t = take-word area word w size (omega arith) (omega (arith, graft-room)) ∙ ap (λ r. take w area ++ r) h in
+        rw (e, f) (record {
+          first = omega (arith, L .first);
+          last = omega arith;
+          short = omega (arith, L .short, L .first, C .small);
+          same = length-sets area w word ∙ L .same;
+          so-far = rw (t, append-assoc) (ap (λ r. take w area ++ r) (sym (C .next)) ∙ L .so-far);
+        })
+
+  -- no mark is left
+  pub graft-end : to ≤ j → Begins (grafted heads sizes bytes from to) area w
+  graft-end h = record {
+    inside = omega (arith, L .short, L .same, G .few, G .room, L .last);
+    wrote = sym (append-nil (take w area)) ∙ ap (λ r. take w area ++ r) (sym (spell-end (λ i q. headAt heads sizes q) bytes j to (L .last) h)) ∙ L .so-far;
+  }
+
 -- a word is at most 64 times as long as the marks that spell it, if each call gives at most 64 bytes
 spell-short : (g : ℕ → ℕ → List ℕ) (ms : List Mark) → ((j : ℕ) → j < length ms → 0 < getD ms j (0, 0) .0 → length (g (getD ms j (0, 0) .0) (getD ms j (0, 0) .1)) ≤ 64) → length (spell g ms) ≤ 64 * length ms
 unfolding spell
@@ -233,14 +320,6 @@ spell-fits g bytes from to inside k =
     let d = getD-slice from to j (pairs bytes) p h in
     rw (d .1) (k (from + j) (omega arith) (d .0))) in
     omega (arith, length-slice from to (pairs bytes) p)
-
--- what is grafted has room in the area
-pub grafted-short : {heads sizes bytes out : List ℕ} {from to : ℕ} → Graftable heads sizes bytes from to out → length (grafted heads sizes bytes from to) ≤ length out
-grafted-short {heads} {sizes} {bytes} {out} {from} {to} G =
-    let s = spell-fits (λ i q. headAt heads sizes q) bytes from to (G .inside) (λ j h g some.
-    let t = G .there j h g some in
-    omega (arith, t .1, t .2, head-length heads sizes (markAt bytes j .1) (omega (arith, t .1, t .2)))) in
-    omega (arith, G .few, G .room)
 
 -- a state that is not there has no bytes
 head-none : (heads sizes : List ℕ) (p : ℕ) → length sizes ≤ p → headAt heads sizes p ≡ []
@@ -272,12 +351,6 @@ module _ (l ys : List ℕ) (f e : ℕ) (ordered : f ≤ e) (fits : e ≤ length 
 -- the first r bytes of an area, as they are lent
 abbrev pub lentArea : ℕ → List ℕ → List ℕ
 lentArea r area = take (r - 0) area
-
--- what was written from the start of the area is what is read there
-put-read : {w before after : List ℕ} {r : ℕ} → Put w before after r → length w ≤ length before → lentArea r after ≡ w
-put-read {w} {before} {after} {r} P h =
-    let z : r - 0 ≡ length w = omega (arith, P .size) in
-    rw (z, P .wrote, sets-eq w before 0 (omega arith)) (take-at w (drop (0 + length w) before) (length w) refl)
 
 -- ---- a cut of the table: the part of state q is lent, and put back as after, of which size bytes count
 module _ {outs heads sizes : List ℕ} (T : Heads outs heads sizes) (q : ℕ) (state : q < length sizes) {n : ℕ} (right : n ≡ getD sizes q 0)
@@ -319,21 +392,21 @@ module _ {outs heads sizes bytes other : List ℕ} {from to q : ℕ} (C : Cuttab
         room = C .room;
       }
 
-  module _ {len n : ℕ} {other′ : List ℕ} (P : Put (grafted heads sizes bytes from to) other other′ len) (right : n ≡ getD sizes q 0) where
+  module _ {len n : ℕ} {other′ : List ℕ} (P : Begins (grafted heads sizes bytes from to) other′ len) (right : n ≡ getD sizes q 0) where
     -- the part of state q, and what was grafted
     lent-head : lentHead heads q n ≡ headAt heads sizes q
     lent-head = head-lent heads sizes q right (omega (arith, C .table .long, C .state))
 
     lent-graft : lentArea len other′ ≡ grafted heads sizes bytes from to
-    lent-graft = put-read P (grafted-short graftable)
+    lent-graft = let z : len - 0 ≡ len = omega arith in rw z (P .wrote)
 
     -- both are patterns
     pub to-meet : IsPattern outs (lentHead heads q n) × IsPattern outs (lentArea len other′)
     to-meet = (rw lent-head (C .table .each q (C .state)), rw lent-graft (graft-read (C .table) bytes from to (C .children) (C .whole) .pattern))
 
     -- the part and the room that are lent
-    pub lent-inside : (64 * q + n ≤ length heads) × (len ≤ length other)
-    lent-inside = (omega (arith, C .table .long, C .state, C .table .small q (C .state)), omega (arith, P .size, grafted-short graftable))
+    pub lent-inside : (64 * q + n ≤ length heads) × (len ≤ length other′)
+    lent-inside = (omega (arith, C .table .long, C .state, C .table .small q (C .state)), P .inside)
 
     module _ {after : List ℕ} {size : ℕ} {b : Bool} (same : length after ≡ length (lentHead heads q n))
         (M : Met outs (lentHead heads q n) (lentArea len other′) after size b) where

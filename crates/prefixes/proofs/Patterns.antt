@@ -1,15 +1,16 @@
 -- Laws of patterns as bytes: what a byte says where a pattern begins, where the pattern ends, and what two patterns share.
 -- Assumes nothing.
 use Prim.Native.Nat.{ℕ, suc, _+_, _-_, _≤_, _<_}
+use native.Mathlib.Decide.{decLt}
 use native.Mathlib.Numerals.{add-one}
 use native.Mathlib.Omega.{arith}
 use mathlib.Core.Bool.{Bool, true, false}
-use mathlib.Core.Logic.{_↔_}
+use mathlib.Core.Logic.{_↔_, by-cases}
 use mathlib.Core.Path.{_≡_, refl, sym, ap, ap₂, _∙_}
 use mathlib.Core.List.{List, [], _∷_, _++_, append-assoc, append-nil}
 use lib.Dec.{leb, ltb, eqb}
 use lib.ListN.{length, getD, drop, take, set, length-drop, length-set, drop-of-length-le}
-use lib.Seq.{drop-drop, drop-set-lt, take-suc-set}
+use lib.Seq.{drop-drop, drop-set-lt, set-getD, take-suc-set}
 use borrow.Author.Tests.{ltb-true, ltb-false, lt-ltb, le-ltb, leb-true, eqb-true}
 use Rattle.theory.specs.Term.{var, node, Terms, none, more, count}
 use Rattle.theory.specs.Prefix.{Patterns}
@@ -21,7 +22,7 @@ use Rattle.formats.specs.Inner.Decode.{lettersAll, firsts, rests, grown, put, f
 use Rattle.formats.specs.Refusal.{Decides}
 use Rattle.formats.proofs.Codes.{single}
 use Rattle.formats.proofs.Forest.{count-firsts, count-rests, all-drop}
-use Rattle.prefixes.specs.Inner.Patterns.{top, topIf, topOf, patternCode, IsPattern, readPattern, Ended, Met}
+use Rattle.prefixes.specs.Inner.Patterns.{top, topIf, topOf, patternCode, IsPattern, readPattern, Ended, Alike, Run, Met}
 use Rattle.prefixes.proofs.Ends.{taken, letter-put, Owing, owing-done, Ranks}
 
 -- the patterns that stand from position p on
@@ -264,3 +265,31 @@ module _ {outs before y x : List ℕ} {i j w : ℕ} {cut : Bool} (M : Meeting ou
         let b : patternsAt outs x i′ ≡ rests 1 (patternsAt outs x i) = E .behind in
         let c : patternsAt outs y j′ ≡ rests 1 (patternsAt outs y j) = E′ .behind in
         next-turn i′ j′ top (E .further) (E .inside) (rw (b, c) (other-byte B C n (M .paired))) (rw (b, c) (told-other B (lcps-other B C n) (M .told) f g))
+
+-- ---- bytes that are the same
+-- t of them, and n behind those
+pub alike-more : (x y : List ℕ) (i j t n : ℕ) → Alike x i y j t → Alike x (i + t) y (j + t) n → Alike x i y j (t + n)
+alike-more x y i j t n A B u h = by-cases (decLt u t) (A u) (λ l.
+    let e : i + t + (u - t) ≡ i + u = omega arith in
+    let f : j + t + (u - t) ≡ j + u = omega arith in
+    rw (e, f) at (B (u - t) (omega arith)))
+
+-- n bytes that are the same in both, while what they share stands where they are: nothing is written
+pub same-turns : {outs before y x : List ℕ} {cut : Bool} (i j n : ℕ) → i + n ≤ length x → Alike x i y j n → Meeting outs before y x i j i cut → Meeting outs before y x (i + n) (j + n) (i + n) cut
+same-turns i j ℕ.zero h A M =
+    let e : i + 0 ≡ i = omega arith in
+    let f : j + 0 ≡ j = omega arith in
+    rw (e, f) M
+same-turns {x = x} i j (suc n) h A M =
+    let e : i + suc n ≡ i + n + 1 = omega arith in
+    let f : j + suc n ≡ j + n + 1 = omega arith in
+    let N = same-turn (same-turns i j n (omega arith) (λ t l. A t (omega arith)) M) (omega arith) (A n (omega arith)) in
+    rw (e, f) (rw (set-getD x (i + n) 0) at N)
+
+-- a byte that is the same in both, and t behind it
+pub run-turn : {outs before y x : List ℕ} {i j w t : ℕ} {cut : Bool} → Meeting outs before y x i j w cut → i < length x → getD x i 0 ≡ getD y j 0 → w ≡ i → Run x (i + 1) y (j + 1) t → Meeting outs before y x (i + t + 1) (j + t + 1) (w + t + 1) cut
+run-turn {x = x} {i} {j} {w} {t} M h e s R =
+    let N = rw (s, set-getD x i 0) at (same-turn M h e) in
+    let a : i + t + 1 ≡ i + 1 + t = omega arith in
+    let b : j + t + 1 ≡ j + 1 + t = omega arith in
+    rw (s, a, b) (same-turns (i + 1) (j + 1) t (R .first) (R .alike) N)

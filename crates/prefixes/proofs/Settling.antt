@@ -15,11 +15,12 @@ use Rattle.theory.specs.Lcp.{lcp}
 use Rattle.theory.specs.Pref.{graft, Prefs}
 use Rattle.theory.specs.Prefix.{Pattern}
 use Rattle.theory.specs.Size.{size}
+use Rattle.theory.specs.Term.{var}
 use Rattle.theory.specs.Transducer.{Transducer}
 use Rattle.theory.specs.Wf.{nth, Wf}
-use Rattle.theory.proofs.Cut.{cut-step, cut-done}
+use Rattle.theory.proofs.Cut.{cut-step, cut-end, lcp-graft}
 use Rattle.theory.proofs.PrefsExist.{total, total-falls}
-use Rattle.theory.proofs.Sizes.{lcp-smaller}
+use Rattle.theory.proofs.Sizes.{lcp-same, lcp-smaller}
 use Rattle.theory.proofs.Terms.{conflict}
 use Rattle.theory.proofs.Vars.{all-map}
 use Rattle.formats.specs.Alphabets.{Leaf}
@@ -32,7 +33,10 @@ use Rattle.formats.proofs.Sheets.{transducer-over}
 use Rattle.transducer.specs.Linear.{oneIf}
 use Rattle.transducer.proofs.Outputs.{ranked-vars}
 use Rattle.prefixes.specs.Alphabet.{alphabet, children-inside, children-of}
-use Rattle.prefixes.specs.Inner.Heads.{Heads, headOf, Cuttable, CutBy, machine, Layout, Bodies, FixedAt, AllAbove, Cuts, CutState, Swept, Flaggable, Looked, Followed, Settled}
+use Rattle.prefixes.specs.Inner.Patterns.{top}
+use Rattle.prefixes.specs.Inner.Heads.{Heads, headOf, Cuttable, CutBy, machine, Layout, Bodies, FixedAt, AllAbove, Cuts, CutRhs, CutState, Swept, Flaggable, Looked, Followed, Settled}
+use Rattle.prefixes.proofs.Grafts.{head-top}
+use Rattle.prefixes.proofs.Leaves.{above-leaf}
 
 -- ---- the transducer of whole bodies is well-formed over the alphabet
 nth-sort : (r i : ℕ) → 1 ≤ i → i ≤ r → nth {A = ℕ} (replicate r 0) i ≡ some 0
@@ -102,90 +106,109 @@ module _ {ins : List ℕ} {M : Transducer ℕ} {n : ℕ} {h h₁ : ℕ → Patte
     kept = λ e p. D .kept f p ∙ C .kept e p;
   }
 
--- ---- the end
-pub all-fixed : {ins : List ℕ} {M : Transducer ℕ} {n : ℕ} (l : Leaf ins) → Wf (alphabet ins l) M (λ q. q < n) → {h : ℕ → Pattern} → AllAbove ins l M n h → ((q : ℕ) → q < n → FixedAt ins M h q) → Prefs (alphabet ins l) M (λ q. q < n) h
+-- ---- the end: the right-hand side for the leaf cuts nothing either
+pub all-fixed : {ins : List ℕ} {M : Transducer ℕ} {n : ℕ} (l : Leaf ins) {leaf : ℕ} → l .symbol ≡ leaf → Wf (alphabet ins l) M (λ q. q < n) → {h : ℕ → Pattern} → AllAbove ins l M n h → ((q : ℕ) → q < n → FixedAt ins leaf M h q) → Prefs (alphabet ins l) M (λ q. q < n) h
 unfolding alphabet
-all-fixed {ins} l W {h} all fix = cut-done W h all (λ q a sorts v k. fix q v a (children-inside ins a k .0))
+all-fixed {ins} {M} l {leaf} s W {h} all fix = cut-end W h all (λ q a sorts v k. by-cases (ℕ-discrete a leaf)
+    (λ e. let z : a ≡ l .symbol = e ∙ sym s in rw z (above-leaf W h v (all q v)))
+    (λ n. lcp-same (lcp-graft (h q) h (M .rhs q a) ∙ fix q v a (children-inside ins a k .0) n)))
 
--- ---- the bodies of a state
-module _ {ins outs starts bytes heads₀ sizes₀ other₀ : List ℕ} (B : Bodies ins outs starts bytes heads₀ sizes₀ other₀) (q a : ℕ) (state : q < length sizes₀) (there : a < length ins)
-    {heads sizes : List ℕ} (T : Heads outs heads sizes) (same : length sizes ≡ length sizes₀)
+-- ---- one right-hand side
+module _ {ins outs starts bytes heads sizes other : List ℕ} (B : Bodies ins outs starts bytes heads sizes other) (q a : ℕ) (state : q < length sizes) (there : a < length ins)
     {from to : ℕ} (f : from ≡ getD starts (bodyNumber ins q a) 0) (t : to ≡ getD starts (bodyNumber ins q a + 1) 0) where
   -- the body of q and a is whole, and can be cut by
   body-whole : Whole (markOf outs (length sizes) (getD ins a 0)) (part bytes from to)
   unfolding body
-  body-whole = rw (f, t, same) (B .layout .wholes .rhs q a state there)
+  body-whole = rw (f, t) (B .layout .wholes .rhs q a state there)
 
-  pub can-cut : {other : List ℕ} → length other ≡ length other₀ → Cuttable outs heads sizes bytes from to q other
+  pub can-cut : Cuttable outs heads sizes bytes from to q other
   unfolding body
-  can-cut room =
-      let less = number-less ins q (length sizes₀) a state there in
+  can-cut =
+      let less = number-less ins q (length sizes) a state there in
       record {
-        table = T;
+        table = B .table;
         few-symbols = B .layout .few-symbols;
-        state = omega arith;
+        state = state;
         ordered = omega (arith, B .layout .laid .ordered (bodyNumber ins q a) less);
         inside = omega (arith, B .layout .laid .inside (bodyNumber ins q a + 1) (omega arith));
         few = omega (arith, B .layout .few (bodyNumber ins q a) less);
         children = getD ins a 0;
         whole = body-whole;
-        room = omega (arith, B .room);
+        room = B .room;
       }
 
   module _ {heads′ sizes′ : List ℕ} {b : Bool} (C : CutBy outs bytes from to q heads sizes heads′ sizes′ b) where
-    cut-eq : headOf outs heads′ sizes′ q ≡ lcp (headOf outs heads sizes q) (graft (headOf outs heads sizes) (machine ins outs starts bytes (length sizes₀) .rhs q a))
+    cut-eq : headOf outs heads′ sizes′ q ≡ lcp (headOf outs heads sizes q) (graft (headOf outs heads sizes) (machine ins outs starts bytes (length sizes) .rhs q a))
     unfolding transducer body
-    cut-eq = rw (f, t, same) at (C .cut (getD ins a 0) body-whole)
+    cut-eq = rw (f, t) at (C .cut (getD ins a 0) body-whole)
 
-    pub body-cut : Cuts ins (machine ins outs starts bytes (length sizes₀)) (length sizes₀) (headOf outs heads sizes) (headOf outs heads′ sizes′) b
-    body-cut = one-cut (λ l. machine-wf l (B .layout .wholes)) q a state there cut-eq (C .others) (C .told)
+    pub body-cut : (leaf : ℕ) → CutRhs ins outs starts bytes leaf q a heads sizes heads′ sizes′ b
+    body-cut leaf = record {
+      table = C .table;
+      cuts = one-cut (λ l. machine-wf l (B .layout .wholes)) q a state there cut-eq (C .others) (C .told);
+      fixed = λ e n. one-fixed (λ l. machine-wf l (B .layout .wholes)) q a state there cut-eq (C .others) (C .told) e;
+    }
 
-    pub body-fixed : b ≡ false → lcp (headOf outs heads sizes q) (graft (headOf outs heads sizes) (machine ins outs starts bytes (length sizes₀) .rhs q a)) ≡ headOf outs heads sizes q
-    body-fixed = one-fixed (λ l. machine-wf l (B .layout .wholes)) q a state there cut-eq (C .others) (C .told)
+-- that for the leaf is left out
+pub leaf-out : {ins outs starts bytes heads sizes : List ℕ} {leaf q a : ℕ} → Heads outs heads sizes → a ≡ leaf → CutRhs ins outs starts bytes leaf q a heads sizes heads sizes false
+leaf-out T e = record { table = T; cuts = no-cut _; fixed = λ z n. absurd (n e) }
+
+-- the pattern ⊤ cannot be cut
+pub top-kept : {ins outs starts bytes heads sizes other : List ℕ} → Bodies ins outs starts bytes heads sizes other → (leaf q : ℕ) → q < length sizes → getD heads (64 * q) 0 ≡ top → CutState ins outs starts bytes leaf q heads sizes heads sizes false
+unfolding lcp
+top-kept {outs = outs} {heads = heads} {sizes} B leaf q state e =
+    let t : headOf outs heads sizes q ≡ var tt = head-top (B .table) (B .layout .few-symbols) q state e in
+    record { table = B .table; cuts = no-cut _; fixed = λ z a h n. rw t }
+
+-- bodies, with another table of the same length
+pub other-table : {ins outs starts bytes heads₀ sizes₀ other₀ : List ℕ} → Bodies ins outs starts bytes heads₀ sizes₀ other₀ → {heads sizes other : List ℕ} → Heads outs heads sizes → length sizes ≡ length sizes₀ → length other ≡ length other₀ → Bodies ins outs starts bytes heads sizes other
+other-table B T e f = record { table = T; layout = rw e (B .layout); room = omega (arith, B .room) }
 
 -- ---- the loop over the right-hand sides of q: those before a are passed
-pub record StateLoop (ins outs starts bytes : List ℕ) (q : ℕ) (heads₀ sizes₀ other₀ heads sizes other : List ℕ) (any : Bool) (a : ℕ) : Type 0 where
+pub record StateLoop (ins outs starts bytes : List ℕ) (leaf q : ℕ) (heads₀ sizes₀ other₀ heads sizes other : List ℕ) (any : Bool) (a : ℕ) : Type 0 where
   pub inside : a ≤ length ins
   pub table : Heads outs heads sizes
   pub same-heads : length heads ≡ length heads₀
   pub same-sizes : length sizes ≡ length sizes₀
   pub same-other : length other ≡ length other₀
   pub cuts : Cuts ins (machine ins outs starts bytes (length sizes₀)) (length sizes₀) (headOf outs heads₀ sizes₀) (headOf outs heads sizes) any
-  pub passed : any ≡ false → (b : ℕ) → b < a → lcp (headOf outs heads₀ sizes₀ q) (graft (headOf outs heads₀ sizes₀) (machine ins outs starts bytes (length sizes₀) .rhs q b)) ≡ headOf outs heads₀ sizes₀ q
+  pub passed : any ≡ false → (b : ℕ) → b < a → b ≢ leaf → lcp (headOf outs heads₀ sizes₀ q) (graft (headOf outs heads₀ sizes₀) (machine ins outs starts bytes (length sizes₀) .rhs q b)) ≡ headOf outs heads₀ sizes₀ q
 
-pub state-start : {ins outs starts bytes heads sizes other : List ℕ} (q : ℕ) → Heads outs heads sizes → StateLoop ins outs starts bytes q heads sizes other heads sizes other false 0
-state-start q T = record { inside = omega arith; table = T; same-heads = refl; same-sizes = refl; same-other = refl; cuts = no-cut _; passed = λ e b h. absurd (omega arith) }
+pub state-start : {ins outs starts bytes heads sizes other : List ℕ} (leaf q : ℕ) → Heads outs heads sizes → StateLoop ins outs starts bytes leaf q heads sizes other heads sizes other false 0
+state-start leaf q T = record { inside = omega arith; table = T; same-heads = refl; same-sizes = refl; same-other = refl; cuts = no-cut _; passed = λ e b h. absurd (omega arith) }
 
-module _ {ins outs starts bytes heads₀ sizes₀ other₀ : List ℕ} (B : Bodies ins outs starts bytes heads₀ sizes₀ other₀) {q : ℕ} (state : q < length sizes₀)
-    {heads sizes other : List ℕ} {any : Bool} {a : ℕ} (L : StateLoop ins outs starts bytes q heads₀ sizes₀ other₀ heads sizes other any a) where
-  module _ (there : a < length ins) {from to : ℕ} (f : from ≡ getD starts (bodyNumber ins q a) 0) (t : to ≡ getD starts (bodyNumber ins q a + 1) 0) where
-    pub loop-cuttable : Cuttable outs heads sizes bytes from to q other
-    loop-cuttable = can-cut B q a state there (L .table) (L .same-sizes) f t (L .same-other)
+module _ {ins outs starts bytes heads₀ sizes₀ other₀ : List ℕ} (B : Bodies ins outs starts bytes heads₀ sizes₀ other₀) {leaf q : ℕ}
+    {heads sizes other : List ℕ} {any : Bool} {a : ℕ} (L : StateLoop ins outs starts bytes leaf q heads₀ sizes₀ other₀ heads sizes other any a) where
+  pub state-bodies : Bodies ins outs starts bytes heads sizes other
+  state-bodies = other-table B (L .table) (L .same-sizes) (L .same-other)
 
-    module _ {heads′ sizes′ other′ : List ℕ} {b : Bool} (C : CutBy outs bytes from to q heads sizes heads′ sizes′ b) (sh : length heads′ ≡ length heads) (ss : length sizes′ ≡ length sizes) (so : length other′ ≡ length other) where
-      pub loop-cut : b ≡ true → {now : Bool} → now ≡ true → StateLoop ins outs starts bytes q heads₀ sizes₀ other₀ heads′ sizes′ other′ now (a + 1)
-      loop-cut e z = rw z (record {
-        inside = omega arith;
-        table = C .table;
-        same-heads = sh ∙ L .same-heads;
-        same-sizes = ss ∙ L .same-sizes;
-        same-other = so ∙ L .same-other;
-        cuts = then-cut (L .cuts) e (body-cut B q a state there (L .table) (L .same-sizes) f t C);
-        passed = λ z. conflict (cc);
-      })
+  module _ (there : a < length ins) {heads′ sizes′ : List ℕ} {b : Bool} (C : CutRhs ins outs starts bytes leaf q a heads sizes heads′ sizes′ b) (sh : length heads′ ≡ length heads) (ss : length sizes′ ≡ length sizes) where
+    rhs-here : Cuts ins (machine ins outs starts bytes (length sizes₀)) (length sizes₀) (headOf outs heads sizes) (headOf outs heads′ sizes′) b
+    rhs-here = rw (← L .same-sizes) (C .cuts)
 
-      pub loop-none : b ≡ false → {now : Bool} → now ≡ any → StateLoop ins outs starts bytes q heads₀ sizes₀ other₀ heads′ sizes′ other′ now (a + 1)
-      loop-none e y = rw y (record {
-        inside = omega arith;
-        table = C .table;
-        same-heads = sh ∙ L .same-heads;
-        same-sizes = ss ∙ L .same-sizes;
-        same-other = so ∙ L .same-other;
-        cuts = then-none (L .cuts) e (body-cut B q a state there (L .table) (L .same-sizes) f t C);
-        passed = λ z. below-more (λ b. lcp (headOf outs heads₀ sizes₀ q) (graft (headOf outs heads₀ sizes₀) (machine ins outs starts bytes (length sizes₀) .rhs q b)) ≡ headOf outs heads₀ sizes₀ q) a (L .passed z) (rw (← same-patterns (L .cuts) z) (body-fixed B q a state there (L .table) (L .same-sizes) f t C e));
-      })
+    pub loop-cut : {other′ : List ℕ} → length other′ ≡ length other → b ≡ true → {now : Bool} → now ≡ true → StateLoop ins outs starts bytes leaf q heads₀ sizes₀ other₀ heads′ sizes′ other′ now (a + 1)
+    loop-cut so e z = rw z (record {
+      inside = omega arith;
+      table = C .table;
+      same-heads = sh ∙ L .same-heads;
+      same-sizes = ss ∙ L .same-sizes;
+      same-other = so ∙ L .same-other;
+      cuts = then-cut (L .cuts) e rhs-here;
+      passed = λ z. conflict (cc);
+    })
 
-  pub state-end : length ins ≤ a → CutState ins outs starts bytes q heads₀ sizes₀ heads sizes any
+    pub loop-none : {other′ : List ℕ} → length other′ ≡ length other → b ≡ false → {now : Bool} → now ≡ any → StateLoop ins outs starts bytes leaf q heads₀ sizes₀ other₀ heads′ sizes′ other′ now (a + 1)
+    loop-none so e y = rw y (record {
+      inside = omega arith;
+      table = C .table;
+      same-heads = sh ∙ L .same-heads;
+      same-sizes = ss ∙ L .same-sizes;
+      same-other = so ∙ L .same-other;
+      cuts = then-none (L .cuts) e rhs-here;
+      passed = λ z. below-more (λ b. b ≢ leaf → lcp (headOf outs heads₀ sizes₀ q) (graft (headOf outs heads₀ sizes₀) (machine ins outs starts bytes (length sizes₀) .rhs q b)) ≡ headOf outs heads₀ sizes₀ q) a (L .passed z) (rw (← same-patterns (L .cuts) z, ← L .same-sizes) (C .fixed e));
+    })
+
+  pub state-end : length ins ≤ a → CutState ins outs starts bytes leaf q heads₀ sizes₀ heads sizes any
   state-end h = record { table = L .table; cuts = L .cuts; fixed = λ e b g. L .passed e b (omega arith) }
 
 -- the number of a body, and of the next, are in the table of starts
@@ -195,32 +218,28 @@ number-fits {ins} {n = n} L {q} {a} h g =
     (omega (arith, mul-le-mul (L .few-states) (L .few-inputs)), omega (arith, L .laid .long))
 
 -- ---- the loop over the states: those before q are passed
-pub record SweepLoop (ins outs starts bytes heads₀ sizes₀ other₀ heads sizes other : List ℕ) (any : Bool) (q : ℕ) : Type 0 where
+pub record SweepLoop (ins outs starts bytes : List ℕ) (leaf : ℕ) (heads₀ sizes₀ other₀ heads sizes other : List ℕ) (any : Bool) (q : ℕ) : Type 0 where
   pub inside : q ≤ length sizes₀
   pub table : Heads outs heads sizes
   pub same-heads : length heads ≡ length heads₀
   pub same-sizes : length sizes ≡ length sizes₀
   pub same-other : length other ≡ length other₀
   pub cuts : Cuts ins (machine ins outs starts bytes (length sizes₀)) (length sizes₀) (headOf outs heads₀ sizes₀) (headOf outs heads sizes) any
-  pub passed : any ≡ false → (p : ℕ) → p < q → FixedAt ins (machine ins outs starts bytes (length sizes₀)) (headOf outs heads₀ sizes₀) p
+  pub passed : any ≡ false → (p : ℕ) → p < q → FixedAt ins leaf (machine ins outs starts bytes (length sizes₀)) (headOf outs heads₀ sizes₀) p
 
-pub sweep-start : {ins outs starts bytes heads sizes other : List ℕ} → Heads outs heads sizes → SweepLoop ins outs starts bytes heads sizes other heads sizes other false 0
-sweep-start T = record { inside = omega arith; table = T; same-heads = refl; same-sizes = refl; same-other = refl; cuts = no-cut _; passed = λ e p h. absurd (omega arith) }
+pub sweep-start : {ins outs starts bytes heads sizes other : List ℕ} (leaf : ℕ) → Heads outs heads sizes → SweepLoop ins outs starts bytes leaf heads sizes other heads sizes other false 0
+sweep-start leaf T = record { inside = omega arith; table = T; same-heads = refl; same-sizes = refl; same-other = refl; cuts = no-cut _; passed = λ e p h. absurd (omega arith) }
 
--- bodies, with another table of the same length
-pub other-table : {ins outs starts bytes heads₀ sizes₀ other₀ : List ℕ} → Bodies ins outs starts bytes heads₀ sizes₀ other₀ → {heads sizes other : List ℕ} → Heads outs heads sizes → length sizes ≡ length sizes₀ → length other ≡ length other₀ → Bodies ins outs starts bytes heads sizes other
-other-table B T e f = record { table = T; layout = rw e (B .layout); room = omega (arith, B .room) }
-
-module _ {ins outs starts bytes heads₀ sizes₀ other₀ : List ℕ} (B : Bodies ins outs starts bytes heads₀ sizes₀ other₀)
-    {heads sizes other : List ℕ} {any : Bool} {q : ℕ} (L : SweepLoop ins outs starts bytes heads₀ sizes₀ other₀ heads sizes other any q) where
+module _ {ins outs starts bytes heads₀ sizes₀ other₀ : List ℕ} (B : Bodies ins outs starts bytes heads₀ sizes₀ other₀) {leaf : ℕ}
+    {heads sizes other : List ℕ} {any : Bool} {q : ℕ} (L : SweepLoop ins outs starts bytes leaf heads₀ sizes₀ other₀ heads sizes other any q) where
   pub sweep-bodies : Bodies ins outs starts bytes heads sizes other
   sweep-bodies = other-table B (L .table) (L .same-sizes) (L .same-other)
 
-  module _ (there : q < length sizes) {heads′ sizes′ : List ℕ} {b : Bool} (C : CutState ins outs starts bytes q heads sizes heads′ sizes′ b) (sh : length heads′ ≡ length heads) (ss : length sizes′ ≡ length sizes) where
+  module _ (there : q < length sizes) {heads′ sizes′ : List ℕ} {b : Bool} (C : CutState ins outs starts bytes leaf q heads sizes heads′ sizes′ b) (sh : length heads′ ≡ length heads) (ss : length sizes′ ≡ length sizes) where
     cuts-here : Cuts ins (machine ins outs starts bytes (length sizes₀)) (length sizes₀) (headOf outs heads sizes) (headOf outs heads′ sizes′) b
     cuts-here = rw (← L .same-sizes) (C .cuts)
 
-    pub sweep-cut : {other′ : List ℕ} → length other′ ≡ length other → b ≡ true → {now : Bool} → now ≡ true → SweepLoop ins outs starts bytes heads₀ sizes₀ other₀ heads′ sizes′ other′ now (q + 1)
+    pub sweep-cut : {other′ : List ℕ} → length other′ ≡ length other → b ≡ true → {now : Bool} → now ≡ true → SweepLoop ins outs starts bytes leaf heads₀ sizes₀ other₀ heads′ sizes′ other′ now (q + 1)
     sweep-cut so e z = rw z (record {
       inside = omega (arith, L .same-sizes);
       table = C .table;
@@ -231,7 +250,7 @@ module _ {ins outs starts bytes heads₀ sizes₀ other₀ : List ℕ} (B : Bodi
       passed = λ z. conflict (cc);
     })
 
-    pub sweep-none : {other′ : List ℕ} → length other′ ≡ length other → b ≡ false → {now : Bool} → now ≡ any → SweepLoop ins outs starts bytes heads₀ sizes₀ other₀ heads′ sizes′ other′ now (q + 1)
+    pub sweep-none : {other′ : List ℕ} → length other′ ≡ length other → b ≡ false → {now : Bool} → now ≡ any → SweepLoop ins outs starts bytes leaf heads₀ sizes₀ other₀ heads′ sizes′ other′ now (q + 1)
     sweep-none so e y = rw y (record {
       inside = omega (arith, L .same-sizes);
       table = C .table;
@@ -239,38 +258,38 @@ module _ {ins outs starts bytes heads₀ sizes₀ other₀ : List ℕ} (B : Bodi
       same-sizes = ss ∙ L .same-sizes;
       same-other = so ∙ L .same-other;
       cuts = then-none (L .cuts) e cuts-here;
-      passed = λ z. below-more (λ p. FixedAt ins (machine ins outs starts bytes (length sizes₀)) (headOf outs heads₀ sizes₀) p) q (L .passed z) (rw (← same-patterns (L .cuts) z, ← L .same-sizes) (C .fixed e));
+      passed = λ z. below-more (λ p. FixedAt ins leaf (machine ins outs starts bytes (length sizes₀)) (headOf outs heads₀ sizes₀) p) q (L .passed z) (rw (← same-patterns (L .cuts) z, ← L .same-sizes) (C .fixed e));
     })
 
-  pub sweep-end : length sizes ≤ q → Swept ins outs starts bytes heads₀ sizes₀ heads sizes any
+  pub sweep-end : length sizes ≤ q → Swept ins outs starts bytes leaf heads₀ sizes₀ heads sizes any
   sweep-end h = record { table = L .table; cuts = L .cuts; fixed = λ e p g. L .passed e p (omega (arith, L .same-sizes)) }
 
 -- ---- the loop until nothing is cut
-pub record SettleLoop (ins outs starts bytes heads₀ sizes₀ other₀ heads sizes other : List ℕ) (again : Bool) : Type 0 where
+pub record SettleLoop (ins outs starts bytes : List ℕ) (leaf : ℕ) (heads₀ sizes₀ other₀ heads sizes other : List ℕ) (again : Bool) : Type 0 where
   pub table : Heads outs heads sizes
   pub same-heads : length heads ≡ length heads₀
   pub same-sizes : length sizes ≡ length sizes₀
   pub same-other : length other ≡ length other₀
   pub above : (l : Leaf ins) → AllAbove ins l (machine ins outs starts bytes (length sizes₀)) (length sizes₀) (headOf outs heads₀ sizes₀) → AllAbove ins l (machine ins outs starts bytes (length sizes₀)) (length sizes₀) (headOf outs heads sizes)
-  pub fixed : again ≡ false → (q : ℕ) → q < length sizes₀ → FixedAt ins (machine ins outs starts bytes (length sizes₀)) (headOf outs heads sizes) q
+  pub fixed : again ≡ false → (q : ℕ) → q < length sizes₀ → FixedAt ins leaf (machine ins outs starts bytes (length sizes₀)) (headOf outs heads sizes) q
 
 -- what is left to cut, and one turn that finds nothing
 pub left : List ℕ → List ℕ → List ℕ → Bool → ℕ
 left outs heads sizes again = total (headOf outs heads sizes) (length sizes) + oneIf again
 
-pub settle-start : {ins outs starts bytes heads sizes other : List ℕ} → Heads outs heads sizes → SettleLoop ins outs starts bytes heads sizes other heads sizes other true
-settle-start T = record { table = T; same-heads = refl; same-sizes = refl; same-other = refl; above = λ l a. a; fixed = λ e. conflict (cc) }
+pub settle-start : {ins outs starts bytes heads sizes other : List ℕ} (leaf : ℕ) → Heads outs heads sizes → SettleLoop ins outs starts bytes leaf heads sizes other heads sizes other true
+settle-start leaf T = record { table = T; same-heads = refl; same-sizes = refl; same-other = refl; above = λ l a. a; fixed = λ e. conflict (cc) }
 
-module _ {ins outs starts bytes heads₀ sizes₀ other₀ : List ℕ} (B : Bodies ins outs starts bytes heads₀ sizes₀ other₀)
-    {heads sizes other : List ℕ} {again : Bool} (L : SettleLoop ins outs starts bytes heads₀ sizes₀ other₀ heads sizes other again) where
+module _ {ins outs starts bytes heads₀ sizes₀ other₀ : List ℕ} (B : Bodies ins outs starts bytes heads₀ sizes₀ other₀) {leaf : ℕ}
+    {heads sizes other : List ℕ} {again : Bool} (L : SettleLoop ins outs starts bytes leaf heads₀ sizes₀ other₀ heads sizes other again) where
   pub settle-bodies : Bodies ins outs starts bytes heads sizes other
   settle-bodies = other-table B (L .table) (L .same-sizes) (L .same-other)
 
-  module _ {heads′ sizes′ : List ℕ} {b : Bool} (C : Swept ins outs starts bytes heads sizes heads′ sizes′ b) (sh : length heads′ ≡ length heads) (ss : length sizes′ ≡ length sizes) where
+  module _ {heads′ sizes′ : List ℕ} {b : Bool} (C : Swept ins outs starts bytes leaf heads sizes heads′ sizes′ b) (sh : length heads′ ≡ length heads) (ss : length sizes′ ≡ length sizes) where
     swept-here : Cuts ins (machine ins outs starts bytes (length sizes₀)) (length sizes₀) (headOf outs heads sizes) (headOf outs heads′ sizes′) b
     swept-here = rw (← L .same-sizes) (C .cuts)
 
-    pub settle-next : {other′ : List ℕ} → length other′ ≡ length other → SettleLoop ins outs starts bytes heads₀ sizes₀ other₀ heads′ sizes′ other′ b
+    pub settle-next : {other′ : List ℕ} → length other′ ≡ length other → SettleLoop ins outs starts bytes leaf heads₀ sizes₀ other₀ heads′ sizes′ other′ b
     settle-next so = record {
       table = C .table;
       same-heads = sh ∙ L .same-heads;
@@ -288,8 +307,8 @@ module _ {ins outs starts bytes heads₀ sizes₀ other₀ : List ℕ} (B : Bodi
         go true e = rw (ss, t, e) (omega (arith, C .cuts .less e))
         go false e = rw (ss, t, e) (omega (arith, ap (λ k. total k (length sizes)) (same-patterns (C .cuts) e)))
 
-  pub settle-end : again ≡ false → Settled ins outs starts bytes heads₀ sizes₀ heads sizes
-  settle-end e = record { table = L .table; prefs = λ l a. all-fixed l (machine-wf l (B .layout .wholes)) (L .above l a) (L .fixed e) }
+  pub settle-end : again ≡ false → Settled ins outs starts bytes leaf heads₀ sizes₀ heads sizes
+  settle-end e = record { table = L .table; prefs = λ l s a. all-fixed l s (machine-wf l (B .layout .wholes)) (L .above l a) (L .fixed e) }
 
 -- ---- cuts along the calls
 -- the numbers of the first body of a state, and of the first of the next state, are in the table of starts
@@ -302,7 +321,7 @@ pub can-flag : {ins outs starts bytes heads sizes other : List ℕ} → Bodies i
 can-flag B = record { few-states = B .layout .few-states; few-inputs = B .layout .few-inputs; laid = B .layout .laid }
 
 -- the loop over the looks: the last was at state q
-pub record FollowLoop (ins outs starts bytes heads₀ sizes₀ other₀ heads sizes other : List ℕ) (callers dirty : List Bool) (q : ℕ) : Type 0 where
+pub record FollowLoop (ins outs starts bytes heads₀ sizes₀ other₀ heads sizes other : List ℕ) (callers dirty : List ℕ) (q : ℕ) : Type 0 where
   pub same-heads : length heads ≡ length heads₀
   pub same-sizes : length sizes ≡ length sizes₀
   pub same-other : length other ≡ length other₀
@@ -315,11 +334,11 @@ pub record FollowLoop (ins outs starts bytes heads₀ sizes₀ other₀ heads si
 abbrev pub ahead : List ℕ → ℕ → List ℕ → List ℕ → ℕ → ℕ
 ahead outs n heads sizes clean = 129 * total (headOf outs heads sizes) n + (n - clean)
 
-pub follow-start : {ins outs starts bytes heads sizes other : List ℕ} {callers dirty : List Bool} → Heads outs heads sizes → length callers ≡ 16384 → length dirty ≡ 128 → FollowLoop ins outs starts bytes heads sizes other heads sizes other callers dirty 0
+pub follow-start : {ins outs starts bytes heads sizes other : List ℕ} {callers dirty : List ℕ} → Heads outs heads sizes → length callers ≡ 16384 → length dirty ≡ 128 → FollowLoop ins outs starts bytes heads sizes other heads sizes other callers dirty 0
 follow-start T e f = record { same-heads = refl; same-sizes = refl; same-other = refl; caller-flags = e; state-flags = f; inside = omega arith; followed = record { table = T; above = λ l a. a; fewer = omega arith } }
 
 module _ {ins outs starts bytes heads₀ sizes₀ other₀ : List ℕ} (B : Bodies ins outs starts bytes heads₀ sizes₀ other₀)
-    {heads sizes other : List ℕ} {callers dirty : List Bool} {q : ℕ} (L : FollowLoop ins outs starts bytes heads₀ sizes₀ other₀ heads sizes other callers dirty q) where
+    {heads sizes other : List ℕ} {callers dirty : List ℕ} {q : ℕ} (L : FollowLoop ins outs starts bytes heads₀ sizes₀ other₀ heads sizes other callers dirty q) where
   pub follow-bodies : Bodies ins outs starts bytes heads sizes other
   follow-bodies = other-table B (L .followed .table) (L .same-sizes) (L .same-other)
 
@@ -327,7 +346,7 @@ module _ {ins outs starts bytes heads₀ sizes₀ other₀ : List ℕ} (B : Bodi
     looked-here : Cuts ins (machine ins outs starts bytes (length sizes₀)) (length sizes₀) (headOf outs heads sizes) (headOf outs heads′ sizes′) b
     looked-here = rw (← L .same-sizes) (C .cuts)
 
-    pub follow-next : {other′ : List ℕ} {dirty′ : List Bool} {q′ : ℕ} → length heads′ ≡ length heads → length sizes′ ≡ length sizes → length other′ ≡ length other → length dirty′ ≡ length dirty → q′ < length sizes₀ → FollowLoop ins outs starts bytes heads₀ sizes₀ other₀ heads′ sizes′ other′ callers dirty′ q′
+    pub follow-next : {other′ : List ℕ} {dirty′ : List ℕ} {q′ : ℕ} → length heads′ ≡ length heads → length sizes′ ≡ length sizes → length other′ ≡ length other → length dirty′ ≡ length dirty → q′ < length sizes₀ → FollowLoop ins outs starts bytes heads₀ sizes₀ other₀ heads′ sizes′ other′ callers dirty′ q′
     follow-next sh ss so sd h = record {
       same-heads = sh ∙ L .same-heads;
       same-sizes = ss ∙ L .same-sizes;
@@ -346,15 +365,15 @@ module _ {ins outs starts bytes heads₀ sizes₀ other₀ : List ℕ} (B : Bodi
     less-none h e = omega (arith, ap (λ k. total k (length sizes₀)) (same-patterns looked-here e))
 
 -- ---- before a sweep: the patterns are as they were, or cuts along the calls made them smaller
-pub record Between (ins outs starts bytes heads₀ sizes₀ other₀ heads sizes : List ℕ) (again : Bool) (heads′ sizes′ other′ : List ℕ) : Type 0 where
-  pub loop : SettleLoop ins outs starts bytes heads₀ sizes₀ other₀ heads′ sizes′ other′ true
+pub record Between (ins outs starts bytes : List ℕ) (leaf : ℕ) (heads₀ sizes₀ other₀ heads sizes : List ℕ) (again : Bool) (heads′ sizes′ other′ : List ℕ) : Type 0 where
+  pub loop : SettleLoop ins outs starts bytes leaf heads₀ sizes₀ other₀ heads′ sizes′ other′ true
   pub fewer : left outs heads′ sizes′ true ≤ left outs heads sizes again
 
-module _ {ins outs starts bytes heads₀ sizes₀ other₀ heads sizes other : List ℕ} {again : Bool} (L : SettleLoop ins outs starts bytes heads₀ sizes₀ other₀ heads sizes other again) (t : again ≡ true) where
-  pub between-none : {heads′ sizes′ other′ : List ℕ} → heads′ ≡ heads → sizes′ ≡ sizes → other′ ≡ other → Between ins outs starts bytes heads₀ sizes₀ other₀ heads sizes again heads′ sizes′ other′
+module _ {ins outs starts bytes : List ℕ} {leaf : ℕ} {heads₀ sizes₀ other₀ heads sizes other : List ℕ} {again : Bool} (L : SettleLoop ins outs starts bytes leaf heads₀ sizes₀ other₀ heads sizes other again) (t : again ≡ true) where
+  pub between-none : {heads′ sizes′ other′ : List ℕ} → heads′ ≡ heads → sizes′ ≡ sizes → other′ ≡ other → Between ins outs starts bytes leaf heads₀ sizes₀ other₀ heads sizes again heads′ sizes′ other′
   between-none e f g = rw (e, f, g, t) (record { loop = rw t at L; fewer = omega arith })
 
-  pub between-some : {heads′ sizes′ other′ : List ℕ} → Followed ins outs starts bytes heads sizes heads′ sizes′ → length heads′ ≡ length heads → length sizes′ ≡ length sizes → length other′ ≡ length other → Between ins outs starts bytes heads₀ sizes₀ other₀ heads sizes again heads′ sizes′ other′
+  pub between-some : {heads′ sizes′ other′ : List ℕ} → Followed ins outs starts bytes heads sizes heads′ sizes′ → length heads′ ≡ length heads → length sizes′ ≡ length sizes → length other′ ≡ length other → Between ins outs starts bytes leaf heads₀ sizes₀ other₀ heads sizes again heads′ sizes′ other′
   unfolding left
   between-some F sh ss so = record {
     loop = record {

@@ -1,10 +1,11 @@
 // Patterns as bytes: a symbol, or 255 for ⊤, where anything may stand; in preorder, one byte each.
-ghost use Prim.Native.Nat.{_*_, _+_, _<_};
-ghost use lib.ListN.{drop};
+ghost use Prim.Native.Nat.{_*_, _+_, _≤_, _<_};
+ghost use mathlib.Core.Bool.{true};
+ghost use mathlib.Core.Path.{_≡_};
+ghost use lib.ListN.{length, drop};
 ghost use Rattle.theory.specs.Term.{count};
 ghost use Rattle.formats.specs.Inner.Decode.{forest};
-ghost use Rattle.prefixes.specs.Inner.Patterns.{topOf, IsPattern, Ended, Met, Graftable, grafted};
-ghost use Rattle.formats.specs.Inner.Judging.{Put};
+ghost use Rattle.prefixes.specs.Inner.Patterns.{topOf, IsPattern, Ended, Alike, Run, Met, Begins, Graftable, grafted};
 use formats::bytes::wide;
 use formats::file::copy_at;
 
@@ -26,6 +27,56 @@ pub(crate) fn pattern_end(outs: &[u8], s: &[u8], at: usize) -> usize
     p
 }
 
+// Whether the eight bytes of x from i on are those of y from j on. All eight are read in any case, so that they can be compared as one word.
+fn same_word(x: &[u8], i: usize, y: &[u8], j: usize) -> bool
+    requires { ⌜ (i + 8 ≤ length (now x)) × (j + 8 ≤ length (now y)) ⌝ }
+    ensures { λ b. ⌜ (b ≡ true → Alike (now (x .entry)) i (now (y .entry)) j 8) ⌝ }
+{
+    let mut same = true;
+    let mut t = 0;
+    while t < 8 {
+        if x[i + t] != y[j + t] {
+            same = false;
+        }
+        t += 1;
+    }
+    same
+}
+
+// Of n bytes of x from i on, some that are those of y from j on: the words before the first that differs.
+fn same_words(x: &[u8], i: usize, y: &[u8], j: usize, n: usize) -> usize
+    requires { ⌜ (i + n ≤ length (now x)) × (j + n ≤ length (now y)) ⌝ }
+    ensures { λ r. ⌜ (r ≤ n) × Alike (now (x .entry)) i (now (y .entry)) j r ⌝ }
+{
+    let mut t = 0;
+    while n - t >= 8 {
+        if !same_word(x, i + t, y, j + t) {
+            return t;
+        }
+        t += 8;
+    }
+    t
+}
+
+// The length of a run of bytes of x from i on that are those of y from j on.
+fn same_run(x: &[u8], i: usize, y: &[u8], j: usize) -> usize
+    requires { ⌜ (i ≤ length (now x)) × (j ≤ length (now y)) ⌝ }
+    ensures { λ r. ⌜ Run (now (x .entry)) i (now (y .entry)) j r ⌝ }
+{
+    let mut n = x.len() - i;
+    if y.len() - j < n {
+        n = y.len() - j;
+    }
+    let mut t = same_words(x, i, y, j, n);
+    while t < n {
+        if x[i + t] != y[j + t] {
+            return t;
+        }
+        t += 1;
+    }
+    t
+}
+
 // How long a pattern is after a cut, and whether the cut took anything away.
 pub struct Shared {
     pub size: usize,
@@ -44,7 +95,14 @@ pub(crate) fn meet(outs: &[u8], x: &mut [u8], y: &[u8]) -> Shared
     while i < x.len() {
         let k = x[i];
         if k == y[j] {
-            x[w] = k;
+            if w == i {
+                let t = same_run(x, i + 1, y, j + 1);
+                i += t;
+                j += t;
+                w += t;
+            } else {
+                x[w] = k;
+            }
             i += 1;
             j += 1;
         } else {
@@ -61,6 +119,7 @@ pub(crate) fn meet(outs: &[u8], x: &mut [u8], y: &[u8]) -> Shared
 }
 
 // Writes the right-hand side of the marks number `from` up to `to` with the pattern of each state for its calls, and says how long that is.
+// Of a pattern 32 or 64 bytes are copied: what stands behind it is written over by the next mark, or lies behind the end.
 pub(crate) fn graft(
     heads: &[u8],
     sizes: &[u8],
@@ -70,7 +129,7 @@ pub(crate) fn graft(
     out: &mut [u8],
 ) -> usize
     requires { ⌜ Graftable (now heads) (now sizes) (now marks) from to (now out) ⌝ }
-    ensures { λ r. ⌜ Put (grafted (now (heads .entry)) (now (sizes .entry)) (now (marks .entry)) from to) (now (out .entry)) (now (out .exit)) r ⌝ }
+    ensures { λ r. ⌜ Begins (grafted (now (heads .entry)) (now (sizes .entry)) (now (marks .entry)) from to) (now (out .exit)) r ⌝ }
 {
     let mut w = 0;
     let mut j = from;
@@ -83,9 +142,10 @@ pub(crate) fn graft(
         } else {
             let q = wide(x);
             let start = 64 * q;
-            let end = start + wide(sizes[q]);
-            copy_at(&heads[start..end], out, w);
-            w += end - start;
+            let size = wide(sizes[q]);
+            let part = 32 * ((size + 31) / 32);
+            copy_at(&heads[start..start + part], out, w);
+            w += size;
         }
         j += 1;
     }

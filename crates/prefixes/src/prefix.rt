@@ -3,7 +3,7 @@ ghost use Prim.Native.Nat.{_*_, _≤_, _<_};
 ghost use mathlib.Core.Path.{_≡_};
 ghost use lib.ListN.{length, getD};
 ghost use Rattle.formats.specs.Alphabets.{Leaf};
-ghost use Rattle.prefixes.specs.Inner.Heads.{Cuttable, CutBy, Bodies, CutState, Swept, Flaggable, Looked, Followed, Settled, Startable, Started, AllStartable, AllStarted, Prefixable, Prefixes};
+ghost use Rattle.prefixes.specs.Inner.Heads.{Cuttable, CutBy, Bodies, CutRhs, CutState, Swept, Flaggable, Looked, Followed, Settled, Startable, Started, AllStartable, AllStarted, Prefixable, Prefixes};
 use crate::pattern::graft;
 use crate::pattern::meet;
 use formats::bytes::number;
@@ -32,7 +32,32 @@ pub(crate) fn cut_by(
     shared.cut
 }
 
-// Cuts the pattern of state q by each of its right-hand sides, and says whether that took anything away.
+// Cuts the pattern of state q by its right-hand side for symbol a, unless a is the leaf, and says whether that took anything away.
+fn cut_rhs(
+    ins: &[u8],
+    outs: &[u8],
+    starts: &[u16],
+    marks: &[u8],
+    heads: &mut [u8],
+    sizes: &mut [u8],
+    leaf: usize,
+    q: usize,
+    a: usize,
+    other: &mut [u8],
+) -> bool
+    requires { ⌜ Bodies (now ins) (now outs) (now starts) (now marks) (now heads) (now sizes) (now other) × (q < length (now sizes)) × (a < length (now ins)) ⌝ }
+    ensures { λ b. ⌜ CutRhs (now (ins .entry)) (now (outs .entry)) (now (starts .entry)) (now (marks .entry)) leaf q a (now (heads .entry)) (now (sizes .entry)) (now (heads .exit)) (now (sizes .exit)) b ⌝ }
+{
+    if a == leaf {
+        return false;
+    }
+    let b = 1 + q * ins.len() + a;
+    let from = number(starts[b]);
+    let to = number(starts[b + 1]);
+    cut_by(outs, heads, sizes, marks, from, to, q, other)
+}
+
+// Cuts the pattern of state q by each of its right-hand sides but that for the leaf, and says whether that took anything away.
 fn cut_state(
     ins: &[u8],
     outs: &[u8],
@@ -40,19 +65,20 @@ fn cut_state(
     marks: &[u8],
     heads: &mut [u8],
     sizes: &mut [u8],
+    leaf: usize,
     q: usize,
     other: &mut [u8],
 ) -> bool
     requires { ⌜ Bodies (now ins) (now outs) (now starts) (now marks) (now heads) (now sizes) (now other) × (q < length (now sizes)) ⌝ }
-    ensures { λ b. ⌜ CutState (now (ins .entry)) (now (outs .entry)) (now (starts .entry)) (now (marks .entry)) q (now (heads .entry)) (now (sizes .entry)) (now (heads .exit)) (now (sizes .exit)) b ⌝ }
+    ensures { λ b. ⌜ CutState (now (ins .entry)) (now (outs .entry)) (now (starts .entry)) (now (marks .entry)) leaf q (now (heads .entry)) (now (sizes .entry)) (now (heads .exit)) (now (sizes .exit)) b ⌝ }
 {
+    if heads[64 * q] == 255 {
+        return false;
+    }
     let mut any = false;
     let mut a = 0;
     while a < ins.len() {
-        let b = 1 + q * ins.len() + a;
-        let from = number(starts[b]);
-        let to = number(starts[b + 1]);
-        if cut_by(outs, heads, sizes, marks, from, to, q, other) {
+        if cut_rhs(ins, outs, starts, marks, heads, sizes, leaf, q, a, other) {
             any = true;
         }
         a += 1;
@@ -68,15 +94,16 @@ fn sweep(
     marks: &[u8],
     heads: &mut [u8],
     sizes: &mut [u8],
+    leaf: usize,
     other: &mut [u8],
 ) -> bool
     requires { ⌜ Bodies (now ins) (now outs) (now starts) (now marks) (now heads) (now sizes) (now other) ⌝ }
-    ensures { λ b. ⌜ Swept (now (ins .entry)) (now (outs .entry)) (now (starts .entry)) (now (marks .entry)) (now (heads .entry)) (now (sizes .entry)) (now (heads .exit)) (now (sizes .exit)) b ⌝ }
+    ensures { λ b. ⌜ Swept (now (ins .entry)) (now (outs .entry)) (now (starts .entry)) (now (marks .entry)) leaf (now (heads .entry)) (now (sizes .entry)) (now (heads .exit)) (now (sizes .exit)) b ⌝ }
 {
     let mut any = false;
     let mut q = 0;
     while q < sizes.len() {
-        if cut_state(ins, outs, starts, marks, heads, sizes, q, other) {
+        if cut_state(ins, outs, starts, marks, heads, sizes, leaf, q, other) {
             any = true;
         }
         q += 1;
@@ -85,7 +112,7 @@ fn sweep(
 }
 
 // Flags state p as a caller of each state that the marks number `from` up to `to` call: `callers` has 128 flags for each state called.
-fn flag_calls(marks: &[u8], from: usize, to: usize, p: usize, callers: &mut [bool])
+fn flag_calls(marks: &[u8], from: usize, to: usize, p: usize, callers: &mut [u8])
     requires { ⌜ (2 * to ≤ length (now marks)) × (p < 128) × (length (now callers) ≡ 16384) ⌝ }
 {
     let mut j = from;
@@ -93,41 +120,46 @@ fn flag_calls(marks: &[u8], from: usize, to: usize, p: usize, callers: &mut [boo
         let q = wide(marks[2 * j + 1]);
         if marks[2 * j] > 0 {
             if q < 128 {
-                callers[128 * q + p] = true;
+                callers[128 * q + p] = 1;
             }
         }
         j += 1;
     }
 }
 
-// Flags the callers of all states; the right-hand sides of a state stand one after the other.
-fn find_callers(ins: &[u8], starts: &[u16], marks: &[u8], n: usize, callers: &mut [bool])
-    requires { ⌜ Flaggable (now ins) (now starts) (now marks) n × (length (now callers) ≡ 16384) ⌝ }
+// Flags the callers of all states; the right-hand sides of a state stand one after the other, and that for the leaf calls none.
+fn find_callers(ins: &[u8], starts: &[u16], marks: &[u8], leaf: usize, n: usize, callers: &mut [u8])
+    requires { ⌜ Flaggable (now ins) (now starts) (now marks) n × (leaf < length (now ins)) × (length (now callers) ≡ 16384) ⌝ }
 {
     let mut p = 0;
     while p < n {
         let b = 1 + p * ins.len();
         let from = number(starts[b]);
-        let to = number(starts[b + ins.len()]);
+        let to = number(starts[b + leaf]);
         flag_calls(marks, from, to, p, callers);
+        let from2 = number(starts[b + leaf + 1]);
+        let to2 = number(starts[b + ins.len()]);
+        flag_calls(marks, from2, to2, p, callers);
         p += 1;
     }
 }
 
 // Flags the callers of state q as states to look at.
-fn flag_callers(callers: &[bool], q: usize, dirty: &mut [bool])
+fn flag_callers(callers: &[u8], q: usize, dirty: &mut [u8])
     requires { ⌜ (q < 128) × (length (now callers) ≡ 16384) × (length (now dirty) ≡ 128) ⌝ }
 {
     let mut p = 0;
     while p < 128 {
-        if callers[128 * q + p] {
-            dirty[p] = true;
+        let mut flag = dirty[p];
+        if callers[128 * q + p] > flag {
+            flag = callers[128 * q + p];
         }
+        dirty[p] = flag;
         p += 1;
     }
 }
 
-// Looks at state q if it is flagged: cuts its pattern and flags its callers, or flags it no more where nothing is cut.
+// Looks at state q if it is flagged, and flags it no more: cuts its pattern, and flags its callers if that took anything away.
 fn look_at(
     ins: &[u8],
     outs: &[u8],
@@ -135,22 +167,22 @@ fn look_at(
     marks: &[u8],
     heads: &mut [u8],
     sizes: &mut [u8],
+    leaf: usize,
     q: usize,
     other: &mut [u8],
-    callers: &[bool],
-    dirty: &mut [bool],
+    callers: &[u8],
+    dirty: &mut [u8],
 ) -> bool
     requires { ⌜ Bodies (now ins) (now outs) (now starts) (now marks) (now heads) (now sizes) (now other) × (q < length (now sizes)) × (length (now callers) ≡ 16384) × (length (now dirty) ≡ 128) ⌝ }
     ensures { λ b. ⌜ Looked (now (ins .entry)) (now (outs .entry)) (now (starts .entry)) (now (marks .entry)) (now (heads .entry)) (now (sizes .entry)) (now (heads .exit)) (now (sizes .exit)) b ⌝ }
 {
-    if !dirty[q] {
+    if dirty[q] == 0 {
         return false;
     }
-    let cut = cut_state(ins, outs, starts, marks, heads, sizes, q, other);
+    dirty[q] = 0;
+    let cut = cut_state(ins, outs, starts, marks, heads, sizes, leaf, q, other);
     if cut {
         flag_callers(callers, q, dirty);
-    } else {
-        dirty[q] = false;
     }
     cut
 }
@@ -171,15 +203,16 @@ fn follow(
     marks: &[u8],
     heads: &mut [u8],
     sizes: &mut [u8],
+    leaf: usize,
     other: &mut [u8],
 )
-    requires { ⌜ Bodies (now ins) (now outs) (now starts) (now marks) (now heads) (now sizes) (now other) ⌝ }
+    requires { ⌜ Bodies (now ins) (now outs) (now starts) (now marks) (now heads) (now sizes) (now other) × (leaf < length (now ins)) ⌝ }
     ensures { λ _. ⌜ Followed (now (ins .entry)) (now (outs .entry)) (now (starts .entry)) (now (marks .entry)) (now (heads .entry)) (now (sizes .entry)) (now (heads .exit)) (now (sizes .exit)) ⌝ }
 {
     let n = sizes.len();
-    let mut callers = [false; 16384];
-    let mut dirty = [true; 128];
-    find_callers(ins, starts, marks, n, &mut callers);
+    let mut callers = [0u8; 16384];
+    let mut dirty = [1u8; 128];
+    find_callers(ins, starts, marks, leaf, n, &mut callers);
     let mut q = 0;
     let mut clean = 0;
     while clean < n {
@@ -192,6 +225,7 @@ fn follow(
             marks,
             heads,
             sizes,
+            leaf,
             q,
             other,
             &callers,
@@ -202,7 +236,7 @@ fn follow(
     }
 }
 
-// Cuts until no right-hand side cuts any more: by sweeps, and after 8 of them along the calls before each further one.
+// Cuts until no right-hand side cuts any more: by sweeps, and after 2 of them along the calls before each further one.
 pub(crate) fn settle(
     ins: &[u8],
     outs: &[u8],
@@ -210,20 +244,21 @@ pub(crate) fn settle(
     marks: &[u8],
     heads: &mut [u8],
     sizes: &mut [u8],
+    leaf: usize,
     other: &mut [u8],
 )
-    requires { ⌜ Bodies (now ins) (now outs) (now starts) (now marks) (now heads) (now sizes) (now other) ⌝ }
-    ensures { λ _. ⌜ Settled (now (ins .entry)) (now (outs .entry)) (now (starts .entry)) (now (marks .entry)) (now (heads .entry)) (now (sizes .entry)) (now (heads .exit)) (now (sizes .exit)) ⌝ }
+    requires { ⌜ Bodies (now ins) (now outs) (now starts) (now marks) (now heads) (now sizes) (now other) × (leaf < length (now ins)) ⌝ }
+    ensures { λ _. ⌜ Settled (now (ins .entry)) (now (outs .entry)) (now (starts .entry)) (now (marks .entry)) leaf (now (heads .entry)) (now (sizes .entry)) (now (heads .exit)) (now (sizes .exit)) ⌝ }
 {
     let mut more = true;
     let mut turn: usize = 0;
     while more {
-        if turn < 8 {
+        if turn < 2 {
             turn += 1;
         } else {
-            follow(ins, outs, starts, marks, heads, sizes, other);
+            follow(ins, outs, starts, marks, heads, sizes, leaf, other);
         }
-        more = sweep(ins, outs, starts, marks, heads, sizes, other);
+        more = sweep(ins, outs, starts, marks, heads, sizes, leaf, other);
     }
 }
 
@@ -291,5 +326,5 @@ pub fn prefixes(
 {
     let leaf = leaf_symbol(ins);
     start_heads(ins, starts, marks, leaf, heads, sizes);
-    settle(ins, outs, starts, marks, heads, sizes, other);
+    settle(ins, outs, starts, marks, heads, sizes, leaf, other);
 }

@@ -73,9 +73,9 @@ pub record Bodies (ins outs starts bytes heads sizes other : List ℕ) : Type 0 
   pub layout : Layout ins outs starts bytes (length sizes)
   pub room : 4096 ≤ length other
 
--- no right-hand side of q cuts the pattern of q
-abbrev pub FixedAt : List ℕ → Transducer ℕ → (ℕ → Pattern) → ℕ → Type 0
-FixedAt ins M h q = (a : ℕ) → a < length ins → lcp (h q) (graft h (M .rhs q a)) ≡ h q
+-- no right-hand side of q cuts the pattern of q, but perhaps that for the leaf
+abbrev pub FixedAt : List ℕ → ℕ → Transducer ℕ → (ℕ → Pattern) → ℕ → Type 0
+FixedAt ins leaf M h q = (a : ℕ) → a < length ins → a ≢ leaf → lcp (h q) (graft h (M .rhs q a)) ≡ h q
 
 -- every pattern is above the common prefix of its state
 abbrev pub AllAbove : (ins : List ℕ) → Leaf ins → Transducer ℕ → ℕ → (ℕ → Pattern) → Type 0
@@ -87,17 +87,23 @@ pub record Cuts (ins : List ℕ) (M : Transducer ℕ) (n : ℕ) (h h′ : ℕ �
   pub less : b ≡ true → total h′ n < total h n
   pub kept : b ≡ false → (p : ℕ) → h′ p ≡ h p
 
--- of one state: if nothing was lost, none of its right-hand sides cuts
-pub record CutState (ins outs starts bytes : List ℕ) (q : ℕ) (heads sizes heads′ sizes′ : List ℕ) (b : Bool) : Type 0 where
+-- of the right-hand side of q and a: if nothing was lost, it does not cut, but perhaps for the leaf
+pub record CutRhs (ins outs starts bytes : List ℕ) (leaf q a : ℕ) (heads sizes heads′ sizes′ : List ℕ) (b : Bool) : Type 0 where
   pub table : Heads outs heads′ sizes′
   pub cuts : Cuts ins (machine ins outs starts bytes (length sizes)) (length sizes) (headOf outs heads sizes) (headOf outs heads′ sizes′) b
-  pub fixed : b ≡ false → FixedAt ins (machine ins outs starts bytes (length sizes)) (headOf outs heads sizes) q
+  pub fixed : b ≡ false → a ≢ leaf → lcp (headOf outs heads sizes q) (graft (headOf outs heads sizes) (machine ins outs starts bytes (length sizes) .rhs q a)) ≡ headOf outs heads sizes q
+
+-- of one state: if nothing was lost, none of its right-hand sides cuts
+pub record CutState (ins outs starts bytes : List ℕ) (leaf q : ℕ) (heads sizes heads′ sizes′ : List ℕ) (b : Bool) : Type 0 where
+  pub table : Heads outs heads′ sizes′
+  pub cuts : Cuts ins (machine ins outs starts bytes (length sizes)) (length sizes) (headOf outs heads sizes) (headOf outs heads′ sizes′) b
+  pub fixed : b ≡ false → FixedAt ins leaf (machine ins outs starts bytes (length sizes)) (headOf outs heads sizes) q
 
 -- of all of them
-pub record Swept (ins outs starts bytes heads sizes heads′ sizes′ : List ℕ) (b : Bool) : Type 0 where
+pub record Swept (ins outs starts bytes : List ℕ) (leaf : ℕ) (heads sizes heads′ sizes′ : List ℕ) (b : Bool) : Type 0 where
   pub table : Heads outs heads′ sizes′
   pub cuts : Cuts ins (machine ins outs starts bytes (length sizes)) (length sizes) (headOf outs heads sizes) (headOf outs heads′ sizes′) b
-  pub fixed : b ≡ false → (q : ℕ) → q < length sizes → FixedAt ins (machine ins outs starts bytes (length sizes)) (headOf outs heads sizes) q
+  pub fixed : b ≡ false → (q : ℕ) → q < length sizes → FixedAt ins leaf (machine ins outs starts bytes (length sizes)) (headOf outs heads sizes) q
 
 -- ---- cuts along the calls
 -- what the flags of callers ask: the bodies of at most 128 states lie where the table says
@@ -118,10 +124,10 @@ pub record Followed (ins outs starts bytes heads sizes heads′ sizes′ : List 
   pub fewer : total (headOf outs heads′ sizes′) (length sizes) ≤ total (headOf outs heads sizes) (length sizes)
 
 -- ---- the end
--- the patterns are the common prefixes, if they were above them
-pub record Settled (ins outs starts bytes heads sizes heads′ sizes′ : List ℕ) : Type 0 where
+-- the patterns are the common prefixes, if they were above them: then the right-hand side for the leaf does not cut
+pub record Settled (ins outs starts bytes : List ℕ) (leaf : ℕ) (heads sizes heads′ sizes′ : List ℕ) : Type 0 where
   pub table : Heads outs heads′ sizes′
-  pub prefs : (l : Leaf ins) → AllAbove ins l (machine ins outs starts bytes (length sizes)) (length sizes) (headOf outs heads sizes) → Prefs (alphabet ins l) (machine ins outs starts bytes (length sizes)) (λ q. q < length sizes) (headOf outs heads′ sizes′)
+  pub prefs : (l : Leaf ins) → l .symbol ≡ leaf → AllAbove ins l (machine ins outs starts bytes (length sizes)) (length sizes) (headOf outs heads sizes) → Prefs (alphabet ins l) (machine ins outs starts bytes (length sizes)) (λ q. q < length sizes) (headOf outs heads′ sizes′)
 
 -- ---- the start: the right-hand sides for a leaf, which have no calls
 -- the second bytes of the marks number `from` up to `to`

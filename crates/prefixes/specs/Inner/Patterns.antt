@@ -44,6 +44,16 @@ pub record Ended (outs s : List ℕ) (at e : ℕ) : Type 0 where
   pub inside : e ≤ length s
   pub behind : forest (topOf outs) (drop e s) ≡ rests 1 (forest (topOf outs) (drop at s))
 
+-- the n bytes of x from position i on are those of y from position j on
+abbrev pub Alike : List ℕ → ℕ → List ℕ → ℕ → ℕ → Type 0
+Alike x i y j n = (t : ℕ) → t < n → getD x (i + t) 0 ≡ getD y (j + t) 0
+
+-- and both have as many
+pub record Run (x : List ℕ) (i : ℕ) (y : List ℕ) (j n : ℕ) : Type 0 where
+  pub first : i + n ≤ length x
+  pub second : j + n ≤ length y
+  pub alike : Alike x i y j n
+
 -- the pattern x was cut to what it shares with y; cut says whether that took anything away
 pub record Met (outs x y after : List ℕ) (size : ℕ) (cut : Bool) : Type 0 where
   pub short : size ≤ length x
@@ -57,6 +67,11 @@ headAt heads sizes q = slice (64 * q) (64 * q + getD sizes q 0) heads
 -- the marks number `from` up to `to`, with the pattern of each state for its calls
 abbrev pub grafted : List ℕ → List ℕ → List ℕ → ℕ → ℕ → List ℕ
 grafted heads sizes bytes from to = spell (λ i q. headAt heads sizes q) (part bytes from to)
+
+-- an area begins with the r bytes w
+pub record Begins (w area : List ℕ) (r : ℕ) : Type 0 where
+  pub inside : r ≤ length area
+  pub wrote : take r area ≡ w
 
 -- at most 64 marks; each state called has a pattern of at most 64 bytes; the area has room for all
 pub record Graftable (heads sizes bytes : List ℕ) (from to : ℕ) (out : List ℕ) : Type 0 where

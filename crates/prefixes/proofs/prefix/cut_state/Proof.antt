@@ -1,54 +1,37 @@
--- `cut_state` meets its contract. The invariant is `StateLoop`. Assumes nothing.
+-- `cut_state` meets its contract: ⊤ stays, and for any other pattern the invariant is `StateLoop`. Assumes nothing.
 use Prim.Native.Nat.{_-_}
 use native.Mathlib.Omega.{arith}
 use mathlib.Core.Logic.{⊎-elim}
 use lib.ListN.{length}
 use borrow.Author.Needs.{needs}
-use Rattle.prefixes.proofs.Settling.{StateLoop, state-start, loop-cuttable, loop-cut, loop-none, state-end, number-fits}
+use Rattle.prefixes.proofs.Settling.{StateLoop, state-start, state-bodies, loop-cut, loop-none, state-end, top-kept}
 use Rattle.prefixes.proofs.prefix.cut_state.Statement.{statement}
 use Rattle.prefixes.proofs.prefix.cut_state.Tie as tie
 
 abbrev Inv-loop : tie.InvT-loop
-Inv-loop ins outs starts marks heads₀ sizes₀ q other₀ any₀ a₀ heads sizes other any a = StateLoop ins outs starts marks q heads₀ sizes₀ other₀ heads sizes other any a
+Inv-loop ins outs starts marks heads₀ sizes₀ leaf q other₀ any₀ a₀ heads sizes other any a = StateLoop ins outs starts marks leaf q heads₀ sizes₀ other₀ heads sizes other any a
 
 abbrev μ-loop : tie.MeasureT-loop
-μ-loop ins outs starts marks heads₀ sizes₀ q other₀ any₀ a₀ heads sizes other any a = length ins - a
+μ-loop ins outs starts marks heads₀ sizes₀ leaf q other₀ any₀ a₀ heads sizes other any a = length ins - a
+
+mul-if1 : tie.Need-mul-if1 Inv-loop μ-loop
+mul-if1 c = omega (arith, c .before .before .before .before .before .before .before .pre .0 .layout .few-states)
+
+slice-read-if1 : tie.Need-slice-read-if1 Inv-loop μ-loop
+slice-read-if1 c = omega (arith, c .before .before .before .before .before .before .before .before .pre .0 .table .long)
+
+returns : tie.Need-returns Inv-loop μ-loop
+returns c =
+    let s = c .before .before .before .before .before .before .before .before .before in
+    top-kept (s .pre .0) (s .args .leaf) (s .args .q) (s .pre .1) (c .if1 .taken)
 
 loop-holds : tie.Need-loop-holds Inv-loop μ-loop
-loop-holds c = state-start (c .before .before .before .before .before .before .before .args .q) (c .before .before .before .before .before .before .before .pre .0 .table)
+loop-holds c = state-start (c .before .before .before .before .before .before .before .before .before .args .leaf) (c .before .before .before .before .before .before .before .before .before .args .q) (c .before .before .before .before .before .before .before .before .before .pre .0 .table)
 
-mul-b : tie.Need-mul-b Inv-loop μ-loop
-mul-b c = omega (arith, number-fits (c .before .before .before .before .before .before .before .before .before .pre .0 .layout) (c .before .before .before .before .before .before .before .before .before .pre .1) (c .loop-test .taken))
-
-add-b : tie.Need-add-b Inv-loop μ-loop
-add-b c = omega (arith, number-fits (c .before .before .before .before .before .before .before .before .before .pre .0 .layout) (c .before .before .before .before .before .before .before .before .before .pre .1) (c .loop-test .taken))
-
-add-b-2 : tie.Need-add-b-2 Inv-loop μ-loop
-add-b-2 c = omega (arith, number-fits (c .before .before .before .before .before .before .before .before .before .pre .0 .layout) (c .before .before .before .before .before .before .before .before .before .pre .1) (c .loop-test .taken))
-
-mul-number : tie.Need-mul-number Inv-loop μ-loop
-mul-number c = omega (arith, number-fits (c .before .before .before .before .before .before .before .before .before .pre .0 .layout) (c .before .before .before .before .before .before .before .before .before .pre .1) (c .loop-test .taken))
-
-shared-slice-read-number : tie.Need-shared-slice-read-number Inv-loop μ-loop
-shared-slice-read-number c = omega (arith, number-fits (c .before .before .before .before .before .before .before .before .before .before .pre .0 .layout) (c .before .before .before .before .before .before .before .before .before .before .pre .1) (c .before .loop-test .taken))
-
-number-requires : tie.Need-number-requires Inv-loop μ-loop
-number-requires c κs = search needs
-
-add-number : tie.Need-add-number Inv-loop μ-loop
-add-number c = omega (arith, number-fits (c .before .before .before .before .before .before .before .before .before .before .before .pre .0 .layout) (c .before .before .before .before .before .before .before .before .before .before .before .pre .1) (c .before .before .loop-test .taken))
-
-mul-number-2 : tie.Need-mul-number-2 Inv-loop μ-loop
-mul-number-2 c = omega (arith, number-fits (c .before .before .before .before .before .before .before .before .before .before .before .pre .0 .layout) (c .before .before .before .before .before .before .before .before .before .before .before .pre .1) (c .before .before .loop-test .taken))
-
-shared-slice-read-number-2 : tie.Need-shared-slice-read-number-2 Inv-loop μ-loop
-shared-slice-read-number-2 c = omega (arith, number-fits (c .before .before .before .before .before .before .before .before .before .before .before .before .pre .0 .layout) (c .before .before .before .before .before .before .before .before .before .before .before .before .pre .1) (c .before .before .before .loop-test .taken))
-
-number-requires-2 : tie.Need-number-requires-2 Inv-loop μ-loop
-number-requires-2 c κs = search needs
-
-cut-by-requires : tie.Need-cut-by-requires Inv-loop μ-loop
-cut-by-requires c κs = loop-cuttable (c .before .before .before .before .before .before .before .before .before .before .before .before .before .before .before .before .pre .0) (c .before .before .before .before .before .before .before .before .before .before .before .before .before .before .before .before .pre .1) (c .before .before .before .before .before .before .before .before .loop .inv) (c .before .before .before .before .before .before .before .loop-test .taken) (c .before .before .before .before .before .number .ensures) (c .before .before .before .number2 .ensures)
+cut-rhs-requires : tie.Need-cut-rhs-requires Inv-loop μ-loop
+cut-rhs-requires c κs =
+    let L = c .before .before .before .before .loop .inv in
+    (state-bodies (c .before .before .before .before .before .before .before .before .before .before .before .before .before .before .pre .0) L, omega (arith, L .same-sizes, c .before .before .before .before .before .before .before .before .before .before .before .before .before .before .pre .1), c .before .before .before .loop-test .taken)
 
 add-a : tie.Need-add-a Inv-loop μ-loop
 add-a c = search needs
@@ -58,8 +41,11 @@ loop-less c = search needs
 
 loop-again : tie.Need-loop-again Inv-loop μ-loop
 loop-again c =
-    let k = c .before .before .before .before .before .before .before .cut-by in
-    ⊎-elim (λ w. loop-cut (c .before .before .before .before .before .before .before .before .before .before .before .before .before .before .before .before .before .before .before .before .before .before .before .before .pre .0) (c .before .before .before .before .before .before .before .before .before .before .before .before .before .before .before .before .before .before .before .before .before .before .before .before .pre .1) (c .before .before .before .before .before .before .before .before .before .before .before .before .before .before .before .before .loop .inv) (c .before .before .before .before .before .before .before .before .before .before .before .before .before .before .before .loop-test .taken) (c .before .before .before .before .before .before .before .before .before .before .before .before .before .number .ensures) (c .before .before .before .before .before .before .before .before .before .before .before .number2 .ensures) (k .ensures) (k .kept .1 .0) (k .kept .1 .1 .0) (k .kept .1 .1 .1 .1 .1 .1 .1 .0) (w .0 .taken) (w .1)) (λ w. loop-none (c .before .before .before .before .before .before .before .before .before .before .before .before .before .before .before .before .before .before .before .before .before .before .before .before .pre .0) (c .before .before .before .before .before .before .before .before .before .before .before .before .before .before .before .before .before .before .before .before .before .before .before .before .pre .1) (c .before .before .before .before .before .before .before .before .before .before .before .before .before .before .before .before .loop .inv) (c .before .before .before .before .before .before .before .before .before .before .before .before .before .before .before .loop-test .taken) (c .before .before .before .before .before .before .before .before .before .before .before .before .before .number .ensures) (c .before .before .before .before .before .before .before .before .before .before .before .number2 .ensures) (k .ensures) (k .kept .1 .0) (k .kept .1 .1 .0) (k .kept .1 .1 .1 .1 .1 .1 .1 .0) (w .0 .left) (w .1)) (c .if1 .came)
+    let B = c .before .before .before .before .before .before .before .before .before .before .before .before .before .before .before .before .before .before .before .before .before .before .pre .0 in
+    let L = c .before .before .before .before .before .before .before .before .before .before .before .before .loop .inv in
+    let t = c .before .before .before .before .before .before .before .before .before .before .before .loop-test .taken in
+    let k = c .before .before .before .before .before .before .before .cut-rhs in
+    ⊎-elim (λ w. loop-cut B L t (k .ensures) (k .kept .1 .1 .1 .1 .0) (k .kept .1 .1 .1 .1 .1 .0) (k .kept .1 .1 .1 .1 .1 .1 .1 .1 .1 .0) (w .0 .taken) (w .1)) (λ w. loop-none B L t (k .ensures) (k .kept .1 .1 .1 .1 .0) (k .kept .1 .1 .1 .1 .1 .0) (k .kept .1 .1 .1 .1 .1 .1 .1 .1 .1 .0) (w .0 .left) (w .1)) (c .if2 .came)
 
 same-length : tie.Need-same-length Inv-loop μ-loop
 same-length c = c .before .loop .inv .same-heads
@@ -70,8 +56,8 @@ same-length-2 c = c .before .loop .inv .same-sizes
 same-length-3 : tie.Need-same-length-3 Inv-loop μ-loop
 same-length-3 c = c .before .loop .inv .same-other
 
-returns : tie.Need-returns Inv-loop μ-loop
-returns c = state-end (c .before .before .before .before .before .before .before .before .before .pre .0) (c .before .before .before .before .before .before .before .before .before .pre .1) (c .before .loop .inv) (c .loop-test .left)
+returns-2 : tie.Need-returns-2 Inv-loop μ-loop
+returns-2 c = state-end (c .before .before .before .before .before .before .before .before .before .before .before .pre .0) (c .before .loop .inv) (c .loop-test .left)
 
 pub cut-state-spec : {M : Type 1} → statement M
 cut-state-spec =
@@ -79,22 +65,15 @@ cut-state-spec =
     (tie.spec
     Inv-loop
     μ-loop
+    mul-if1
+    slice-read-if1
+    returns
     loop-holds
-    mul-b
-    add-b
-    add-b-2
-    mul-number
-    shared-slice-read-number
-    number-requires
-    add-number
-    mul-number-2
-    shared-slice-read-number-2
-    number-requires-2
-    cut-by-requires
+    cut-rhs-requires
     add-a
     loop-less
     loop-again
     same-length
     same-length-2
     same-length-3
-    returns)
+    returns-2)

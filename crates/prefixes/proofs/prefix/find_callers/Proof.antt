@@ -11,10 +11,10 @@ use Rattle.prefixes.proofs.prefix.find_callers.Statement.{statement}
 use Rattle.prefixes.proofs.prefix.find_callers.Tie as tie
 
 abbrev Inv-loop : tie.InvT-loop
-Inv-loop ins starts marks n callers₀ p₀ callers p = length callers ≡ length callers₀
+Inv-loop ins starts marks leaf n callers₀ p₀ callers p = length callers ≡ length callers₀
 
 abbrev μ-loop : tie.MeasureT-loop
-μ-loop ins starts marks n callers₀ p₀ callers p = n - p
+μ-loop ins starts marks leaf n callers₀ p₀ callers p = n - p
 
 -- the numbers of the first body of the state, and of the next, are in the table of starts
 fits : (c : tie.In-loop Inv-loop μ-loop) → (1 + c .before .loop .p * length (now (c .before .before .before .before .before .before .args .ins)) + length (now (c .before .before .before .before .before .before .args .ins)) < 2050) × (1 + c .before .loop .p * length (now (c .before .before .before .before .before .before .args .ins)) + length (now (c .before .before .before .before .before .before .args .ins)) ≤ bodyCount (now (c .before .before .before .before .before .before .args .ins)) (c .before .before .before .before .before .before .args .n))
@@ -33,25 +33,59 @@ mul-number : tie.Need-mul-number Inv-loop μ-loop
 mul-number c = omega (arith, fits (c))
 
 shared-slice-read-number : tie.Need-shared-slice-read-number Inv-loop μ-loop
-shared-slice-read-number c = omega (arith, fits (c .before))
+shared-slice-read-number c = omega (arith, fits (c .before), c .before .before .before .before .before .before .before .pre .0 .laid .long)
 
 number-requires : tie.Need-number-requires Inv-loop μ-loop
 number-requires c κs = search needs
 
 add-number : tie.Need-add-number Inv-loop μ-loop
-add-number c = omega (arith, fits (c .before .before))
+add-number c = omega (arith, fits (c .before .before), c .before .before .before .before .before .before .before .before .pre .1)
 
 mul-number-2 : tie.Need-mul-number-2 Inv-loop μ-loop
 mul-number-2 c = omega (arith, fits (c .before .before))
 
 shared-slice-read-number-2 : tie.Need-shared-slice-read-number-2 Inv-loop μ-loop
-shared-slice-read-number-2 c = omega (arith, fits (c .before .before .before))
+shared-slice-read-number-2 c = omega (arith, fits (c .before .before .before), c .before .before .before .before .before .before .before .before .before .pre .1, c .before .before .before .before .before .before .before .before .before .pre .0 .laid .long)
 
 number-requires-2 : tie.Need-number-requires-2 Inv-loop μ-loop
 number-requires-2 c κs = search needs
 
 flag-calls-requires : tie.Need-flag-calls-requires Inv-loop μ-loop
-flag-calls-requires c κs = (omega (arith, c .before .before .before .before .before .before .before .before .before .before .before .pre .0 .laid .inside _ (fits (c .before .before .before .before .before) .1)), omega arith, omega arith)
+flag-calls-requires c κs =
+    let w = fits (c .before .before .before .before .before) in
+    (omega (arith, w, c .before .before .before .before .before .before .before .before .before .before .before .pre .1, c .before .before .before .before .before .before .before .before .before .before .before .pre .0 .laid .inside (1 + c .before .before .before .before .before .before .loop .p * length (now (c .before .before .before .before .before .before .before .before .before .before .before .args .ins)) + c .before .before .before .before .before .before .before .before .before .before .before .args .leaf) (omega (arith, w, c .before .before .before .before .before .before .before .before .before .before .before .pre .1)), c .before .number2 .ensures), omega (arith, c .before .before .before .before .before .before .before .before .before .before .before .pre .0 .few-states, c .before .before .before .before .before .loop-test .taken), omega arith)
+
+add-number-2 : tie.Need-add-number-2 Inv-loop μ-loop
+add-number-2 c = omega (arith, fits (c .before .before .before .before .before .before .before .before), c .before .before .before .before .before .before .before .before .before .before .before .before .before .before .pre .1)
+
+add-number-3 : tie.Need-add-number-3 Inv-loop μ-loop
+add-number-3 c = omega (arith, fits (c .before .before .before .before .before .before .before .before), c .before .before .before .before .before .before .before .before .before .before .before .before .before .before .pre .1)
+
+mul-number-3 : tie.Need-mul-number-3 Inv-loop μ-loop
+mul-number-3 c = omega (arith, fits (c .before .before .before .before .before .before .before .before))
+
+shared-slice-read-number-3 : tie.Need-shared-slice-read-number-3 Inv-loop μ-loop
+shared-slice-read-number-3 c = omega (arith, fits (c .before .before .before .before .before .before .before .before .before), c .before .before .before .before .before .before .before .before .before .before .before .before .before .before .before .pre .1, c .before .before .before .before .before .before .before .before .before .before .before .before .before .before .before .pre .0 .laid .long)
+
+number-requires-3 : tie.Need-number-requires-3 Inv-loop μ-loop
+number-requires-3 c κs = search needs
+
+add-number-4 : tie.Need-add-number-4 Inv-loop μ-loop
+add-number-4 c = omega (arith, fits (c .before .before .before .before .before .before .before .before .before .before))
+
+mul-number-4 : tie.Need-mul-number-4 Inv-loop μ-loop
+mul-number-4 c = omega (arith, fits (c .before .before .before .before .before .before .before .before .before .before))
+
+shared-slice-read-number-4 : tie.Need-shared-slice-read-number-4 Inv-loop μ-loop
+shared-slice-read-number-4 c = omega (arith, fits (c .before .before .before .before .before .before .before .before .before .before .before), c .before .before .before .before .before .before .before .before .before .before .before .before .before .before .before .before .before .pre .0 .laid .long)
+
+number-requires-4 : tie.Need-number-requires-4 Inv-loop μ-loop
+number-requires-4 c κs = search needs
+
+flag-calls-requires-2 : tie.Need-flag-calls-requires-2 Inv-loop μ-loop
+flag-calls-requires-2 c κs =
+    let w = fits (c .before .before .before .before .before .before .before .before .before .before .before .before .before) in
+    (omega (arith, w, c .before .before .before .before .before .before .before .before .before .before .before .before .before .before .before .before .before .before .before .pre .0 .laid .inside (1 + c .before .before .before .before .before .before .before .before .before .before .before .before .before .before .loop .p * length (now (c .before .before .before .before .before .before .before .before .before .before .before .before .before .before .before .before .before .before .before .args .ins)) + length (now (c .before .before .before .before .before .before .before .before .before .before .before .before .before .before .before .before .before .before .before .args .ins))) (w .1), c .before .number4 .ensures), omega (arith, c .before .before .before .before .before .before .before .before .before .before .before .before .before .before .before .before .before .before .before .pre .0 .few-states, c .before .before .before .before .before .before .before .before .before .before .before .before .before .loop-test .taken), omega (arith, c .before .before .before .before .before .before .before .flag-calls .kept, c .before .before .before .before .before .before .before .before .before .before .before .before .before .before .loop .inv, c .before .before .before .before .before .before .before .before .before .before .before .before .before .before .before .before .before .before .before .pre .2))
 
 add-p : tie.Need-add-p Inv-loop μ-loop
 add-p c = search needs
@@ -85,6 +119,16 @@ find-callers-spec =
     shared-slice-read-number-2
     number-requires-2
     flag-calls-requires
+    add-number-2
+    add-number-3
+    mul-number-3
+    shared-slice-read-number-3
+    number-requires-3
+    add-number-4
+    mul-number-4
+    shared-slice-read-number-4
+    number-requires-4
+    flag-calls-requires-2
     add-p
     loop-less
     loop-again

@@ -1,8 +1,7 @@
 -- `flag_callers` meets its contract. The flags stay as many as they are. Assumes nothing.
 use Prim.Native.Nat.{_-_}
-use mathlib.Core.Logic.{⊎-elim}
-use mathlib.Core.Path.{_≡_, ap, _∙_}
-use lib.ListN.{length, length-set}
+use mathlib.Core.Path.{_≡_}
+use lib.ListN.{length}
 use borrow.Author.Needs.{needs}
 use Rattle.prefixes.proofs.prefix.flag_callers.Statement.{statement}
 use Rattle.prefixes.proofs.prefix.flag_callers.Tie as tie
@@ -16,6 +15,9 @@ abbrev μ-loop : tie.MeasureT-loop
 loop-holds : tie.Need-loop-holds Inv-loop μ-loop
 loop-holds c = search needs
 
+slice-read-flag : tie.Need-slice-read-flag Inv-loop μ-loop
+slice-read-flag c = search needs
+
 mul-if1 : tie.Need-mul-if1 Inv-loop μ-loop
 mul-if1 c = search needs
 
@@ -24,6 +26,15 @@ add-if1 c = search needs
 
 shared-slice-read-if1 : tie.Need-shared-slice-read-if1 Inv-loop μ-loop
 shared-slice-read-if1 c = search needs
+
+mul-flag : tie.Need-mul-flag Inv-loop μ-loop
+mul-flag c = search needs
+
+add-flag : tie.Need-add-flag Inv-loop μ-loop
+add-flag c = search needs
+
+shared-slice-read-flag : tie.Need-shared-slice-read-flag Inv-loop μ-loop
+shared-slice-read-flag c = search needs
 
 slice-write-dirty : tie.Need-slice-write-dirty Inv-loop μ-loop
 slice-write-dirty c = search needs
@@ -35,7 +46,7 @@ loop-less : tie.Need-loop-less Inv-loop μ-loop
 loop-less c = search needs
 
 loop-again : tie.Need-loop-again Inv-loop μ-loop
-loop-again c = ⊎-elim (λ w. ap length (w .1) ∙ simp length-set (c .before .before .before .loop .inv)) (λ w. ap length (w .1) ∙ c .before .before .before .loop .inv) (c .if1 .came)
+loop-again c = search needs
 
 same-length : tie.Need-same-length Inv-loop μ-loop
 same-length c = search needs
@@ -50,9 +61,13 @@ flag-callers-spec =
     Inv-loop
     μ-loop
     loop-holds
+    slice-read-flag
     mul-if1
     add-if1
     shared-slice-read-if1
+    mul-flag
+    add-flag
+    shared-slice-read-flag
     slice-write-dirty
     add-p
     loop-less

@@ -9,34 +9,34 @@ use Rattle.prefixes.proofs.prefix.settle.Statement.{statement}
 use Rattle.prefixes.proofs.prefix.settle.Tie as tie
 
 abbrev Inv-loop : tie.InvT-loop
-Inv-loop ins outs starts marks heads₀ sizes₀ other₀ more₀ turn₀ heads sizes other more turn = SettleLoop ins outs starts marks heads₀ sizes₀ other₀ heads sizes other more
+Inv-loop ins outs starts marks heads₀ sizes₀ leaf other₀ more₀ turn₀ heads sizes other more turn = SettleLoop ins outs starts marks leaf heads₀ sizes₀ other₀ heads sizes other more
 
 abbrev μ-loop : tie.MeasureT-loop
-μ-loop ins outs starts marks heads₀ sizes₀ other₀ more₀ turn₀ heads sizes other more turn = left outs heads sizes more
+μ-loop ins outs starts marks heads₀ sizes₀ leaf other₀ more₀ turn₀ heads sizes other more turn = left outs heads sizes more
 
 loop-holds : tie.Need-loop-holds Inv-loop μ-loop
-loop-holds c = settle-start (c .before .before .before .before .before .before .before .pre .table)
+loop-holds c = settle-start (c .before .before .before .before .before .before .before .args .leaf) (c .before .before .before .before .before .before .before .pre .0 .table)
 
 add-turn : tie.Need-add-turn Inv-loop μ-loop
 add-turn c = search needs
 
 follow-requires : tie.Need-follow-requires Inv-loop μ-loop
-follow-requires c κs = settle-bodies (c .before .before .before .before .before .before .before .before .before .before .before .before .before .pre) (c .before .before .before .before .before .loop .inv)
+follow-requires c κs = (settle-bodies (c .before .before .before .before .before .before .before .before .before .before .before .before .before .pre .0) (c .before .before .before .before .before .loop .inv), c .before .before .before .before .before .before .before .before .before .before .before .before .before .pre .1)
 
 -- the table before the sweep
-between : (c : tie.Joined1 Inv-loop μ-loop) → Between (now (c .before .before .before .before .before .before .before .before .before .before .args .ins)) (now (c .before .before .before .before .before .before .before .before .before .before .args .outs)) (now (c .before .before .before .before .before .before .before .before .before .before .args .starts)) (now (c .before .before .before .before .before .before .before .before .before .before .args .marks)) (now (c .before .before .before .before .before .before .before .before .before .before .args .heads)) (now (c .before .before .before .before .before .before .before .before .before .before .args .sizes)) (now (c .before .before .before .before .before .before .before .before .before .before .args .other)) (c .before .before .loop .heads) (c .before .before .loop .sizes) (c .before .before .loop .more) (c .if1 .heads) (c .if1 .sizes) (c .if1 .other)
+between : (c : tie.Joined1 Inv-loop μ-loop) → Between (now (c .before .before .before .before .before .before .before .before .before .before .args .ins)) (now (c .before .before .before .before .before .before .before .before .before .before .args .outs)) (now (c .before .before .before .before .before .before .before .before .before .before .args .starts)) (now (c .before .before .before .before .before .before .before .before .before .before .args .marks)) (c .before .before .before .before .before .before .before .before .before .before .args .leaf) (now (c .before .before .before .before .before .before .before .before .before .before .args .heads)) (now (c .before .before .before .before .before .before .before .before .before .before .args .sizes)) (now (c .before .before .before .before .before .before .before .before .before .before .args .other)) (c .before .before .loop .heads) (c .before .before .loop .sizes) (c .before .before .loop .more) (c .if1 .heads) (c .if1 .sizes) (c .if1 .other)
 between c =
     let L = c .before .before .loop .inv in
-    ⊎-elim (λ w. between-none L (c .before .loop-test .taken) (w .1) (w .2) (w .3)) (λ w. let k = w .4 in rw (w .11, w .12, w .13) (between-some L (c .before .loop-test .taken) (k .ensures) (k .kept .1 .1 .1 .1 .0) (k .kept .1 .1 .1 .1 .1 .0) (k .kept .1 .1 .1 .1 .1 .1 .0))) (c .if1 .came)
+    ⊎-elim (λ w. between-none L (c .before .loop-test .taken) (w .1) (w .2) (w .3)) (λ w. let k = w .4 in rw (w .11, w .12, w .13) (between-some L (c .before .loop-test .taken) (k .ensures) (k .kept .1 .1 .1 .1 .0) (k .kept .1 .1 .1 .1 .1 .0) (k .kept .1 .1 .1 .1 .1 .1 .1 .0))) (c .if1 .came)
 
 sweep-requires : tie.Need-sweep-requires Inv-loop μ-loop
-sweep-requires c κs = settle-bodies (c .before .before .before .before .before .before .before .before .before .before .before .before .before .pre) (between (c .before .before .before) .loop)
+sweep-requires c κs = settle-bodies (c .before .before .before .before .before .before .before .before .before .before .before .before .before .pre .0) (between (c .before .before .before) .loop)
 
 loop-less : tie.Need-loop-less Inv-loop μ-loop
-loop-less c = let k = c .before .before .before .before .before .before .sweep in let m = between (c .before .before .before .before .before .before .before .before .before .before) in omega (arith, m .fewer, settle-less (c .before .before .before .before .before .before .before .before .before .before .before .before .before .before .before .before .before .before .before .before .pre) (m .loop) (k .ensures) (k .kept .1 .1 .1 .1 .0) (k .kept .1 .1 .1 .1 .1 .0) refl)
+loop-less c = let k = c .before .before .before .before .before .before .sweep in let m = between (c .before .before .before .before .before .before .before .before .before .before) in omega (arith, m .fewer, settle-less (c .before .before .before .before .before .before .before .before .before .before .before .before .before .before .before .before .before .before .before .before .pre .0) (m .loop) (k .ensures) (k .kept .1 .1 .1 .1 .0) (k .kept .1 .1 .1 .1 .1 .0) refl)
 
 loop-again : tie.Need-loop-again Inv-loop μ-loop
-loop-again c = let k = c .before .before .before .before .before .before .sweep in settle-next (c .before .before .before .before .before .before .before .before .before .before .before .before .before .before .before .before .before .before .before .before .pre) (between (c .before .before .before .before .before .before .before .before .before .before) .loop) (k .ensures) (k .kept .1 .1 .1 .1 .0) (k .kept .1 .1 .1 .1 .1 .0) (k .kept .1 .1 .1 .1 .1 .1 .0)
+loop-again c = let k = c .before .before .before .before .before .before .sweep in settle-next (c .before .before .before .before .before .before .before .before .before .before .before .before .before .before .before .before .before .before .before .before .pre .0) (between (c .before .before .before .before .before .before .before .before .before .before) .loop) (k .ensures) (k .kept .1 .1 .1 .1 .0) (k .kept .1 .1 .1 .1 .1 .0) (k .kept .1 .1 .1 .1 .1 .1 .1 .0)
 
 same-length : tie.Need-same-length Inv-loop μ-loop
 same-length c = c .before .loop .inv .same-heads
@@ -48,7 +48,7 @@ same-length-3 : tie.Need-same-length-3 Inv-loop μ-loop
 same-length-3 c = c .before .loop .inv .same-other
 
 returns : tie.Need-returns Inv-loop μ-loop
-returns c = settle-end (c .before .before .before .before .before .before .before .before .before .pre) (c .before .loop .inv) (c .loop-test .left)
+returns c = settle-end (c .before .before .before .before .before .before .before .before .before .pre .0) (c .before .loop .inv) (c .loop-test .left)
 
 pub settle-spec : {M : Type 1} → statement M
 settle-spec =

@@ -9,13 +9,13 @@ use Rattle.prefixes.proofs.prefix.sweep.Statement.{statement}
 use Rattle.prefixes.proofs.prefix.sweep.Tie as tie
 
 abbrev Inv-loop : tie.InvT-loop
-Inv-loop ins outs starts marks heads₀ sizes₀ other₀ any₀ q₀ heads sizes other any q = SweepLoop ins outs starts marks heads₀ sizes₀ other₀ heads sizes other any q
+Inv-loop ins outs starts marks heads₀ sizes₀ leaf other₀ any₀ q₀ heads sizes other any q = SweepLoop ins outs starts marks leaf heads₀ sizes₀ other₀ heads sizes other any q
 
 abbrev μ-loop : tie.MeasureT-loop
-μ-loop ins outs starts marks heads₀ sizes₀ other₀ any₀ q₀ heads sizes other any q = length sizes₀ - q
+μ-loop ins outs starts marks heads₀ sizes₀ leaf other₀ any₀ q₀ heads sizes other any q = length sizes₀ - q
 
 loop-holds : tie.Need-loop-holds Inv-loop μ-loop
-loop-holds c = sweep-start (c .before .before .before .before .before .before .before .pre .table)
+loop-holds c = sweep-start (c .before .before .before .before .before .before .before .args .leaf) (c .before .before .before .before .before .before .before .pre .table)
 
 cut-state-requires : tie.Need-cut-state-requires Inv-loop μ-loop
 cut-state-requires c κs = (sweep-bodies (c .before .before .before .before .before .before .before .before .before .before .before .before .pre) (c .before .before .before .before .loop .inv), c .before .before .before .loop-test .taken)
@@ -29,7 +29,7 @@ loop-less c = omega (arith, c .before .before .before .before .before .before .b
 loop-again : tie.Need-loop-again Inv-loop μ-loop
 loop-again c =
     let k = c .before .before .before .before .before .before .before .cut-state in
-    ⊎-elim (λ w. sweep-cut (c .before .before .before .before .before .before .before .before .before .before .before .before .before .before .before .before .before .before .before .before .pre) (c .before .before .before .before .before .before .before .before .before .before .before .before .loop .inv) (c .before .before .before .before .before .before .before .before .before .before .before .loop-test .taken) (k .ensures) (k .kept .1 .1 .1 .1 .0) (k .kept .1 .1 .1 .1 .1 .0) (k .kept .1 .1 .1 .1 .1 .1 .1 .0) (w .0 .taken) (w .1)) (λ w. sweep-none (c .before .before .before .before .before .before .before .before .before .before .before .before .before .before .before .before .before .before .before .before .pre) (c .before .before .before .before .before .before .before .before .before .before .before .before .loop .inv) (c .before .before .before .before .before .before .before .before .before .before .before .loop-test .taken) (k .ensures) (k .kept .1 .1 .1 .1 .0) (k .kept .1 .1 .1 .1 .1 .0) (k .kept .1 .1 .1 .1 .1 .1 .1 .0) (w .0 .left) (w .1)) (c .if1 .came)
+    ⊎-elim (λ w. sweep-cut (c .before .before .before .before .before .before .before .before .before .before .before .before .before .before .before .before .before .before .before .before .pre) (c .before .before .before .before .before .before .before .before .before .before .before .before .loop .inv) (c .before .before .before .before .before .before .before .before .before .before .before .loop-test .taken) (k .ensures) (k .kept .1 .1 .1 .1 .0) (k .kept .1 .1 .1 .1 .1 .0) (k .kept .1 .1 .1 .1 .1 .1 .1 .1 .0) (w .0 .taken) (w .1)) (λ w. sweep-none (c .before .before .before .before .before .before .before .before .before .before .before .before .before .before .before .before .before .before .before .before .pre) (c .before .before .before .before .before .before .before .before .before .before .before .before .loop .inv) (c .before .before .before .before .before .before .before .before .before .before .before .loop-test .taken) (k .ensures) (k .kept .1 .1 .1 .1 .0) (k .kept .1 .1 .1 .1 .1 .0) (k .kept .1 .1 .1 .1 .1 .1 .1 .1 .0) (w .0 .left) (w .1)) (c .if1 .came)
 
 same-length : tie.Need-same-length Inv-loop μ-loop
 same-length c = c .before .loop .inv .same-heads
