@@ -29,11 +29,11 @@ use Rattle.canonical.specs.Inner.Classes.{keyOf, keyed, bodyMarks, SameB
 -- ---- one key
 module _ (classes : List ℕ) where
   -- symbols have their own keys
-  key-symbol : (i x : ℕ) → i ≡ 0 → keyOf classes (i, x) ≡ (0, x)
+  pub key-symbol : (i x : ℕ) → i ≡ 0 → keyOf classes (i, x) ≡ (0, x)
   unfolding keyOf
   key-symbol i x e = rw e
 
-  key-call : (i q : ℕ) → 0 < i → keyOf classes (i, q) ≡ (i, at classes q)
+  pub key-call : (i q : ℕ) → 0 < i → keyOf classes (i, q) ≡ (i, at classes q)
   unfolding keyOf
   key-call ℕ.zero q h = absurd (omega arith)
   key-call (suc i) q h = refl

@@ -35,7 +35,7 @@ use Rattle.prefixes.proofs.Settling.{number-fits}
 use Rattle.earliest.specs.Inner.Packed.{Packed}
 use Rattle.canonical.specs.Inner.Classes.{keyOf, keyed, bodyMarks, at, Keyable}
 use Rattle.canonical.specs.Inner.Quotients.{Mergeable, Merges, Keys, sizeOf, Front, Copied, Kept, Copyable, Copies, StateMergeable, MergesState}
-use Rattle.canonical.proofs.Refining.{class-below, least-below, classes-few}
+use Rattle.canonical.proofs.Numbering.{class-below, least-below, classes-few}
 
 -- ---- classes in the order of their least members
 module _ {c least : ℕ → ℕ} where

@@ -19,9 +19,9 @@ use Rattle.prefixes.specs.Alphabet.{alphabet, children-inside}
 use Rattle.prefixes.specs.Inner.Heads.{machine}
 use Rattle.prefixes.proofs.Settling.{machine-wf}
 use Rattle.canonical.specs.Inner.Classes.{Settles}
-use Rattle.canonical.specs.Inner.Normal.{Reducible, Zeros, Reduces}
+use Rattle.canonical.specs.Inner.Normal.{Reducible, Reduces}
 use Rattle.canonical.specs.Inner.Quotients.{Mergeable, Merges}
-use Rattle.canonical.proofs.Refining.{classes-few}
+use Rattle.canonical.proofs.Numbering.{classes-few}
 
 -- the quotient by the classes of equivalent states is the normal form of an earliest and numbered transducer
 reduces : {ins outs starts bytes classes least starts′ out : List ℕ} {k count : ℕ} → Reducible ins outs starts bytes k → Settles ins starts bytes classes least k count → Merges ins outs starts bytes classes least k count starts′ out → Reduces ins outs starts bytes k starts′ out count
@@ -54,25 +54,13 @@ module _ {ins outs starts bytes classes least : List ℕ} {n count : ℕ} (R : R
 abbrev zeros : ℕ → List ℕ
 zeros n = replicate {A = ℕ} n 0
 
--- a part of an array of zeros
-zeros-at : (n m q : ℕ) → getD (take m (zeros n)) q 0 ≡ 0
-unfolding replicate take getD
-zeros-at ℕ.zero ℕ.zero q = refl
-zeros-at ℕ.zero (suc m) q = refl
-zeros-at (suc n) ℕ.zero q = refl
-zeros-at (suc n) (suc m) ℕ.zero = refl
-zeros-at (suc n) (suc m) (suc q) = zeros-at n m q
-
-zeros-part : (n k : ℕ) → k ≤ n → (length (take (k - 0) (zeros n)) ≡ k) × Zeros (take (k - 0) (zeros n))
-zeros-part n k h = (rw (sub-zero k) (length-take-le k (zeros n) (omega (arith, length-replicate {A = ℕ} n 0))), λ q l. zeros-at n (k - 0) q)
-
 -- with a byte for each state in two such parts
 module _ {ins outs starts bytes : List ℕ} (k : ℕ) (R : Reducible ins outs starts bytes k) where
   part-long : length (take (k - 0) (zeros 128)) ≡ k
-  part-long = zeros-part 128 k (R .layout .few-states) .0
+  part-long = rw (sub-zero k) (length-take-le k (zeros 128) (omega (arith, length-replicate {A = ℕ} 128 0, R .layout .few-states)))
 
-  pub reducible-part : Reducible ins outs starts bytes (length (take (k - 0) (zeros 128))) × Zeros (take (k - 0) (zeros 128)) × (length (take (k - 0) (zeros 128)) ≡ length (take (k - 0) (zeros 128)))
-  reducible-part = (rw part-long R, zeros-part 128 k (R .layout .few-states) .1, refl)
+  pub reducible-part : Reducible ins outs starts bytes (length (take (k - 0) (zeros 128)))
+  reducible-part = rw part-long R
 
   pub reduces-part : {starts′ out : List ℕ} {n : ℕ} → Reduces ins outs starts bytes (length (take (k - 0) (zeros 128))) starts′ out n → Reduces ins outs starts bytes k starts′ out n
   reduces-part G = rw part-long at G

@@ -1,12 +1,13 @@
-// Classes of equivalent states: all states are one class at first, and are parted until those of one class have the same
-// right-hand sides, up to the classes of the states called.
-ghost use Prim.Native.Nat.{ℕ, _+_, _≤_, _<_};
+// Classes of equivalent states: those with like right-hand sides are one class at first, and are parted until states of one class
+// have the same right-hand sides, up to the classes of the states called.
+ghost use Prim.Native.Nat.{_+_, _*_, _≤_, _<_};
 ghost use mathlib.Core.Path.{_≡_};
-ghost use lib.ListN.{length, getD};
+ghost use lib.ListN.{length};
 ghost use Rattle.formats.specs.Inner.Layout.{bodyCount};
 ghost use Rattle.formats.specs.Inner.Marked.{part};
 ghost use Rattle.formats.specs.Refusal.{Decides};
-ghost use Rattle.canonical.specs.Inner.Classes.{keyed, Keyable, SameBodies, SameStates, Classed, FindsClass, Refines, Settles};
+ghost use Rattle.canonical.specs.Inner.Classes.{keyed, Keyable, SameBodies, SameStates, Classed, patternByte, Patterned, Numbers, Settles};
+use crate::parting::part_classes;
 use formats::bytes::number;
 use formats::bytes::wide;
 use formats::file::copy_at;
@@ -52,7 +53,14 @@ fn same_bodies(ins: &[u8], starts: &[u16], marks: &[u8], classes: &[u8], i: usiz
 }
 
 // Whether states p and q have the same right-hand sides up to classes.
-fn same_states(ins: &[u8], starts: &[u16], marks: &[u8], classes: &[u8], p: usize, q: usize) -> bool
+pub(crate) fn same_states(
+    ins: &[u8],
+    starts: &[u16],
+    marks: &[u8],
+    classes: &[u8],
+    p: usize,
+    q: usize,
+) -> bool
     requires { ⌜ Classed (now ins) (now starts) (now marks) (now classes) × (p < length (now classes)) × (q < length (now classes)) ⌝ }
     ensures { λ b. ⌜ Decides (SameStates (now (ins .entry)) (now (starts .entry)) (now (marks .entry)) (now (classes .entry)) p q) b ⌝ }
 {
@@ -73,72 +81,62 @@ fn same_states(ins: &[u8], starts: &[u16], marks: &[u8], classes: &[u8], p: usiz
     true
 }
 
-// The new class of state p: that of the first least member which is in its old class and has the same right-hand sides up to old classes; else `count`.
-fn find_class(
-    ins: &[u8],
-    starts: &[u16],
-    marks: &[u8],
-    old: &[u8],
-    least: &[u8],
-    count: usize,
-    p: usize,
-) -> usize
-    requires { ⌜ Classed (now ins) (now starts) (now marks) (now old) × (p < length (now old)) × (count ≤ length (now least)) × ((k : ℕ) → k < count → getD (now least) k 0 < length (now old)) ⌝ }
-    ensures { λ k. ⌜ FindsClass (now (ins .entry)) (now (starts .entry)) (now (marks .entry)) (now (old .entry)) (now (least .entry)) count p k ⌝ }
+// A byte of the marks number `from` up to `to`, which does not depend on the states called.
+fn pattern_byte(marks: &[u8], from: usize, to: usize) -> u8
+    requires { ⌜ (from ≤ to) × (2 * to ≤ length (now marks)) ⌝ }
+    ensures { λ h. ⌜ h ≡ patternByte (now (marks .entry)) from to ⌝ }
 {
-    let mut k = 0;
-    while k < count {
-        let q = wide(least[k]);
-        if old[q] == old[p] {
-            if same_states(ins, starts, marks, old, q, p) {
-                return k;
-            }
+    let mut h: usize = 0;
+    let mut j = from;
+    while j < to {
+        let i = wide(marks[2 * j]);
+        let mut x = wide(marks[2 * j + 1]);
+        if i > 0 {
+            x = 0;
         }
-        k += 1;
+        h = (31 * h + 7 * i + x) % 256;
+        j += 1;
+    }
+    h as u8
+}
+
+// Gives each state the byte of its right-hand sides, which stand one after the other, for its class.
+fn pattern_classes(ins: &[u8], starts: &[u16], marks: &[u8], classes: &mut [u8])
+    requires { ⌜ Classed (now ins) (now starts) (now marks) (now classes) ⌝ }
+    ensures { λ _. ⌜ Patterned (now (ins .entry)) (now (starts .entry)) (now (marks .entry)) (length (now (classes .entry))) (now (classes .exit)) ⌝ }
+{
+    let mut p = 0;
+    while p < classes.len() {
+        let b = 1 + p * ins.len();
+        let from = number(starts[b]);
+        let to = number(starts[b + ins.len()]);
+        classes[p] = pattern_byte(marks, from, to);
+        p += 1;
+    }
+}
+
+// Numbers the classes of `old` in the order of their least members: the new classes, and the least member of each. Says how many there are.
+fn number_classes(old: &[u8], new: &mut [u8], least: &mut [u8]) -> usize
+    requires { ⌜ (length (now old) ≤ 128) × (length (now new) ≡ length (now old)) × (128 ≤ length (now least)) ⌝ }
+    ensures { λ c. ⌜ Numbers (now (old .entry)) (now (new .exit)) (now (least .exit)) c ⌝ }
+{
+    let mut numbers = [255u8; 256];
+    let mut count = 0;
+    let mut p = 0;
+    while p < old.len() {
+        let c = wide(old[p]);
+        if numbers[c] == 255 {
+            numbers[c] = count as u8;
+            least[count] = p as u8;
+            count += 1;
+        }
+        new[p] = numbers[c];
+        p += 1;
     }
     count
 }
 
-// How many classes there are after a step, and whether any state has another class than before.
-pub struct Step {
-    pub count: usize,
-    pub changed: bool,
-}
-
-// One step of refinement: the new classes, and the least member of each.
-fn refine(
-    ins: &[u8],
-    starts: &[u16],
-    marks: &[u8],
-    old: &[u8],
-    new: &mut [u8],
-    least: &mut [u8],
-) -> Step
-    requires { ⌜ Classed (now ins) (now starts) (now marks) (now old) × (length (now new) ≡ length (now old)) × (128 ≤ length (now least)) ⌝ }
-    ensures { λ r. ⌜ Refines (now (ins .entry)) (now (starts .entry)) (now (marks .entry)) (now (old .entry)) (now (new .exit)) (now (least .exit)) (r .count) (r .changed) ⌝ }
-{
-    let mut count = 0;
-    let mut changed = false;
-    let mut p = 0;
-    while p < old.len() {
-        let k = find_class(ins, starts, marks, old, least, count, p);
-        if k == count {
-            least[k] = p as u8;
-            count += 1;
-        }
-        new[p] = k as u8;
-        if new[p] != old[p] {
-            changed = true;
-        }
-        p += 1;
-    }
-    Step {
-        count: count,
-        changed: changed,
-    }
-}
-
-// The classes of equivalent states, and the least member of each; says how many classes there are. `old` holds zeros.
+// The classes of equivalent states, and the least member of each; says how many classes there are. `old` has a byte for each state.
 pub(crate) fn settle_classes(
     ins: &[u8],
     starts: &[u16],
@@ -147,16 +145,14 @@ pub(crate) fn settle_classes(
     new: &mut [u8],
     least: &mut [u8],
 ) -> usize
-    requires { ⌜ Classed (now ins) (now starts) (now marks) (now old) × ((q : ℕ) → q < length (now old) → getD (now old) q 0 ≡ 0) × (length (now new) ≡ length (now old)) × (128 ≤ length (now least)) ⌝ }
+    requires { ⌜ Classed (now ins) (now starts) (now marks) (now old) × (length (now new) ≡ length (now old)) × (128 ≤ length (now least)) ⌝ }
     ensures { λ c. ⌜ Settles (now (ins .entry)) (now (starts .entry)) (now (marks .entry)) (now (new .exit)) (now (least .exit)) (length (now (old .entry))) c ⌝ }
 {
-    let mut count = 0;
-    let mut more = true;
-    while more {
-        let step = refine(ins, starts, marks, old, new, least);
-        count = step.count;
-        more = step.changed;
-        copy_at(new, old, 0);
+    pattern_classes(ins, starts, marks, old);
+    let count = number_classes(old, new, least);
+    copy_at(new, old, 0);
+    if part_classes(ins, starts, marks, old, new, count) {
+        return number_classes(old, new, least);
     }
     count
 }

@@ -5,7 +5,7 @@ ghost use lib.ListN.{length};
 ghost use Rattle.formats.specs.Sheet.{longest};
 ghost use Rattle.transducer.specs.Inner.Machine.{Machine};
 ghost use Rattle.canonical.specs.Answers.{Cleans};
-ghost use Rattle.canonical.specs.Inner.Normal.{Reducible, Zeros, Reduces, NormalBy, CleansFile};
+ghost use Rattle.canonical.specs.Inner.Normal.{Reducible, Reduces, NormalBy, CleansFile};
 use crate::classes::settle_classes;
 use crate::quotient::merge;
 use earliest::earliest::Formed;
@@ -20,7 +20,7 @@ use formats::file::counts_end;
 use formats::file::read_transducer;
 use formats::refusal::Refusal;
 
-// Makes equivalent states one, with a byte for each state in `old` and in `classes`; `old` holds zeros.
+// Makes equivalent states one, with a byte for each state in `old` and in `classes`.
 fn reduce_by(
     ins: &[u8],
     outs: &[u8],
@@ -31,7 +31,7 @@ fn reduce_by(
     starts2: &mut [u16],
     out: &mut [u8],
 ) -> usize
-    requires { ⌜ Reducible (now ins) (now outs) (now starts) (now marks) (length (now old)) × Zeros (now old) × (length (now classes) ≡ length (now old)) × (2050 ≤ length (now starts2)) × (length (now out) ≡ 16384) ⌝ }
+    requires { ⌜ Reducible (now ins) (now outs) (now starts) (now marks) (length (now old)) × (length (now classes) ≡ length (now old)) × (2050 ≤ length (now starts2)) × (length (now out) ≡ 16384) ⌝ }
     ensures { λ n. ⌜ Reduces (now (ins .entry)) (now (outs .entry)) (now (starts .entry)) (now (marks .entry)) (length (now (old .entry))) (now (starts2 .exit)) (now (out .exit)) n ⌝ }
 {
     let mut least = [0u8; 128];

@@ -1,7 +1,6 @@
--- Classes of the states of a transducer, one byte a state, refined until states of one class have the same right-hand sides up to classes.
-use Prim.Native.Nat.{ℕ, suc, _+_, _*_, _≤_, _<_}
-use mathlib.Core.Bool.{Bool, true, false}
-use mathlib.Core.List.{List, map}
+-- Classes of the states of a transducer, one byte a state: right-hand sides up to classes, the classes to start from, and their numbers.
+use Prim.Native.Nat.{ℕ, suc, _+_, _*_, _%_, _≤_, _<_}
+use mathlib.Core.List.{List, [], _∷_, map}
 use mathlib.Core.Path.{_≡_}
 use lib.ListN.{length, getD}
 use Rattle.theory.specs.Earliest.{Earliest}
@@ -10,7 +9,7 @@ use Rattle.theory.specs.Wf.{Wf}
 use Rattle.theory.proofs.Classes.{Exact}
 use Rattle.formats.specs.Alphabets.{Leaf}
 use Rattle.formats.specs.Code.{Mark}
-use Rattle.formats.specs.Inner.Layout.{markAt, bodyNumber}
+use Rattle.formats.specs.Inner.Layout.{markAt, bodyNumber, bodyCount}
 use Rattle.formats.specs.Inner.Marked.{part}
 use Rattle.prefixes.specs.Alphabet.{alphabet}
 use Rattle.prefixes.specs.Inner.Heads.{machine, Layout}
@@ -50,31 +49,29 @@ pub record Classed (ins starts bytes classes : List ℕ) : Type 0 where
   pub outs : List ℕ
   pub layout : Layout ins outs starts bytes (length classes)
 
--- state p has the class k < count of the least member that is in the same class so far and has the same right-hand sides up to classes; or there is none, and k is count
-pub record FindsClass (ins starts bytes old least : List ℕ) (count p k : ℕ) : Type 0 where
-  pub small : k ≤ count
-  pub found : k < count → (at old (at least k) ≡ at old p) × SameStates ins starts bytes old (at least k) p
-  pub none : (j : ℕ) → j < k → at old (at least j) ≡ at old p → SameStates ins starts bytes old (at least j) p → ⊥
+-- ---- the classes to start from: a byte of the right-hand sides, with the states called left out
+-- one mark more
+abbrev pub mix : ℕ → Mark → ℕ
+mix h m = (31 * h + 7 * m .0 + m .1) % 256
 
--- the sum of the classes of the first n states
-unfoldable pub sum : List ℕ → ℕ → ℕ
-sum l ℕ.zero = 0
-sum l (suc n) = sum l n + at l n
+unfoldable pub mixed : ℕ → List Mark → ℕ
+mixed h [] = h
+mixed h (m ∷ ms) = mixed (mix h m) ms
 
--- classes numbered in the order of their least members, for all states
-pub record Ordered (classes : List ℕ) (n : ℕ) : Type 0 where
-  pub least : ℕ → ℕ
-  pub count : ℕ
-  pub classes-of : Classes (λ q. at classes q) least n count
+-- the byte of the marks number `from` up to `to`
+abbrev pub patternByte : List ℕ → ℕ → ℕ → ℕ
+patternByte bytes from to = mixed 0 (keyed [] (part bytes from to))
 
--- one step of refinement
-pub record Refines (ins starts bytes old new least : List ℕ) (count : ℕ) (changed : Bool) : Type 0 where
-  pub long : length new ≡ length old
+-- the class of each of n states is the byte of its right-hand sides, which stand one after the other
+pub record Patterned (ins starts bytes : List ℕ) (n : ℕ) (classes : List ℕ) : Type 0 where
+  pub each : (p : ℕ) → p < n → at classes p ≡ patternByte bytes (at starts (bodyCount ins p)) (at starts (bodyCount ins p + length ins))
+
+-- ---- numbers of classes
+-- the new classes are the old ones, numbered in the order of their least members
+pub record Numbers (old new least : List ℕ) (count : ℕ) : Type 0 where
   pub classes : Classes (λ q. at new q) (λ k. at least k) (length old) count
-  pub fine : (p : ℕ) → p < length old → (at old (at least (at new p)) ≡ at old p) × SameStates ins starts bytes old (at least (at new p)) p
-  pub coarse : (p q : ℕ) → p < length old → q < length old → at old p ≡ at old q → SameStates ins starts bytes old p q → at new p ≡ at new q
-  pub same : changed ≡ false → (p : ℕ) → p < length old → at new p ≡ at old p
-  pub more : changed ≡ true → Ordered old (length old) → sum old (length old) < sum new (length old)
+  pub fine : (p q : ℕ) → p < length old → q < length old → at new p ≡ at new q → at old p ≡ at old q
+  pub coarse : (p q : ℕ) → p < length old → q < length old → at old p ≡ at old q → at new p ≡ at new q
 
 -- the classes are the classes of equivalent states, if the transducer is well-formed and earliest
 pub record Settles (ins starts bytes new least : List ℕ) (n count : ℕ) : Type 0 where

@@ -24,10 +24,6 @@ pub record Reducible (ins outs starts bytes : List ℕ) (k : ℕ) : Type 0 where
   pub layout : Layout ins outs starts bytes k
   pub packed : Packed ins starts k
 
--- all bytes are 0
-abbrev pub Zeros : List ℕ → Type 0
-Zeros l = (q : ℕ) → q < length l → getD l q 0 ≡ 0
-
 -- its quotient by the equivalence of states, which is its normal form if it is earliest and numbered
 pub record Reduces (ins outs starts bytes : List ℕ) (k : ℕ) (starts′ out : List ℕ) (n : ℕ) : Type 0 where
   pub layout : Layout ins outs starts′ out n

@@ -1,60 +1,90 @@
--- `settle_classes` meets its contract. The invariant is `SettleLoop`; each step but the last makes the sum of the classes greater. Assumes nothing.
+-- `settle_classes` meets its contract. Assumes nothing.
+use Rattle.canonical.proofs.Stable.{numbered-start, stable-settles, kept-settles}
+use mathlib.Core.Path.{sym, _∙_}
 use native.Mathlib.Omega.{arith}
-use mathlib.Core.Path.{_∙_, sym}
-use Rattle.canonical.proofs.Refining.{SettleLoop, left, settle-start, settle-classed, settle-next, settle-less}
+use borrow.Author.Needs.{needs}
 use Rattle.canonical.proofs.classes.settle_classes.Statement.{statement}
 use Rattle.canonical.proofs.classes.settle_classes.Tie as tie
+use Rattle.canonical.proofs.classes.settle_classes.Reads as reads
+use Rattle.canonical.proofs.classes.settle_classes.Lts as lts
+use Rattle.canonical.proofs.classes.number_classes.Reads as number-classes-reads
+use Rattle.canonical.proofs.classes.pattern_classes.Reads as pattern-classes-reads
+use Rattle.canonical.proofs.parting.part_classes.Reads as part-classes-reads
+use Rattle.formats.proofs.file.copy_at.Reads as copy-at-reads
 
-abbrev Inv-loop : tie.InvT-loop
-Inv-loop ins starts marks old₀ new₀ least₀ count₀ more₀ old new least count more = SettleLoop ins starts marks old₀ new₀ least₀ old new least count more
+-- src/classes.rt:151:5
+pattern-classes-requires : tie.Need-pattern-classes-requires
+pattern-classes-requires c κs = search needs
 
-abbrev μ-loop : tie.MeasureT-loop
-μ-loop ins starts marks old₀ new₀ least₀ count₀ more₀ old new least count more = left old more
+-- src/classes.rt:152:9
+number-classes-requires : tie.Need-number-classes-requires
+number-classes-requires c κs = search needs
 
-loop-holds : tie.Need-loop-holds Inv-loop μ-loop
-loop-holds c = settle-start _ _ _ _ _ _ (c .before .before .before .before .before .before .pre .1)
+-- src/classes.rt:153:5
+copy-at-requires : tie.Need-copy-at-requires
+copy-at-requires c κs = search needs
 
-refine-requires : tie.Need-refine-requires Inv-loop μ-loop
-refine-requires c κs =
-    let S = c .before .before .before .before .loop .inv in
-    let pre = c .before .before .before .before .before .before .before .before .before .before .before .pre in
-    (settle-classed (pre .0) S, S .same-new ∙ pre .2 ∙ sym (S .same-old), omega (arith, S .same-least))
+-- src/classes.rt:154:8
+part-classes-requires : tie.Need-part-classes-requires
+part-classes-requires c κs = numbered-start (c .before .before .before .before .before .before .before .before .before .before .before .before .before .before .before .before .before .before .before .before .before .before .before .before .before .pre .0) (c .before .before .before .before .before .before .before .before .before .before .before .before .before .before .before .before .before .pattern-classes .kept .1 .1 .1 .0) (c .before .before .before .before .before .before .before .before .before .before .before .before .before .before .before .before .before .pattern-classes .ensures) (c .before .before .before .before .before .before .before .before .before .before .before .number-classes .ensures) (c .before .before .before .before .before .before .before .before .before .before .before .number-classes .kept .1 .0 ∙ c .before .before .before .before .before .before .before .before .before .before .before .before .before .before .before .before .before .before .before .before .before .before .before .before .before .pre .1) (c .before .before .before .before .copy-at .ensures)
 
-copy-at-requires : tie.Need-copy-at-requires Inv-loop μ-loop
-copy-at-requires c κs = omega (arith, c .before .before .before .before .before .before .refine .ensures .long)
+-- src/classes.rt:155:9
+number-classes-requires-2 : tie.Need-number-classes-requires-2
+number-classes-requires-2 c κs =
+    let old = c .before .before .before .before .before .before .before .before .part-classes .kept .1 .1 .1 .0 ∙ c .before .before .before .before .before .before .before .before .before .before .before .before .before .copy-at .kept .1 .0 ∙ c .before .before .before .before .before .before .before .before .before .before .before .before .before .before .before .before .before .before .before .before .before .before .before .before .before .before .pattern-classes .kept .1 .1 .1 .0 in
+    let new = c .before .before .before .before .before .before .before .before .part-classes .kept .1 .1 .1 .1 .0 ∙ c .before .before .before .before .before .before .before .before .before .before .before .before .before .before .before .before .before .before .before .before .number-classes .kept .1 .0 ∙ c .before .before .before .before .before .before .before .before .before .before .before .before .before .before .before .before .before .before .before .before .before .before .before .before .before .before .before .before .before .before .before .before .before .before .pre .1 in
+    (omega (arith, old, c .before .before .before .before .before .before .before .before .before .before .before .before .before .before .before .before .before .before .before .before .before .before .before .before .before .before .before .before .before .before .before .before .before .before .pre .0 .layout .few-states), new ∙ sym old, omega (arith, c .before .before .before .before .before .before .before .before .before .before .before .before .before .before .before .before .before .before .before .before .number-classes .kept .1 .1 .0, c .before .before .before .before .before .before .before .before .before .before .before .before .before .before .before .before .before .before .before .before .before .before .before .before .before .before .before .before .before .before .before .before .before .before .pre .2))
 
-loop-less : tie.Need-loop-less Inv-loop μ-loop
-loop-less c = settle-less (c .before .before .before .before .before .before .before .before .before .before .before .before .before .before .before .before .before .before .before .before .before .pre .0) (c .before .before .before .before .before .before .before .before .before .before .before .before .before .before .loop .inv) (c .before .before .before .before .before .before .before .before .before .refine .ensures) (c .before .before .copy-at .ensures) (c .before .before .before .before .before .before .before .before .before .before .before .before .before .loop-test .taken)
+-- src/classes.rt:155:9
+same-length : tie.Need-same-length
+same-length c = search needs
 
-loop-again : tie.Need-loop-again Inv-loop μ-loop
-loop-again c =
-    let k = c .before .before .before .before .before .before .before .before .before .refine in
-    settle-next (c .before .before .before .before .before .before .before .before .before .before .before .before .before .before .before .before .before .before .before .before .before .pre .0) (c .before .before .before .before .before .before .before .before .before .before .before .before .before .before .loop .inv) (k .ensures) (c .before .before .copy-at .ensures) (c .before .before .before .before .before .before .before .before .before .before .before .before .before .before .before .before .before .before .before .before .before .pre .2) (k .kept .1 .1 .1 .1 .1 .0)
+-- src/classes.rt:155:9
+same-length-2 : tie.Need-same-length-2
+same-length-2 c = search needs
 
-same-length : tie.Need-same-length Inv-loop μ-loop
-same-length c = c .before .loop .inv .same-old
+-- src/classes.rt:155:9
+same-length-3 : tie.Need-same-length-3
+same-length-3 c = search needs
 
-same-length-2 : tie.Need-same-length-2 Inv-loop μ-loop
-same-length-2 c = c .before .loop .inv .same-new
+-- src/classes.rt:155:9
+returns : tie.Need-returns
+returns c =
+    let copy = c .before .before .before .before .before .before .before .before .before .before .before .before .before .before .before .before .before .before .copy-at .kept .1 .0 ∙ c .before .before .before .before .before .before .before .before .before .before .before .before .before .before .before .before .before .before .before .before .before .before .before .before .before .before .before .before .before .before .before .pattern-classes .kept .1 .1 .1 .0 in
+    stable-settles (rw copy at (c .before .before .before .before .before .before .before .before .before .before .before .before .before .part-classes .ensures .stable)) (c .before .before .before .before .before .before .before .before .before .before .before .before .before .part-classes .kept .1 .1 .1 .0 ∙ copy) (c .before .before .before .before .number-classes2 .kept .1 .0 ∙ c .before .before .before .before .before .before .before .before .before .before .before .before .before .part-classes .kept .1 .1 .1 .1 .0 ∙ c .before .before .before .before .before .before .before .before .before .before .before .before .before .before .before .before .before .before .before .before .before .before .before .before .before .number-classes .kept .1 .0 ∙ c .before .before .before .before .before .before .before .before .before .before .before .before .before .before .before .before .before .before .before .before .before .before .before .before .before .before .before .before .before .before .before .before .before .before .before .before .before .before .before .pre .1) (c .before .before .before .before .number-classes2 .ensures)
 
-same-length-3 : tie.Need-same-length-3 Inv-loop μ-loop
-same-length-3 c = c .before .loop .inv .same-least
+-- src/classes.rt:140:1
+same-length-4 : tie.Need-same-length-4
+same-length-4 c = search needs
 
-returns : tie.Need-returns Inv-loop μ-loop
-returns c = c .before .loop .inv .done (c .loop-test .left)
+-- src/classes.rt:140:1
+same-length-5 : tie.Need-same-length-5
+same-length-5 c = search needs
+
+-- src/classes.rt:140:1
+same-length-6 : tie.Need-same-length-6
+same-length-6 c = search needs
+
+-- src/classes.rt:140:1
+returns-2 : tie.Need-returns-2
+returns-2 c =
+    let new = c .before .before .before .before .before .before .before .before .before .before .before .before .before .before .before .before .before .number-classes .kept .1 .0 ∙ c .before .before .before .before .before .before .before .before .before .before .before .before .before .before .before .before .before .before .before .before .before .before .before .before .before .before .before .before .before .before .before .pre .1 in
+    kept-settles (c .before .before .before .before .before .part-classes .ensures) (c .if1 .left) (c .before .before .before .before .before .before .before .before .before .before .before .before .before .before .before .before .before .number-classes .ensures) (c .before .before .before .before .before .before .before .before .before .before .before .before .before .before .before .before .before .before .before .before .before .before .before .pattern-classes .kept .1 .1 .1 .0) new (c .before .before .before .before .before .before .before .before .before .before .copy-at .ensures) (c .before .before .before .before .before .part-classes .kept .1 .1 .1 .1 .0 ∙ new)
 
 pub settle-classes-spec : {M : Type 1} → statement M
 settle-classes-spec =
     tie.close
     (tie.spec
-    Inv-loop
-    μ-loop
-    loop-holds
-    refine-requires
+    pattern-classes-requires
+    number-classes-requires
     copy-at-requires
-    loop-less
-    loop-again
+    part-classes-requires
+    number-classes-requires-2
     same-length
     same-length-2
     same-length-3
-    returns)
+    returns
+    same-length-4
+    same-length-5
+    same-length-6
+    returns-2)

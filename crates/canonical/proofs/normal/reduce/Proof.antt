@@ -1,4 +1,5 @@
 -- `reduce` meets its contract: a byte for each state, and then `reduce_by`. Assumes nothing.
+use mathlib.Core.Path.{refl}
 use Rattle.canonical.proofs.Normalizing.{reducible-part, reduces-part}
 use borrow.Author.Needs.{needs}
 use Rattle.canonical.proofs.normal.reduce.Statement.{statement}
@@ -26,7 +27,7 @@ part-classes-end : tie.Need-part-classes-end
 part-classes-end c = search needs
 
 reduce-by-requires : tie.Need-reduce-by-requires
-reduce-by-requires c κs = let p = reducible-part (c .before .before .before .before .before .before .before .before .before .before .args .k) (c .before .before .before .before .before .before .before .before .before .before .pre .0) in (p .0, p .1, p .2, c .before .before .before .before .before .before .before .before .before .before .pre .1, c .before .before .before .before .before .before .before .before .before .before .pre .2)
+reduce-by-requires c κs = (reducible-part (c .before .before .before .before .before .before .before .before .before .before .args .k) (c .before .before .before .before .before .before .before .before .before .before .pre .0), refl, c .before .before .before .before .before .before .before .before .before .before .pre .1, c .before .before .before .before .before .before .before .before .before .before .pre .2)
 
 same-length : tie.Need-same-length
 same-length c = search needs

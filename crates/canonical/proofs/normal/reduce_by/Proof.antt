@@ -21,7 +21,7 @@ slice-aggregate-merge : tie.Need-slice-aggregate-merge
 slice-aggregate-merge c = search needs
 
 merge-requires : tie.Need-merge-requires
-merge-requires c κs = settled-mergeable (c .before .before .before .before .before .before .before .before .before .before .before .before .before .before .before .before .before .before .before .before .before .pre .0) (c .before .before .before .before .before .before .before .before .before .settle-classes .ensures) (omega (arith, c .before .before .before .before .before .before .before .before .before .settle-classes .kept .1 .1 .1 .1 .1 .0, length-replicate {A = ℕ} 128 0)) (c .before .before .before .before .before .before .before .before .before .before .before .before .before .before .before .before .before .before .before .before .before .pre .3) (c .before .before .before .before .before .before .before .before .before .before .before .before .before .before .before .before .before .before .before .before .before .pre .4)
+merge-requires c κs = settled-mergeable (c .before .before .before .before .before .before .before .before .before .before .before .before .before .before .before .before .before .before .before .before .before .pre .0) (c .before .before .before .before .before .before .before .before .before .settle-classes .ensures) (omega (arith, c .before .before .before .before .before .before .before .before .before .settle-classes .kept .1 .1 .1 .1 .1 .0, length-replicate {A = ℕ} 128 0)) (c .before .before .before .before .before .before .before .before .before .before .before .before .before .before .before .before .before .before .before .before .before .pre .2) (c .before .before .before .before .before .before .before .before .before .before .before .before .before .before .before .before .before .before .before .before .before .pre .3)
 
 same-length : tie.Need-same-length
 same-length c = search needs
