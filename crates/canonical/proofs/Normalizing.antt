@@ -1,10 +1,10 @@
 -- From the classes of equivalent states and the quotient to the normal form.
-use Prim.Native.Nat.{ℕ, suc, _-_, _≤_, _<_}
+use Prim.Native.Nat.{ℕ, _-_, _≤_, _<_}
 use native.Mathlib.Nat.{sub-zero}
 use native.Mathlib.Omega.{arith}
 use mathlib.Core.List.{List}
 use mathlib.Core.Path.{_≡_, refl, sym}
-use lib.ListN.{length, length-replicate, getD, replicate, take}
+use lib.ListN.{length, length-replicate, replicate, take}
 use lib.Seq.{length-take-le}
 use Rattle.theory.specs.Transducer.{Transducer}
 use Rattle.theory.specs.Wf.{Wf}

@@ -1,7 +1,8 @@
 -- The classes to start from: equivalent states have right-hand sides of one byte.
 -- Assumes nothing.
-use Prim.Native.Nat.{ℕ, suc, _+_, _-_, _*_, _%_, _≤_, _<_}
+use Prim.Native.Nat.{ℕ, suc, _+_, _*_, _%_, _≤_, _<_}
 use native.Mathlib.Decide.{ℕ-discrete}
+use native.Mathlib.Nat.{mul-le-mul}
 use native.Mathlib.Numerals.{add-one}
 use native.Mathlib.Omega.{arith}
 use mathlib.Core.List.{List, [], _∷_, _++_, map-append}
@@ -14,10 +15,8 @@ use Rattle.formats.specs.Code.{Mark}
 use Rattle.formats.specs.Inner.Layout.{pairs, bodyNumber, bodyCount, Laid}
 use Rattle.formats.specs.Inner.Marked.{part}
 use Rattle.formats.proofs.Pairs.{pairs-length, pairs-at, number-less}
-use Rattle.prefixes.specs.Inner.Heads.{Flaggable}
-use Rattle.prefixes.proofs.Settling.{row-fits}
 use Rattle.canonical.specs.Inner.Classes.{keyOf, keyed, bodyMarks, SameStates, at, Classed, mix, mixed, patternByte, Patterned}
-use Rattle.canonical.specs.Inner.Parting.{Respecting}
+use Rattle.canonical.specs.Inner.Parting.{Respecting, Flaggable}
 use Rattle.canonical.proofs.Keys.{key-symbol, key-call, simulates-same}
 
 -- ---- the byte of a part
@@ -65,6 +64,12 @@ laid-le {starts = starts} L i (suc d) h =
     let e : i + d + 1 ≡ i + suc d = omega arith in
     omega (arith, laid-le L i d (omega arith), L .ordered (i + d) (omega arith), ap (at starts) e)
 
+-- the numbers of the first body of a state, and of the first of the next state, are in the table of starts
+pub row-fits : {ins starts bytes : List ℕ} {n : ℕ} → Flaggable ins starts bytes n → {p : ℕ} → p < n → (1 + p * length ins + length ins < 2050) × (1 + p * length ins + length ins ≤ bodyCount ins n)
+row-fits {ins} {n = n} F {p} h =
+    let m : (p + 1) * length ins ≤ n * length ins = mul-le-mul (omega arith) (omega arith) in
+    (omega (arith, mul-le-mul (F .few-states) (F .few-inputs)), omega arith)
+
 pub can-flag : {ins starts bytes classes : List ℕ} → Classed ins starts bytes classes → Flaggable ins starts bytes (length classes)
 can-flag C = record { few-states = C .layout .few-states; few-inputs = C .layout .few-inputs; laid = C .layout .laid }
 
@@ -99,7 +104,7 @@ bytes-end L h = record { each = λ q l. L .each .each q (omega (arith, L .long))
 
 -- ---- equivalent states
 -- two parts side by side are one
-slice-join : (s : List Mark) (a b c : ℕ) → a ≤ b → b ≤ c → c ≤ length s → slice a c s ≡ slice a b s ++ slice b c s
+pub slice-join : {A : Type 0} (s : List A) (a b c : ℕ) → a ≤ b → b ≤ c → c ≤ length s → slice a c s ≡ slice a b s ++ slice b c s
 slice-join s a b c h g i =
     let t = take c s in
     let n : length t ≡ c = length-take-le c s i in

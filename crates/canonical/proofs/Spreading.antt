@@ -1,7 +1,7 @@
 -- The next round: the callers of the states whose class has changed are dirty and listed.
 -- Assumes nothing.
 use Prim.Native.Nat.{ℕ, suc, _+_, _*_, _≤_, _<_}
-use native.Mathlib.Decide.{ℕ-discrete, decLt}
+use native.Mathlib.Decide.{ℕ-discrete}
 use native.Mathlib.Omega.{arith}
 use mathlib.Core.List.{List}
 use mathlib.Core.Logic.{_⊎_, inl, inr, by-cases, ⊎-elim}
@@ -9,7 +9,7 @@ use mathlib.Core.Path.{_≡_, refl, sym, ap, _∙_}
 use lib.ListN.{length, set, length-set}
 use lib.Seq.{getD-set-same, getD-set-other}
 use Rattle.canonical.specs.Inner.Classes.{at}
-use Rattle.canonical.specs.Inner.Parting.{Clean, Listed, Moved, Flagged, sign, dirtyCount, Queue, FlagsCallers, Spreads, AllDirty}
+use Rattle.canonical.specs.Inner.Parting.{Clean, Moved, Flagged, sign, dirtyCount, Queue, FlagsCallers, Spreads, AllDirty}
 
 -- ---- how many states are dirty
 pub one-sign : (x : ℕ) → sign x ≤ 1

@@ -1,23 +1,22 @@
 -- From round to round: a state that calls no moved state has the same right-hand sides up to new classes as up to old ones.
 -- Assumes nothing.
-use Prim.Native.Nat.{ℕ, suc, _+_, _-_, _*_, _≤_, _<_}
+use Prim.Native.Nat.{ℕ, _+_, _-_, _*_, _≤_, _<_}
 use native.Mathlib.Decide.{ℕ-discrete, decLt}
 use native.Mathlib.Omega.{arith}
-use native.Mathlib.Numerals.{add-one}
 use mathlib.Core.Bool.{Bool, true, false}
 use mathlib.Core.List.{List}
 use mathlib.Core.Logic.{by-cases, ⊎-elim}
-use mathlib.Core.Path.{_≡_, refl, sym, ap, ap₂, _∙_}
+use mathlib.Core.Path.{_≡_, refl, sym, ap, _∙_}
 use lib.ListN.{length, getD}
 use lib.Seq.{ext-getD, take-all, sets, length-sets}
 use Rattle.theory.proofs.Bisimulation.{refine-respects, stable-exact}
 use Rattle.theory.proofs.Terms.{conflict}
-use Rattle.formats.specs.Inner.Layout.{bodyNumber, bodyCount, Laid}
+use Rattle.formats.specs.Inner.Layout.{bodyNumber, bodyCount}
 use Rattle.formats.specs.Inner.Marked.{part}
 use Rattle.formats.proofs.Laws.{written-take}
 use Rattle.formats.proofs.Pairs.{number-less}
 use Rattle.canonical.specs.Inner.Classes.{keyed, bodyMarks, SameStates, at, Keyable, Classed, Patterned, Numbers, Settles}
-use Rattle.canonical.specs.Inner.Parting.{Clean, NoneClean, Member, Round, Rounded, Flagged, FlaggedCalls, Callers, Listed, Spreads, AllDirty, Continues, Respecting, Stable, Parted, Startable, Partable, Parts, sign}
+use Rattle.canonical.specs.Inner.Parting.{Clean, NoneClean, Member, Round, Rounded, Callers, Listed, Spreads, AllDirty, Continues, Respecting, Stable, Parted, Startable, Partable, Parts, sign}
 use Rattle.canonical.proofs.Keys.{keyAt, key-symbol, key-call, keyed-length, keyed-at, body-ordered, body-keyable, first-there, same-simulates, simulates-same}
 use Rattle.canonical.proofs.Numbering.{classes-agree, class-below, least-below}
 use Rattle.canonical.proofs.Patterns.{laid-le, pattern-respects}

@@ -5,8 +5,8 @@ use native.Mathlib.Numerals.{add-one}
 use native.Mathlib.Omega.{arith}
 use mathlib.Core.Path.{_≡_, refl, sym, ap, ap₂, _∙_}
 use mathlib.Core.List.{List, [], _∷_, _++_}
-use lib.ListN.{length, getD, take, drop, set, replicate, length-set, length-append, length-replicate, take-append-drop, drop-of-length-le}
-use lib.Seq.{sets, sets-eq, length-sets, slice, length-take-le, take-at, drop-at, take-take, take-set-le, drop-set-lt, drop-append-le, drop-cons, getD-take}
+use lib.ListN.{length, getD, take, drop, set, replicate, length-set, length-append, length-replicate, drop-of-length-le}
+use lib.Seq.{sets, sets-eq, length-sets, slice, length-take-le, take-at, drop-at, take-set-le, drop-set-lt, drop-cons, getD-take}
 use Rattle.theory.specs.Grammar.{leafOf}
 use Rattle.theory.specs.Term.{Tree, Terms}
 use Rattle.theory.proofs.Leaves.{put}
@@ -16,6 +16,7 @@ use Rattle.formats.specs.Inner.Layout.{markAt, pairs}
 use Rattle.formats.proofs.Pairs.{pairs-length, pairs-at}
 use Rattle.prefixes.specs.Alphabet.{alphabet}
 use Rattle.prefixes.proofs.Grafts.{slice-from}
+use Rattle.canonical.proofs.Patterns.{slice-join}
 use Rattle.comparison.specs.Inner.Shown.{stepsTree, Holds, Planted, Wrapped, Addable, Added, Plantable, Wrappable, Step, AllPlantable, AllPlanted}
 
 -- ---- parts of what was written
@@ -50,15 +51,6 @@ slice-behind W s at from to h o i =
     ∙ ap (take k) (drop-sets from W s at h)
     ∙ sym (slice-from s from k i)
     ∙ ap (λ t. slice from t s) e
-
--- two parts side by side are one
-slice-join : (s : List ℕ) (a b c : ℕ) → a ≤ b → b ≤ c → c ≤ length s → slice a c s ≡ slice a b s ++ slice b c s
-slice-join s a b c h g i =
-    let t = take c s in
-    let n : length t ≡ c = length-take-le c s i in
-    ap (drop a) (sym (take-append-drop b t))
-    ∙ drop-append-le a (take b t) (drop b t) (omega (arith, length-take-le b t (omega arith)))
-    ∙ ap (λ l. drop a l ++ drop b t) (take-take b c s g)
 
 -- ---- the code of leaves and of one tree among them
 abbrev codes : Terms ⊥ → List ℕ

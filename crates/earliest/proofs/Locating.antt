@@ -13,14 +13,15 @@ use Rattle.theory.specs.Prefix.{Patterns, Prefixes, keeps, no-more, also}
 use Rattle.theory.specs.Term.{var, node, Terms, none, more, count}
 use Rattle.theory.proofs.Terms.{conflict}
 use Rattle.formats.specs.Code.{flat}
-use Rattle.formats.specs.Inner.Decode.{lettersAll, Letter, call, symbol, unknown, firsts, rests, grown, put, forest, first, Whole}
+use Rattle.formats.specs.Inner.Decode.{lettersAll, Letter, call, symbol, unknown, firsts, rests, grown, put, forest, first, Whole, joined}
 use Rattle.formats.proofs.Codes.{Faithful, words, single}
-use Rattle.formats.proofs.Forest.{all-tail, all-drop}
+use Rattle.formats.proofs.Forest.{joined-split, all-tail, all-drop}
 use Rattle.prefixes.specs.Inner.Patterns.{topOf, readPattern}
 use Rattle.prefixes.proofs.Ends.{taken, letter-inside, letter-put, Owing, owing-done, Ranks}
 use Rattle.prefixes.proofs.Grafts.{slice-from}
+use Rattle.prefixes.proofs.Masks.{joined-prefixes}
 use Rattle.prefixes.proofs.Patterns.{patternsAt, Byte, named, free, byte-at, all-there, flats-split}
-use Rattle.earliest.specs.Inner.Letters.{letterIf, letterOf, callLetter, spelt, joined, firstUnder, under, EndsAt, Locatable, LocatedAt}
+use Rattle.earliest.specs.Inner.Letters.{letterIf, letterOf, callLetter, spelt, firstUnder, under, EndsAt, Locatable, LocatedAt}
 
 -- the trees that stand from position p on
 abbrev pub treesAt : List ℕ → List ℕ → ℕ → Terms (ℕ × ℕ)
@@ -41,13 +42,6 @@ pub tree-done : {outs s : List ℕ} {at n p : ℕ} → Owing (letterOf outs) s a
 tree-done O z = let w = owing-done O z in record { further = w .0; inside = w .1; behind = w .2 }
 
 -- ---- one letter of a prefix
--- the first n trees and the others are all
-joined-split : {A : Type 0} (n : ℕ) (G : Terms A) → joined (firsts n G) (rests n G) ≡ G
-unfolding joined firsts rests
-joined-split ℕ.zero G = refl
-joined-split (suc n) none = refl
-joined-split (suc n) (more t ts) = ap (more t) (joined-split n ts)
-
 -- behind the letter of a node stand its children, and then the other trees
 opened : {A : Type 0} (l : Letter A) (G : Terms A) {k : ℕ} {ds vs : Terms A} → put l G ≡ more (node k ds) vs → G ≡ joined ds vs
 unfolding put
@@ -55,16 +49,11 @@ opened (call a) G e = conflict (cc)
 opened (symbol j n) G {k} {ds} {vs} e = by-rank (leb n (count G)) e
   where
     by-rank : (b : Bool) → grown b j n G ≡ more (node k ds) vs → G ≡ joined ds vs
-    by-rank true e = sym (joined-split n G) ∙ ap₂ joined (cc) (cc)
+    by-rank true e = let f : firsts n G ≡ ds = cc in let g : rests n G ≡ vs = cc in sym (joined-split n G) ∙ ap₂ joined f g
     by-rank false e = conflict (cc)
 opened unknown G e = conflict (cc)
 
 module _ {A B : Type 0} where
-  joined-prefixes : {cs us : Terms A} {ds vs : Terms B} → Prefixes cs ds → Prefixes us vs → Prefixes (joined cs us) (joined ds vs)
-  unfolding joined
-  joined-prefixes no-more Q = Q
-  joined-prefixes (also p P) Q = also p (joined-prefixes P Q)
-
   -- where there is a pattern, there is a tree for it
   prefix-there : {hs : Terms A} {ts : Terms B} → Prefixes hs ts → 0 < count hs → 0 < count ts
   unfolding count

@@ -17,10 +17,10 @@ use Rattle.theory.specs.Prefix.{Pattern, Patterns, Open, Prefix, any, keeps, Pr
 use Rattle.theory.specs.Term.{Term, var, node, Terms, none, more, count, bind, binds, mapT, sub, subs}
 use Rattle.theory.proofs.Terms.{sub-here, sub-bind, count-binds}
 use Rattle.formats.specs.Code.{Ranked, AllRanked, flat, flats}
-use Rattle.formats.specs.Inner.Decode.{letters, lettersAll, unknown}
+use Rattle.formats.specs.Inner.Decode.{letters, lettersAll, unknown, joined}
 use Rattle.formats.proofs.Codes.{word-length}
 use Rattle.prefixes.specs.Inner.Patterns.{top, patternCode}
-use Rattle.earliest.specs.Inner.Letters.{joined, firstUnder, under}
+use Rattle.earliest.specs.Inner.Letters.{firstUnder, under}
 use Rattle.earliest.specs.Inner.Places.{behind, place, placeAmong}
 
 -- the variable b + m at each variable that is letter m
@@ -60,7 +60,7 @@ module _ {A B : Type 0} (f : ℕ → B) where
 
 -- ---- the subtree under letter m of a prefix stands at the address of that letter
 mutual
-  unfolding under firstUnder joined letters
+  unfolding under firstUnder letters
 
   -- the letters of the first pattern are passed
   under-past : {A B : Type 0} {p : Term A} {t : Term B} → Prefix p t → (m : ℕ) (ps : Terms A) (ts : Terms B) → under (letters p + m) (more p ps) (more t ts) ≡ under m ps ts
@@ -74,7 +74,7 @@ mutual
       rw e (under-past q (lettersAll hs + m) (joined hs ps) (joined us ts) ∙ unders-past qs m ps ts)
 
 mutual
-  unfolding under firstUnder joined letters place sub
+  unfolding under firstUnder letters place sub
 
   under-first : {A B : Type 0} {p : Term A} {t : Term B} → Prefix p t → (m : ℕ) → m < letters p → (ps : Terms A) (ts : Terms B) → sub t (place p m) ≡ some (under m (more p ps) (more t ts))
   under-first {t} any ℕ.zero h ps ts = sub-here t

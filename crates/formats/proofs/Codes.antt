@@ -1,6 +1,6 @@
 -- Code and decoding: a word is the code of one term just if all of it is read as one, and it is the code of no other.
 -- Assumes nothing.
-use Prim.Native.Nat.{ℕ, suc, _+_, _≤_, _<_}
+use Prim.Native.Nat.{ℕ, suc, _+_, _<_}
 use native.Mathlib.Omega.{arith}
 use mathlib.Core.Bool.{Bool, true, false}
 use mathlib.Core.Logic.{_↔_}
@@ -12,8 +12,8 @@ use lib.Seq.{take-all}
 use borrow.Author.Tests.{le-leb, leb-true}
 use Rattle.theory.specs.Term.{Term, var, node, Terms, none, more, count, bind, binds}
 use Rattle.formats.specs.Code.{flat, flats}
-use Rattle.formats.specs.Inner.Decode.{letters, lettersAll, Letter, call, symbol, unknown, firsts, rests, grown, put, forest, first, Whole, Over, AllOver}
-use Rattle.formats.proofs.Forest.{Known, say, says, front, count-firsts}
+use Rattle.formats.specs.Inner.Decode.{letters, lettersAll, Letter, call, symbol, unknown, firsts, rests, grown, put, forest, first, Whole, Over, AllOver, joined}
+use Rattle.formats.proofs.Forest.{joined-count, Known, say, says, front, count-firsts}
 
 -- ---- substitution
 module _ {A B X : Type 0} (g : B → List X) (y : ℕ → X) (f : A → Term B) where
@@ -29,22 +29,15 @@ module _ {A B X : Type 0} (g : B → List X) (y : ℕ → X) (f : A → Term B) 
     flats-binds (more t ts) = ap₂ _++_ (flat-bind t) (flats-binds ts)
 
 -- ---- from the term to its code and back
-joined : {A : Type 0} → Terms A → Terms A → Terms A
-joined none us = us
-joined (more t ts) us = more t (joined ts us)
-
-joined-count : {A : Type 0} (ts us : Terms A) → count ts ≤ count (joined ts us)
-unfolding joined count
-joined-count none us = omega arith
-joined-count (more t ts) us = let i = joined-count ts us in omega arith
-
+-- of some trees and others behind them the first are those
 joined-firsts : {A : Type 0} (ts us : Terms A) → firsts (count ts) (joined ts us) ≡ ts
-unfolding joined count firsts
+unfolding count firsts
 joined-firsts none us = refl
 joined-firsts (more t ts) us = ap (more t) (joined-firsts ts us)
 
+-- and the others are these
 joined-rests : {A : Type 0} (ts us : Terms A) → rests (count ts) (joined ts us) ≡ us
-unfolding joined count rests
+unfolding count rests
 joined-rests none us = refl
 joined-rests (more t ts) us = joined-rests ts us
 
@@ -57,12 +50,12 @@ words c y ts = flats (λ a. c a ∷ []) y ts
 
 module _ {A X : Type 0} (f : X → Letter A) (c : A → X) (y : ℕ → X) where
   mutual
-    unfolding flat Over forest put joined
+    unfolding flat Over forest put
 
     pub decode : (t : Term A) (rest : List X) → Over f c y t → forest f (word c y t ++ rest) ≡ more t (forest f rest)
     decode (var a) rest o = rw o
     decode (node k ts) rest o =
-        rw (o .0, decodes ts rest (o .1), le-leb (count ts) (count (joined ts (forest f rest))) (joined-count ts (forest f rest)), joined-firsts, joined-rests)
+        rw (o .0, decodes ts rest (o .1), le-leb (count ts) (count (joined ts (forest f rest))) (omega (arith, joined-count ts (forest f rest))), joined-firsts, joined-rests)
 
     decodes : (ts : Terms A) (rest : List X) → AllOver f c y ts → forest f (words c y ts ++ rest) ≡ joined ts (forest f rest)
     decodes none rest o = refl

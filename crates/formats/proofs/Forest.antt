@@ -12,7 +12,7 @@ use lib.Seq.{drop-drop}
 use borrow.Author.Tests.{leb-true}
 use Rattle.theory.specs.Term.{Term, var, node, Terms, none, more, count}
 use Rattle.formats.specs.Code.{flat, flats}
-use Rattle.formats.specs.Inner.Decode.{letters, lettersAll, Letter, call, symbol, unknown, firsts, rests, grown, put, forest}
+use Rattle.formats.specs.Inner.Decode.{letters, lettersAll, Letter, call, symbol, unknown, firsts, rests, grown, put, forest, joined}
 
 -- ---- the first n of some trees, and the rest
 module _ {A : Type 0} where
@@ -49,6 +49,21 @@ module _ {A : Type 0} where
     flats-add (suc n) ℕ.zero none = rw suc-add
     flats-add (suc n) (suc m) none = rw suc-add
     flats-add (suc n) m (more t ts) = rw (suc-add, append-assoc, ← flats-add n m ts)
+
+-- ---- some trees behind others
+module _ {A : Type 0} where
+  -- how many there are
+  pub joined-count : (ts us : Terms A) → count (joined ts us) ≡ count ts + count us
+  unfolding count
+  joined-count none us = omega arith
+  joined-count (more t ts) us = omega (arith, joined-count ts us)
+
+  -- the first m trees and the others are all
+  pub joined-split : (m : ℕ) (ts : Terms A) → joined (firsts m ts) (rests m ts) ≡ ts
+  unfolding firsts rests
+  joined-split ℕ.zero ts = refl
+  joined-split (suc m) none = refl
+  joined-split (suc m) (more t ts) = ap (more t) (joined-split m ts)
 
 -- ---- one letter more
 abbrev pub Known : {A : Type 0} → Letter A → Type 0

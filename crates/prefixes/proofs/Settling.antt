@@ -1,63 +1,42 @@
 -- Cut upon cut: what one cut does to the patterns, what many do, and that the patterns are the common prefixes when no cut takes anything away.
 -- Assumes nothing.
-use Prim.Native.Nat.{ℕ, suc, _+_, _-_, _*_, _≤_, _<_}
+use Prim.Native.Nat.{ℕ, _+_, _*_, _≤_, _<_}
 use native.Mathlib.Decide.{ℕ-discrete}
 use native.Mathlib.Nat.{mul-le-mul}
 use native.Mathlib.Omega.{arith}
 use mathlib.Core.Bool.{Bool, true, false}
 use mathlib.Core.List.{List}
 use mathlib.Core.Logic.{_≢_, by-cases, ⊎-elim}
-use mathlib.Core.Option.{some}
 use mathlib.Core.Path.{_≡_, refl, sym, ap, _∙_, fun-ext}
-use lib.ListN.{length, getD, replicate}
+use lib.ListN.{length, getD}
 use borrow.Author.Count.{below-more}
+use Rattle.theory.specs.EarliestForm.{expand, opened}
 use Rattle.theory.specs.Lcp.{lcp}
 use Rattle.theory.specs.Pref.{graft, Prefs}
 use Rattle.theory.specs.Prefix.{Pattern}
 use Rattle.theory.specs.Size.{size}
 use Rattle.theory.specs.Term.{var}
 use Rattle.theory.specs.Transducer.{Transducer}
-use Rattle.theory.specs.Wf.{nth, Wf}
-use Rattle.theory.proofs.Cut.{cut-step, cut-end, lcp-graft}
+use Rattle.theory.specs.Wf.{Wf}
+use Rattle.theory.proofs.Cut.{lcp-graft}
+use Rattle.theory.proofs.Lcps.{lcp-left}
+use Rattle.theory.proofs.Prefixes.{prefix-trans}
 use Rattle.theory.proofs.PrefsExist.{total, total-falls}
 use Rattle.theory.proofs.Sizes.{lcp-same, lcp-smaller}
 use Rattle.theory.proofs.Terms.{conflict}
-use Rattle.theory.proofs.Vars.{all-map}
 use Rattle.formats.specs.Alphabets.{Leaf}
 use Rattle.formats.specs.Inner.Decode.{Whole}
-use Rattle.formats.specs.Inner.Layout.{markOf, body, bodyNumber, bodyCount, transducer, Wholes}
+use Rattle.formats.specs.Inner.Layout.{markOf, body, bodyNumber, transducer}
 use Rattle.formats.specs.Inner.Marked.{part}
 use Rattle.formats.specs.Refusal.{Decides}
 use Rattle.formats.proofs.Pairs.{number-less}
-use Rattle.formats.proofs.Sheets.{transducer-over}
 use Rattle.transducer.specs.Linear.{oneIf}
-use Rattle.transducer.proofs.Outputs.{ranked-vars}
-use Rattle.prefixes.specs.Alphabet.{alphabet, children-inside, children-of}
+use Rattle.prefixes.specs.Alphabet.{alphabet, children-inside}
 use Rattle.prefixes.specs.Inner.Patterns.{top}
-use Rattle.prefixes.specs.Inner.Heads.{Heads, headOf, Cuttable, CutBy, machine, Layout, Bodies, FixedAt, AllAbove, Cuts, CutRhs, CutState, Swept, Flaggable, Looked, Followed, Settled}
+use Rattle.prefixes.specs.Inner.Heads.{Heads, headOf, Cuttable, CutBy, machine, Layout, Bodies, FixedAt, AllAbove, AllUnder, UnderLeaf, Cuts, CutRhs, CutState, Swept, Searched, Settled}
 use Rattle.prefixes.proofs.Grafts.{head-top}
-use Rattle.prefixes.proofs.Leaves.{above-leaf}
-
--- ---- the transducer of whole bodies is well-formed over the alphabet
-nth-sort : (r i : ℕ) → 1 ≤ i → i ≤ r → nth {A = ℕ} (replicate r 0) i ≡ some 0
-unfolding nth
-nth-sort ℕ.zero i p h = absurd (omega arith)
-nth-sort (suc r) ℕ.zero p h = absurd (omega arith)
-nth-sort (suc r) (suc ℕ.zero) p h = refl
-nth-sort (suc r) (suc (suc i)) p h = nth-sort r (suc i) (omega arith) (omega arith)
-
-pub machine-wf : {ins outs : List ℕ} {n : ℕ} {start : ℕ → ℕ} {bytes : List ℕ} (l : Leaf ins) → Wholes ins outs n start bytes → Wf (alphabet ins l) (transducer ins outs n start bytes) (λ q. q < n)
-unfolding alphabet transducer nth
-machine-wf {ins} {outs} {n} {start} {bytes} l W =
-    let O = transducer-over ins outs n start bytes W in
-    let M = transducer ins outs n start bytes in
-    record {
-      initial = all-map (λ e c. record { valid = c .state; sort = nth-sort 1 (e .0) (c .from-one) (c .child) }) (ranked-vars outs n 1 (M .initial) (O .initial));
-      rhs = λ q a {sorts} h k.
-          let c = children-inside ins a k in
-          all-map (λ e m. record { valid = m .state; sort = ap (λ z. nth z (e .0)) (c .1) ∙ nth-sort (getD ins a 0) (e .0) (m .from-one) (m .child) })
-          (ranked-vars outs n (getD ins a 0) (M .rhs q a) (O .rhs q a h (c .0)));
-    }
+use Rattle.prefixes.proofs.Above.{prefix-self, prefix-bind, cut-above, above-end}
+pub use Rattle.prefixes.proofs.Above.{machine-wf}
 
 -- ---- one cut
 module _ {ins : List ℕ} {M : Transducer ℕ} {n : ℕ} (W : (l : Leaf ins) → Wf (alphabet ins l) M (λ q. q < n))
@@ -70,9 +49,9 @@ module _ {ins : List ℕ} {M : Transducer ℕ} {n : ℕ} (W : (l : Leaf ins) →
   loses t = ⊎-elim (λ s. absurd (told .sound t (e ∙ s))) (λ l. omega (arith, ap size e)) (lcp-smaller (h q) (graft h (M .rhs q a)))
 
   pub one-cut : Cuts ins M n h h′ b
-  unfolding alphabet
   one-cut = record {
-    above = λ l all. cut-step (W l) h all h′ q a state (children-of ins a there) e others;
+    above = λ l all. cut-above l (W l) all h′ q a state there e others;
+    under = λ p v. by-cases (ℕ-discrete p q) (λ z. rw (z, e) (lcp-left (h q) (graft h (M .rhs q a)))) (λ k. rw (others p k) (prefix-self (h p)));
     less = λ t. total-falls h h′ q n state others (loses t);
     kept = λ f p. by-cases (ℕ-discrete p q) (λ z. rw z (stays f)) (others p);
   }
@@ -82,7 +61,7 @@ module _ {ins : List ℕ} {M : Transducer ℕ} {n : ℕ} (W : (l : Leaf ins) →
 
 -- ---- many
 pub no-cut : {ins : List ℕ} {M : Transducer ℕ} {n : ℕ} (h : ℕ → Pattern) → Cuts ins M n h h false
-no-cut h = record { above = λ l a. a; less = λ e. conflict (cc); kept = λ e p. refl }
+no-cut h = record { above = λ l a. a; under = λ q v. prefix-self (h q); less = λ e. conflict (cc); kept = λ e p. refl }
 
 pub same-patterns : {ins : List ℕ} {M : Transducer ℕ} {n : ℕ} {h h′ : ℕ → Pattern} {b : Bool} → Cuts ins M n h h′ b → b ≡ false → h′ ≡ h
 same-patterns C e = fun-ext (C .kept e)
@@ -97,20 +76,21 @@ module _ {ins : List ℕ} {M : Transducer ℕ} {n : ℕ} {h h₁ : ℕ → Patte
       go false e = omega (arith, ap (λ k. total k n) (same-patterns C e))
 
   pub then-cut : {h₂ : ℕ → Pattern} {b : Bool} → b ≡ true → Cuts ins M n h₁ h₂ b → Cuts ins M n h h₂ true
-  then-cut t D = record { above = λ l a. D .above l (C .above l a); less = λ e. omega (arith, D .less t, not-more); kept = λ e. conflict (cc) }
+  then-cut t D = record { above = λ l a. D .above l (C .above l a); under = λ q v. prefix-trans (D .under q v) (C .under q v); less = λ e. omega (arith, D .less t, not-more); kept = λ e. conflict (cc) }
 
   pub then-none : {h₂ : ℕ → Pattern} {b : Bool} → b ≡ false → Cuts ins M n h₁ h₂ b → Cuts ins M n h h₂ any
   then-none f D = record {
     above = λ l a. D .above l (C .above l a);
+    under = λ q v. prefix-trans (D .under q v) (C .under q v);
     less = λ e. omega (arith, C .less e, ap (λ k. total k n) (same-patterns D f));
     kept = λ e p. D .kept f p ∙ C .kept e p;
   }
 
 -- ---- the end: the right-hand side for the leaf cuts nothing either
-pub all-fixed : {ins : List ℕ} {M : Transducer ℕ} {n : ℕ} (l : Leaf ins) {leaf : ℕ} → l .symbol ≡ leaf → Wf (alphabet ins l) M (λ q. q < n) → {h : ℕ → Pattern} → AllAbove ins l M n h → ((q : ℕ) → q < n → FixedAt ins leaf M h q) → Prefs (alphabet ins l) M (λ q. q < n) h
-unfolding alphabet
-all-fixed {ins} {M} l {leaf} s W {h} all fix = cut-end W h all (λ q a sorts v k. by-cases (ℕ-discrete a leaf)
-    (λ e. let z : a ≡ l .symbol = e ∙ sym s in rw z (above-leaf W h v (all q v)))
+pub all-fixed : {ins : List ℕ} {M : Transducer ℕ} {n : ℕ} (l : Leaf ins) {leaf : ℕ} → Wf (alphabet ins l) M (λ q. q < n) → {h : ℕ → Pattern} → AllAbove ins l M n h → UnderLeaf M leaf n h → ((q : ℕ) → q < n → FixedAt ins leaf M h q) → Prefs (alphabet ins l) M (λ q. q < n) h
+unfolding alphabet expand
+all-fixed {ins} {M} l {leaf} W {h} all under fix = above-end l W all (λ q a sorts v k. by-cases (ℕ-discrete a leaf)
+    (λ e. rw e (prefix-trans (under q v) (prefix-bind (M .rhs q leaf) (opened h))))
     (λ n. lcp-same (lcp-graft (h q) h (M .rhs q a) ∙ fix q v a (children-inside ins a k .0) n)))
 
 -- ---- one right-hand side
@@ -217,7 +197,7 @@ number-fits {ins} {n = n} L {q} {a} h g =
     let l = number-less ins q n a h g in
     (omega (arith, mul-le-mul (L .few-states) (L .few-inputs)), omega (arith, L .laid .long))
 
--- ---- the loop over the states: those before q are passed
+-- ---- the loop over the states, from the last to the first: those from q on are passed
 pub record SweepLoop (ins outs starts bytes : List ℕ) (leaf : ℕ) (heads₀ sizes₀ other₀ heads sizes other : List ℕ) (any : Bool) (q : ℕ) : Type 0 where
   pub inside : q ≤ length sizes₀
   pub table : Heads outs heads sizes
@@ -225,23 +205,23 @@ pub record SweepLoop (ins outs starts bytes : List ℕ) (leaf : ℕ) (heads₀ s
   pub same-sizes : length sizes ≡ length sizes₀
   pub same-other : length other ≡ length other₀
   pub cuts : Cuts ins (machine ins outs starts bytes (length sizes₀)) (length sizes₀) (headOf outs heads₀ sizes₀) (headOf outs heads sizes) any
-  pub passed : any ≡ false → (p : ℕ) → p < q → FixedAt ins leaf (machine ins outs starts bytes (length sizes₀)) (headOf outs heads₀ sizes₀) p
+  pub passed : any ≡ false → (p : ℕ) → q ≤ p → p < length sizes₀ → FixedAt ins leaf (machine ins outs starts bytes (length sizes₀)) (headOf outs heads₀ sizes₀) p
 
-pub sweep-start : {ins outs starts bytes heads sizes other : List ℕ} (leaf : ℕ) → Heads outs heads sizes → SweepLoop ins outs starts bytes leaf heads sizes other heads sizes other false 0
-sweep-start leaf T = record { inside = omega arith; table = T; same-heads = refl; same-sizes = refl; same-other = refl; cuts = no-cut _; passed = λ e p h. absurd (omega arith) }
+pub sweep-start : {ins outs starts bytes heads sizes other : List ℕ} (leaf : ℕ) → Heads outs heads sizes → SweepLoop ins outs starts bytes leaf heads sizes other heads sizes other false (length sizes)
+sweep-start leaf T = record { inside = omega arith; table = T; same-heads = refl; same-sizes = refl; same-other = refl; cuts = no-cut _; passed = λ e p h g. absurd (omega arith) }
 
 module _ {ins outs starts bytes heads₀ sizes₀ other₀ : List ℕ} (B : Bodies ins outs starts bytes heads₀ sizes₀ other₀) {leaf : ℕ}
-    {heads sizes other : List ℕ} {any : Bool} {q : ℕ} (L : SweepLoop ins outs starts bytes leaf heads₀ sizes₀ other₀ heads sizes other any q) where
+    {heads sizes other : List ℕ} {any : Bool} {k : ℕ} (L : SweepLoop ins outs starts bytes leaf heads₀ sizes₀ other₀ heads sizes other any k) where
   pub sweep-bodies : Bodies ins outs starts bytes heads sizes other
   sweep-bodies = other-table B (L .table) (L .same-sizes) (L .same-other)
 
-  module _ (there : q < length sizes) {heads′ sizes′ : List ℕ} {b : Bool} (C : CutState ins outs starts bytes leaf q heads sizes heads′ sizes′ b) (sh : length heads′ ≡ length heads) (ss : length sizes′ ≡ length sizes) where
+  module _ {q : ℕ} (before : k ≡ q + 1) {heads′ sizes′ : List ℕ} {b : Bool} (C : CutState ins outs starts bytes leaf q heads sizes heads′ sizes′ b) (sh : length heads′ ≡ length heads) (ss : length sizes′ ≡ length sizes) where
     cuts-here : Cuts ins (machine ins outs starts bytes (length sizes₀)) (length sizes₀) (headOf outs heads sizes) (headOf outs heads′ sizes′) b
     cuts-here = rw (← L .same-sizes) (C .cuts)
 
-    pub sweep-cut : {other′ : List ℕ} → length other′ ≡ length other → b ≡ true → {now : Bool} → now ≡ true → SweepLoop ins outs starts bytes leaf heads₀ sizes₀ other₀ heads′ sizes′ other′ now (q + 1)
+    pub sweep-cut : {other′ : List ℕ} → length other′ ≡ length other → b ≡ true → {now : Bool} → now ≡ true → SweepLoop ins outs starts bytes leaf heads₀ sizes₀ other₀ heads′ sizes′ other′ now q
     sweep-cut so e z = rw z (record {
-      inside = omega (arith, L .same-sizes);
+      inside = omega (arith, L .inside);
       table = C .table;
       same-heads = sh ∙ L .same-heads;
       same-sizes = ss ∙ L .same-sizes;
@@ -250,19 +230,19 @@ module _ {ins outs starts bytes heads₀ sizes₀ other₀ : List ℕ} (B : Bodi
       passed = λ z. conflict (cc);
     })
 
-    pub sweep-none : {other′ : List ℕ} → length other′ ≡ length other → b ≡ false → {now : Bool} → now ≡ any → SweepLoop ins outs starts bytes leaf heads₀ sizes₀ other₀ heads′ sizes′ other′ now (q + 1)
+    pub sweep-none : {other′ : List ℕ} → length other′ ≡ length other → b ≡ false → {now : Bool} → now ≡ any → SweepLoop ins outs starts bytes leaf heads₀ sizes₀ other₀ heads′ sizes′ other′ now q
     sweep-none so e y = rw y (record {
-      inside = omega (arith, L .same-sizes);
+      inside = omega (arith, L .inside);
       table = C .table;
       same-heads = sh ∙ L .same-heads;
       same-sizes = ss ∙ L .same-sizes;
       same-other = so ∙ L .same-other;
       cuts = then-none (L .cuts) e cuts-here;
-      passed = λ z. below-more (λ p. FixedAt ins leaf (machine ins outs starts bytes (length sizes₀)) (headOf outs heads₀ sizes₀) p) q (L .passed z) (rw (← same-patterns (L .cuts) z, ← L .same-sizes) (C .fixed e));
+      passed = λ z p h g. by-cases (ℕ-discrete p q) (λ f. rw f (rw (← same-patterns (L .cuts) z, ← L .same-sizes) (C .fixed e))) (λ f. L .passed z p (omega arith) g);
     })
 
-  pub sweep-end : length sizes ≤ q → Swept ins outs starts bytes leaf heads₀ sizes₀ heads sizes any
-  sweep-end h = record { table = L .table; cuts = L .cuts; fixed = λ e p g. L .passed e p (omega (arith, L .same-sizes)) }
+  pub sweep-end : k ≡ 0 → Swept ins outs starts bytes leaf heads₀ sizes₀ heads sizes any
+  sweep-end h = record { table = L .table; cuts = L .cuts; fixed = λ e p g. L .passed e p (omega arith) g }
 
 -- ---- the loop until nothing is cut
 pub record SettleLoop (ins outs starts bytes : List ℕ) (leaf : ℕ) (heads₀ sizes₀ other₀ heads sizes other : List ℕ) (again : Bool) : Type 0 where
@@ -271,6 +251,7 @@ pub record SettleLoop (ins outs starts bytes : List ℕ) (leaf : ℕ) (heads₀ 
   pub same-sizes : length sizes ≡ length sizes₀
   pub same-other : length other ≡ length other₀
   pub above : (l : Leaf ins) → AllAbove ins l (machine ins outs starts bytes (length sizes₀)) (length sizes₀) (headOf outs heads₀ sizes₀) → AllAbove ins l (machine ins outs starts bytes (length sizes₀)) (length sizes₀) (headOf outs heads sizes)
+  pub under : AllUnder (length sizes₀) (headOf outs heads sizes) (headOf outs heads₀ sizes₀)
   pub fixed : again ≡ false → (q : ℕ) → q < length sizes₀ → FixedAt ins leaf (machine ins outs starts bytes (length sizes₀)) (headOf outs heads sizes) q
 
 -- what is left to cut, and one turn that finds nothing
@@ -278,7 +259,7 @@ pub left : List ℕ → List ℕ → List ℕ → Bool → ℕ
 left outs heads sizes again = total (headOf outs heads sizes) (length sizes) + oneIf again
 
 pub settle-start : {ins outs starts bytes heads sizes other : List ℕ} (leaf : ℕ) → Heads outs heads sizes → SettleLoop ins outs starts bytes leaf heads sizes other heads sizes other true
-settle-start leaf T = record { table = T; same-heads = refl; same-sizes = refl; same-other = refl; above = λ l a. a; fixed = λ e. conflict (cc) }
+settle-start leaf T = record { table = T; same-heads = refl; same-sizes = refl; same-other = refl; above = λ l a. a; under = λ q v. prefix-self _; fixed = λ e. conflict (cc) }
 
 module _ {ins outs starts bytes heads₀ sizes₀ other₀ : List ℕ} (B : Bodies ins outs starts bytes heads₀ sizes₀ other₀) {leaf : ℕ}
     {heads sizes other : List ℕ} {again : Bool} (L : SettleLoop ins outs starts bytes leaf heads₀ sizes₀ other₀ heads sizes other again) where
@@ -296,6 +277,7 @@ module _ {ins outs starts bytes heads₀ sizes₀ other₀ : List ℕ} (B : Bodi
       same-sizes = ss ∙ L .same-sizes;
       same-other = so ∙ L .same-other;
       above = λ l a. swept-here .above l (L .above l a);
+      under = λ q v. prefix-trans (swept-here .under q v) (L .under q v);
       fixed = λ e q h. rw (same-patterns swept-here e, ← L .same-sizes) (C .fixed e q (omega (arith, L .same-sizes)));
     }
 
@@ -308,63 +290,9 @@ module _ {ins outs starts bytes heads₀ sizes₀ other₀ : List ℕ} (B : Bodi
         go false e = rw (ss, t, e) (omega (arith, ap (λ k. total k (length sizes)) (same-patterns (C .cuts) e)))
 
   pub settle-end : again ≡ false → Settled ins outs starts bytes leaf heads₀ sizes₀ heads sizes
-  settle-end e = record { table = L .table; prefs = λ l s a. all-fixed l s (machine-wf l (B .layout .wholes)) (L .above l a) (L .fixed e) }
+  settle-end e = record { table = L .table; prefs = λ l s a u. all-fixed l (machine-wf l (B .layout .wholes)) (L .above l a) (λ q v. prefix-trans (L .under q v) (u q v)) (L .fixed e) }
 
--- ---- cuts along the calls
--- the numbers of the first body of a state, and of the first of the next state, are in the table of starts
-pub row-fits : {ins starts bytes : List ℕ} {n : ℕ} → Flaggable ins starts bytes n → {p : ℕ} → p < n → (1 + p * length ins + length ins < 2050) × (1 + p * length ins + length ins ≤ bodyCount ins n)
-row-fits {ins} {n = n} F {p} h =
-    let m : (p + 1) * length ins ≤ n * length ins = mul-le-mul (omega arith) (omega arith) in
-    (omega (arith, mul-le-mul (F .few-states) (F .few-inputs)), omega arith)
-
-pub can-flag : {ins outs starts bytes heads sizes other : List ℕ} → Bodies ins outs starts bytes heads sizes other → Flaggable ins starts bytes (length sizes)
-can-flag B = record { few-states = B .layout .few-states; few-inputs = B .layout .few-inputs; laid = B .layout .laid }
-
--- the loop over the looks: the last was at state q
-pub record FollowLoop (ins outs starts bytes heads₀ sizes₀ other₀ heads sizes other : List ℕ) (callers dirty : List ℕ) (q : ℕ) : Type 0 where
-  pub same-heads : length heads ≡ length heads₀
-  pub same-sizes : length sizes ≡ length sizes₀
-  pub same-other : length other ≡ length other₀
-  pub caller-flags : length callers ≡ 16384
-  pub state-flags : length dirty ≡ 128
-  pub inside : q ≤ length sizes₀
-  pub followed : Followed ins outs starts bytes heads₀ sizes₀ heads sizes
-
--- what is left to cut, and the looks until a turn is full, for n states at most 128 of which `clean` were looked at since the last cut
-abbrev pub ahead : List ℕ → ℕ → List ℕ → List ℕ → ℕ → ℕ
-ahead outs n heads sizes clean = 129 * total (headOf outs heads sizes) n + (n - clean)
-
-pub follow-start : {ins outs starts bytes heads sizes other : List ℕ} {callers dirty : List ℕ} → Heads outs heads sizes → length callers ≡ 16384 → length dirty ≡ 128 → FollowLoop ins outs starts bytes heads sizes other heads sizes other callers dirty 0
-follow-start T e f = record { same-heads = refl; same-sizes = refl; same-other = refl; caller-flags = e; state-flags = f; inside = omega arith; followed = record { table = T; above = λ l a. a; fewer = omega arith } }
-
-module _ {ins outs starts bytes heads₀ sizes₀ other₀ : List ℕ} (B : Bodies ins outs starts bytes heads₀ sizes₀ other₀)
-    {heads sizes other : List ℕ} {callers dirty : List ℕ} {q : ℕ} (L : FollowLoop ins outs starts bytes heads₀ sizes₀ other₀ heads sizes other callers dirty q) where
-  pub follow-bodies : Bodies ins outs starts bytes heads sizes other
-  follow-bodies = other-table B (L .followed .table) (L .same-sizes) (L .same-other)
-
-  module _ {heads′ sizes′ : List ℕ} {b : Bool} (C : Looked ins outs starts bytes heads sizes heads′ sizes′ b) where
-    looked-here : Cuts ins (machine ins outs starts bytes (length sizes₀)) (length sizes₀) (headOf outs heads sizes) (headOf outs heads′ sizes′) b
-    looked-here = rw (← L .same-sizes) (C .cuts)
-
-    pub follow-next : {other′ : List ℕ} {dirty′ : List ℕ} {q′ : ℕ} → length heads′ ≡ length heads → length sizes′ ≡ length sizes → length other′ ≡ length other → length dirty′ ≡ length dirty → q′ < length sizes₀ → FollowLoop ins outs starts bytes heads₀ sizes₀ other₀ heads′ sizes′ other′ callers dirty′ q′
-    follow-next sh ss so sd h = record {
-      same-heads = sh ∙ L .same-heads;
-      same-sizes = ss ∙ L .same-sizes;
-      same-other = so ∙ L .same-other;
-      caller-flags = L .caller-flags;
-      state-flags = sd ∙ L .state-flags;
-      inside = omega arith;
-      followed = record { table = C .table; above = λ l a. looked-here .above l (L .followed .above l a); fewer = omega (arith, not-more looked-here, L .followed .fewer) };
-    }
-
-    -- a cut loses more than a turn of looks
-    pub less-cut : {clean : ℕ} → clean < length sizes₀ → b ≡ true → ahead outs (length sizes₀) heads′ sizes′ 0 < ahead outs (length sizes₀) heads sizes clean
-    less-cut h e = omega (arith, looked-here .less e, B .layout .few-states)
-
-    pub less-none : {clean : ℕ} → clean < length sizes₀ → b ≡ false → ahead outs (length sizes₀) heads′ sizes′ (clean + 1) < ahead outs (length sizes₀) heads sizes clean
-    less-none h e = omega (arith, ap (λ k. total k (length sizes₀)) (same-patterns looked-here e))
-
--- ---- before a sweep: the patterns are as they were, or cuts along the calls made them smaller
+-- ---- before a sweep: the patterns are as they were, or cuts letter by letter made them smaller
 pub record Between (ins outs starts bytes : List ℕ) (leaf : ℕ) (heads₀ sizes₀ other₀ heads sizes : List ℕ) (again : Bool) (heads′ sizes′ other′ : List ℕ) : Type 0 where
   pub loop : SettleLoop ins outs starts bytes leaf heads₀ sizes₀ other₀ heads′ sizes′ other′ true
   pub fewer : left outs heads′ sizes′ true ≤ left outs heads sizes again
@@ -373,7 +301,7 @@ module _ {ins outs starts bytes : List ℕ} {leaf : ℕ} {heads₀ sizes₀ othe
   pub between-none : {heads′ sizes′ other′ : List ℕ} → heads′ ≡ heads → sizes′ ≡ sizes → other′ ≡ other → Between ins outs starts bytes leaf heads₀ sizes₀ other₀ heads sizes again heads′ sizes′ other′
   between-none e f g = rw (e, f, g, t) (record { loop = rw t at L; fewer = omega arith })
 
-  pub between-some : {heads′ sizes′ other′ : List ℕ} → Followed ins outs starts bytes heads sizes heads′ sizes′ → length heads′ ≡ length heads → length sizes′ ≡ length sizes → length other′ ≡ length other → Between ins outs starts bytes leaf heads₀ sizes₀ other₀ heads sizes again heads′ sizes′ other′
+  pub between-some : {heads′ sizes′ other′ : List ℕ} → Searched ins outs starts bytes heads sizes heads′ sizes′ → length heads′ ≡ length heads → length sizes′ ≡ length sizes → length other′ ≡ length other → Between ins outs starts bytes leaf heads₀ sizes₀ other₀ heads sizes again heads′ sizes′ other′
   unfolding left
   between-some F sh ss so = record {
     loop = record {
@@ -382,6 +310,7 @@ module _ {ins outs starts bytes : List ℕ} {leaf : ℕ} {heads₀ sizes₀ othe
       same-sizes = ss ∙ L .same-sizes;
       same-other = so ∙ L .same-other;
       above = λ l a. (rw (L .same-sizes) at (F .above l)) (L .above l a);
+      under = λ q v. prefix-trans (F .under q (omega (arith, L .same-sizes))) (L .under q v);
       fixed = λ e. conflict (cc);
     };
     fewer = rw (ss, t) (omega (arith, F .fewer));

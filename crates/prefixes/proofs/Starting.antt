@@ -11,7 +11,8 @@ use lib.Seq.{slice, slice-empty, length-slice, length-take-le, take-at, drop-at,
 use borrow.Author.Count.{below-more}
 use Rattle.theory.specs.Pref.{graft}
 use Rattle.theory.specs.Term.{var, mapT}
-use Rattle.theory.proofs.Cut.{cut-start}
+use Rattle.theory.proofs.Cut.{cut-start, forget-self}
+use Rattle.theory.proofs.Prefs.{common-above}
 use Rattle.formats.specs.Alphabets.{Leaf}
 use Rattle.formats.specs.Code.{Mark, flat}
 use Rattle.formats.specs.Inner.Decode.{forest, first, Whole, Over}
@@ -24,7 +25,7 @@ use Rattle.transducer.specs.Inner.Written.{spell, Callable}
 use Rattle.transducer.proofs.Meaning.{body-read}
 use Rattle.prefixes.specs.Alphabet.{alphabet}
 use Rattle.prefixes.specs.Inner.Patterns.{top, patternCode, IsPattern, readPattern, headAt}
-use Rattle.prefixes.specs.Inner.Heads.{headOf, machine, Layout, Bodies, AllAbove, Settled, names, Startable, Started, AllStartable, AllStarted, Prefixable, Prefixes}
+use Rattle.prefixes.specs.Inner.Heads.{headOf, machine, Layout, Bodies, AllAbove, UnderLeaf, Settled, names, Startable, Started, AllStartable, AllStarted, Prefixable, Prefixes}
 use Rattle.prefixes.proofs.Grafts.{slice-from, top-letter, over-graft, pattern-back}
 use Rattle.prefixes.proofs.Leaves.{pref-leaf}
 use Rattle.prefixes.proofs.Settling.{machine-wf, number-fits}
@@ -188,7 +189,11 @@ module _ {ins starts bytes : List ℕ} {leaf : ℕ} {heads₀ sizes₀ : List �
 -- the patterns of the start are above the common prefixes
 start-above : {ins outs starts bytes sizes heads′ sizes′ : List ℕ} (l : Leaf ins) → Layout ins outs starts bytes (length sizes) → AllStarted ins starts bytes (l .symbol) sizes heads′ sizes′ → AllAbove ins l (machine ins outs starts bytes (length sizes)) (length sizes) (headOf outs heads′ sizes′)
 unfolding alphabet
-start-above {outs = outs} l Y S q h = rw (S .started outs Y q h) (cut-start (machine-wf l (Y .wholes)) h)
+start-above {outs = outs} l Y S q h g c = rw (S .started outs Y q h) (common-above c (cut-start (machine-wf l (Y .wholes)) h))
+
+-- and the right-hand sides for the leaf do not cut them
+start-under : {ins outs starts bytes sizes heads′ sizes′ : List ℕ} {leaf : ℕ} → Layout ins outs starts bytes (length sizes) → AllStarted ins starts bytes leaf sizes heads′ sizes′ → UnderLeaf (machine ins outs starts bytes (length sizes)) leaf (length sizes) (headOf outs heads′ sizes′)
+start-under {outs = outs} Y S q h = rw (S .started outs Y q h) (forget-self _)
 
 module _ {ins outs starts bytes heads₀ sizes₀ other₀ : List ℕ} (A : Prefixable ins outs starts bytes heads₀ sizes₀ other₀) {leaf : ℕ}
     {heads sizes : List ℕ} (S : AllStarted ins starts bytes leaf sizes₀ heads sizes) (same : length sizes ≡ length sizes₀) where
@@ -201,4 +206,4 @@ module _ {ins outs starts bytes heads₀ sizes₀ other₀ : List ℕ} (A : Pref
   all-prefixes found T e =
       let l₀ : Leaf ins = record { symbol = leaf; there = found .0; rank = found .1 } in
       let P = rw same at (T .prefs l₀ refl) in
-      record { table = T .table; same = e ∙ same; prefs = λ l q h. pref-leaf l₀ l (P (start-above l₀ (A .layout) S) q h) }
+      record { table = T .table; same = e ∙ same; prefs = λ l q h. pref-leaf l₀ l (P (start-above l₀ (A .layout) S) (start-under (A .layout) S) q h) }

@@ -1,3 +1,5 @@
 -- What only inner functions and their proofs speak of.
 pub mod Patterns
 pub mod Heads
+pub mod Cores
+pub mod Search

@@ -59,7 +59,7 @@ fn same_words(x: &[u8], i: usize, y: &[u8], j: usize, n: usize) -> usize
 }
 
 // The length of a run of bytes of x from i on that are those of y from j on.
-fn same_run(x: &[u8], i: usize, y: &[u8], j: usize) -> usize
+pub(crate) fn same_run(x: &[u8], i: usize, y: &[u8], j: usize) -> usize
     requires { ⌜ (i ≤ length (now x)) × (j ≤ length (now y)) ⌝ }
     ensures { λ r. ⌜ Run (now (x .entry)) i (now (y .entry)) j r ⌝ }
 {

@@ -3,9 +3,10 @@ ghost use Prim.Native.Nat.{_*_, _≤_, _<_};
 ghost use mathlib.Core.Path.{_≡_};
 ghost use lib.ListN.{length, getD};
 ghost use Rattle.formats.specs.Alphabets.{Leaf};
-ghost use Rattle.prefixes.specs.Inner.Heads.{Cuttable, CutBy, Bodies, CutRhs, CutState, Swept, Flaggable, Looked, Followed, Settled, Startable, Started, AllStartable, AllStarted, Prefixable, Prefixes};
+ghost use Rattle.prefixes.specs.Inner.Heads.{Cuttable, CutBy, Bodies, CutRhs, CutState, Swept, Settled, Startable, Started, AllStartable, AllStarted, Prefixable, Prefixes};
 use crate::pattern::graft;
 use crate::pattern::meet;
+use crate::search::search;
 use formats::bytes::number;
 use formats::bytes::wide;
 
@@ -86,7 +87,7 @@ fn cut_state(
     any
 }
 
-// Cuts the pattern of every state once.
+// Cuts the pattern of every state once, from the last state to the first: states are often numbered as they are called.
 fn sweep(
     ins: &[u8],
     outs: &[u8],
@@ -101,142 +102,18 @@ fn sweep(
     ensures { λ b. ⌜ Swept (now (ins .entry)) (now (outs .entry)) (now (starts .entry)) (now (marks .entry)) leaf (now (heads .entry)) (now (sizes .entry)) (now (heads .exit)) (now (sizes .exit)) b ⌝ }
 {
     let mut any = false;
-    let mut q = 0;
-    while q < sizes.len() {
+    let mut q = sizes.len();
+    while q > 0 {
+        q -= 1;
         if cut_state(ins, outs, starts, marks, heads, sizes, leaf, q, other) {
             any = true;
         }
-        q += 1;
     }
     any
 }
 
-// Flags state p as a caller of each state that the marks number `from` up to `to` call: `callers` has 128 flags for each state called.
-fn flag_calls(marks: &[u8], from: usize, to: usize, p: usize, callers: &mut [u8])
-    requires { ⌜ (2 * to ≤ length (now marks)) × (p < 128) × (length (now callers) ≡ 16384) ⌝ }
-{
-    let mut j = from;
-    while j < to {
-        let q = wide(marks[2 * j + 1]);
-        if marks[2 * j] > 0 {
-            if q < 128 {
-                callers[128 * q + p] = 1;
-            }
-        }
-        j += 1;
-    }
-}
-
-// Flags the callers of all states; the right-hand sides of a state stand one after the other, and that for the leaf calls none.
-fn find_callers(ins: &[u8], starts: &[u16], marks: &[u8], leaf: usize, n: usize, callers: &mut [u8])
-    requires { ⌜ Flaggable (now ins) (now starts) (now marks) n × (leaf < length (now ins)) × (length (now callers) ≡ 16384) ⌝ }
-{
-    let mut p = 0;
-    while p < n {
-        let b = 1 + p * ins.len();
-        let from = number(starts[b]);
-        let to = number(starts[b + leaf]);
-        flag_calls(marks, from, to, p, callers);
-        let from2 = number(starts[b + leaf + 1]);
-        let to2 = number(starts[b + ins.len()]);
-        flag_calls(marks, from2, to2, p, callers);
-        p += 1;
-    }
-}
-
-// Flags the callers of state q as states to look at.
-fn flag_callers(callers: &[u8], q: usize, dirty: &mut [u8])
-    requires { ⌜ (q < 128) × (length (now callers) ≡ 16384) × (length (now dirty) ≡ 128) ⌝ }
-{
-    let mut p = 0;
-    while p < 128 {
-        let mut flag = dirty[p];
-        if callers[128 * q + p] > flag {
-            flag = callers[128 * q + p];
-        }
-        dirty[p] = flag;
-        p += 1;
-    }
-}
-
-// Looks at state q if it is flagged, and flags it no more: cuts its pattern, and flags its callers if that took anything away.
-fn look_at(
-    ins: &[u8],
-    outs: &[u8],
-    starts: &[u16],
-    marks: &[u8],
-    heads: &mut [u8],
-    sizes: &mut [u8],
-    leaf: usize,
-    q: usize,
-    other: &mut [u8],
-    callers: &[u8],
-    dirty: &mut [u8],
-) -> bool
-    requires { ⌜ Bodies (now ins) (now outs) (now starts) (now marks) (now heads) (now sizes) (now other) × (q < length (now sizes)) × (length (now callers) ≡ 16384) × (length (now dirty) ≡ 128) ⌝ }
-    ensures { λ b. ⌜ Looked (now (ins .entry)) (now (outs .entry)) (now (starts .entry)) (now (marks .entry)) (now (heads .entry)) (now (sizes .entry)) (now (heads .exit)) (now (sizes .exit)) b ⌝ }
-{
-    if dirty[q] == 0 {
-        return false;
-    }
-    dirty[q] = 0;
-    let cut = cut_state(ins, outs, starts, marks, heads, sizes, leaf, q, other);
-    if cut {
-        flag_callers(callers, q, dirty);
-    }
-    cut
-}
-
-// The state before q of n states in a ring.
-fn previous(q: usize, n: usize) -> usize
-    requires { ⌜ (q ≤ n) × (0 < n) ⌝ }
-    ensures { λ r. ⌜ r < n ⌝ }
-{
-    if q == 0 { n - 1 } else { q - 1 }
-}
-
-// Cuts from callee to caller, until a whole turn through the states cuts nothing; the flags save looks, and no pattern hangs on them.
-fn follow(
-    ins: &[u8],
-    outs: &[u8],
-    starts: &[u16],
-    marks: &[u8],
-    heads: &mut [u8],
-    sizes: &mut [u8],
-    leaf: usize,
-    other: &mut [u8],
-)
-    requires { ⌜ Bodies (now ins) (now outs) (now starts) (now marks) (now heads) (now sizes) (now other) × (leaf < length (now ins)) ⌝ }
-    ensures { λ _. ⌜ Followed (now (ins .entry)) (now (outs .entry)) (now (starts .entry)) (now (marks .entry)) (now (heads .entry)) (now (sizes .entry)) (now (heads .exit)) (now (sizes .exit)) ⌝ }
-{
-    let n = sizes.len();
-    let mut callers = [0u8; 16384];
-    let mut dirty = [1u8; 128];
-    find_callers(ins, starts, marks, leaf, n, &mut callers);
-    let mut q = 0;
-    let mut clean = 0;
-    while clean < n {
-        q = previous(q, n);
-        clean += 1;
-        if look_at(
-            ins,
-            outs,
-            starts,
-            marks,
-            heads,
-            sizes,
-            leaf,
-            q,
-            other,
-            &callers,
-            &mut dirty,
-        ) {
-            clean = 0;
-        }
-    }
-}
-
-// Cuts until no right-hand side cuts any more: by sweeps, and after 2 of them along the calls before each further one.
+// Cuts until no right-hand side cuts any more: letter by letter before each sweep, the last of which finds nothing.
+// The first sweeps go without, as many as look at 256 right-hand sides: these take no longer than the search's arrays to be cleared.
 pub(crate) fn settle(
     ins: &[u8],
     outs: &[u8],
@@ -250,13 +127,14 @@ pub(crate) fn settle(
     requires { ⌜ Bodies (now ins) (now outs) (now starts) (now marks) (now heads) (now sizes) (now other) × (leaf < length (now ins)) ⌝ }
     ensures { λ _. ⌜ Settled (now (ins .entry)) (now (outs .entry)) (now (starts .entry)) (now (marks .entry)) leaf (now (heads .entry)) (now (sizes .entry)) (now (heads .exit)) (now (sizes .exit)) ⌝ }
 {
+    let limit = 256 / (1 + sizes.len() * ins.len());
     let mut more = true;
-    let mut turn: usize = 0;
+    let mut turn = 0;
     while more {
-        if turn < 2 {
+        if turn < limit {
             turn += 1;
         } else {
-            follow(ins, outs, starts, marks, heads, sizes, leaf, other);
+            search(ins, outs, starts, marks, heads, sizes, leaf);
         }
         more = sweep(ins, outs, starts, marks, heads, sizes, leaf, other);
     }

@@ -394,20 +394,40 @@ fn sheets() -> Vec<Sheet> {
         (_, 0) => vec![1, state + 1],
         _ => vec![0, 1 + state / 127],
     });
-    // A ring; at e the comb f(c, f(c, ...)) of 31 f, but in the last state with d as its first leaf; at
-    // u the call of the next state, but in the last one f(c, q0(x1)). That the first leaf varies goes
-    // round the ring, then that the second one does, and so on: no other order finds it sooner.
-    let comb = |states: u8| {
-        rows(states, 2, &[1, 0], &|state, symbol| match symbol {
-            0 if state + 1 < states => vec![1, state + 1],
-            0 => vec![0, 0, 0, 1, 1, 0],
-            _ => {
+    // A ring, whose k-th state has the number `number(k)`; at e the comb f(c, f(c, ...)) of 31 f, but in the
+    // last state with d as its first leaf; at the symbols of rank 1 the calls of the next states, but in the
+    // last one f(c, q(x1)) with the first. That the first leaf varies goes round the ring, then that the
+    // second one does, and so on: no other order finds it sooner.
+    let ring = |states: u8, inputs: u8, number: &dyn Fn(u8) -> u8| {
+        let position: Vec<u8> =
+            (0..states).map(|state| (0..states).find(|&k| number(k) == state).expect("numbers differ")).collect();
+        rows(states, inputs, &[1, number(0)], &|state, symbol| match position[usize::from(state)] {
+            k if symbol + 1 == inputs => {
                 let mut comb = [[0, 0, 0, 1].repeat(31), vec![0, 1]].concat();
-                comb[3] += u8::from(state + 1 == states);
+                comb[3] += u8::from(k + 1 == states);
                 comb
             }
+            k if k + 1 < states => vec![1, number((k + 1 + symbol).min(states - 1))],
+            _ => vec![0, 0, 0, 1, 1, number(0)],
         })
     };
+    let comb = |states: u8| ring(states, 2, &|k| k);
+    // each state calls itself below f(c, .), with d as the first leaf of its comb at e
+    let loops = rows(124, 2, &[1, 0], &|state, symbol| match symbol {
+        0 => vec![0, 0, 0, 1, 1, state],
+        _ => [vec![0, 0, 0, 2], [0, 0, 0, 1].repeat(30), vec![0, 1]].concat(),
+    });
+    // 15 calls of states here and there, and in each of 31 states a leaf of the comb that is its own
+    let meshed = rows(100, 16, &[1, 0], &|state, symbol| match symbol {
+        15 => {
+            let mut comb = [[0, 0, 0, 1].repeat(31), vec![0, 1]].concat();
+            if state % 3 == 0 && state < 93 {
+                comb[4 * usize::from(state / 3) + 3] = 2;
+            }
+            comb
+        }
+        _ => vec![1, ((u16::from(state) * 37 + u16::from(symbol) * 61 + 11) % 100) as u8],
+    });
     // 15 symbols of rank 1 at which other states are called, all with one comb of 23 f at the symbol of
     // rank 0, but for one leaf in the last: the most nodes that lie over others
     let wide_stock = [vec![16], vec![1; 15], vec![0, 4, 2, 0, 0, 1]].concat();
@@ -442,6 +462,12 @@ fn sheets() -> Vec<Sheet> {
         sheet("prefixes, a conflict in 128", &stock, root),
         sheet("prefixes, 32 conflicts in 4", &stock, comb(4)),
         sheet("prefixes, 32 in 127", &stock, comb(127)),
+        sheet("prefixes, 32 in 127, backwards", &stock, ring(127, 2, &|k| 126 - k)),
+        sheet("prefixes, 32 in 127, mixed", &stock, ring(127, 2, &|k| (u16::from(k) * 50 % 127) as u8)),
+        sheet("prefixes, 32 in 100, 15 calls", &wide_stock, ring(100, 16, &|k| k)),
+        sheet("prefixes, 32 in 100, 15 calls, mixed", &wide_stock, ring(100, 16, &|k| (u16::from(k) * 37 % 100) as u8)),
+        sheet("prefixes, 31 in itself, 124 times", &stock, loops),
+        sheet("prefixes, 31 conflicts, 15 calls", &wide_stock, meshed),
         sheet("prefixes, 15 calls, agreeing", &wide_stock, crossing(1)),
         sheet("prefixes, 15 calls, a conflict", &wide_stock, crossing(2)),
         sheet("merging, 128 equal states", &stock, chain(1)),

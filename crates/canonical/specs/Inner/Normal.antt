@@ -2,7 +2,6 @@
 use Prim.Native.Nat.{ℕ, _<_}
 use mathlib.Core.List.{List}
 use mathlib.Core.Path.{_≡_}
-use lib.ListN.{length, getD}
 use Rattle.theory.specs.Earliest.{Earliest}
 use Rattle.theory.specs.NormalForm.{NormalForm}
 use Rattle.theory.specs.Numbered.{Numbered}

@@ -10,7 +10,7 @@ use Rattle.theory.specs.Earliest.{Earliest}
 use Rattle.theory.specs.Wf.{Wf}
 use Rattle.theory.proofs.Bisimulation.{Respects}
 use Rattle.formats.specs.Alphabets.{Leaf}
-use Rattle.formats.specs.Inner.Layout.{bodyCount}
+use Rattle.formats.specs.Inner.Layout.{bodyCount, Laid}
 use Rattle.prefixes.specs.Alphabet.{alphabet}
 use Rattle.prefixes.specs.Inner.Heads.{machine, Layout}
 use Rattle.canonical.specs.Inner.Classes.{SameStates, at, Classed}
@@ -123,6 +123,12 @@ pub record StillFlagged (callers callers′ : List ℕ) : Type 0 where
 -- state p is flagged for the calls in the marks number `from` up to `to`
 pub record FlaggedCalls (bytes : List ℕ) (from to p : ℕ) (callers : List ℕ) : Type 0 where
   pub each : (j : ℕ) → from ≤ j → j < to → 0 < at bytes (2 * j) → at bytes (2 * j + 1) < 128 → Flagged callers (at bytes (2 * j + 1)) p
+
+-- what the flags of callers ask: the bodies of at most 128 states lie where the table says
+pub record Flaggable (ins starts bytes : List ℕ) (n : ℕ) : Type 0 where
+  pub few-states : n ≤ 128
+  pub few-inputs : length ins ≤ 16
+  pub laid : Laid ins n starts bytes
 
 -- each of n states is flagged for the calls in its right-hand sides
 pub record Callers (ins starts bytes : List ℕ) (n : ℕ) (callers : List ℕ) : Type 0 where

@@ -10,7 +10,7 @@ use Rattle.theory.specs.Prefix.{Prefix}
 use Rattle.theory.specs.Term.{Term, var, node, Terms, none, more, count}
 use Rattle.theory.specs.Transducer.{Transducer}
 use Rattle.formats.specs.Code.{flat}
-use Rattle.formats.specs.Inner.Decode.{Letter, call, symbol, unknown, forest, first, rests, Whole}
+use Rattle.formats.specs.Inner.Decode.{Letter, call, symbol, unknown, forest, first, rests, Whole, joined}
 use Rattle.formats.specs.Inner.Layout.{markAt, bodyNumber}
 use Rattle.formats.specs.Inner.Marked.{part}
 use Rattle.transducer.specs.Inner.Written.{spell}
@@ -49,11 +49,6 @@ expanded heads sizes bytes from to = spell (λ i q. labeled (8192 * i + 64 * q) 
 -- body j
 abbrev pub expandedBody : List ℕ → List ℕ → List ℕ → List ℕ → ℕ → List ℕ
 expandedBody starts bytes heads sizes j = expanded heads sizes bytes (getD starts j 0) (getD starts (j + 1) 0)
-
--- some trees and others behind them
-unfoldable pub joined : {A : Type 0} → Terms A → Terms A → Terms A
-joined none us = us
-joined (more t ts) us = more t (joined ts us)
 
 -- the first of the trees ts, if there is one for the first of the patterns hs
 unfoldable pub firstUnder : {A B : Type 0} → Terms A → Terms B → Term B

@@ -34,6 +34,11 @@ rests ℕ.zero ts = ts
 rests (suc n) none = none
 rests (suc n) (more t ts) = rests n ts
 
+-- some trees and others behind them
+abbrev pub joined : {A : Type 0} → Terms A → Terms A → Terms A
+joined none us = us
+joined (more t ts) us = more t (joined ts us)
+
 abbrev pub grown : {A : Type 0} → Bool → ℕ → ℕ → Terms A → Terms A
 grown true k n ts = more (node k (firsts n ts)) (rests n ts)
 grown false k n ts = none

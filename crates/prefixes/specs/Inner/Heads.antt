@@ -7,11 +7,10 @@ use mathlib.Core.Path.{_≡_}
 use lib.ListN.{length, getD, set}
 use lib.Seq.{sets}
 use Rattle.theory.specs.Lcp.{lcp}
-use Rattle.theory.specs.Pref.{graft, Prefs}
-use Rattle.theory.specs.Prefix.{Pattern}
+use Rattle.theory.specs.Pref.{CommonPrefix, graft, Prefs}
+use Rattle.theory.specs.Prefix.{Pattern, Prefix}
 use Rattle.theory.specs.Term.{Term, mapT}
 use Rattle.theory.specs.Transducer.{Transducer}
-use Rattle.theory.proofs.Prefs.{Above}
 use Rattle.theory.proofs.PrefsExist.{total}
 use Rattle.formats.specs.Alphabets.{Leaf}
 use Rattle.formats.specs.Inner.Decode.{forest, first, Whole}
@@ -77,13 +76,22 @@ pub record Bodies (ins outs starts bytes heads sizes other : List ℕ) : Type 0 
 abbrev pub FixedAt : List ℕ → ℕ → Transducer ℕ → (ℕ → Pattern) → ℕ → Type 0
 FixedAt ins leaf M h q = (a : ℕ) → a < length ins → a ≢ leaf → lcp (h q) (graft h (M .rhs q a)) ≡ h q
 
--- every pattern is above the common prefix of its state
+-- every common prefix of the outputs of a state is a prefix of its pattern
 abbrev pub AllAbove : (ins : List ℕ) → Leaf ins → Transducer ℕ → ℕ → (ℕ → Pattern) → Type 0
-AllAbove ins l M n h = (q : ℕ) → q < n → Above (alphabet ins l) M q (h q)
+AllAbove ins l M n h = (q : ℕ) → q < n → (g : Pattern) → CommonPrefix (alphabet ins l) M q g → Prefix g (h q)
+
+-- every pattern of p is a prefix of that of h
+abbrev pub AllUnder : ℕ → (ℕ → Pattern) → (ℕ → Pattern) → Type 0
+AllUnder n p h = (q : ℕ) → q < n → Prefix (p q) (h q)
+
+-- every pattern is a prefix of the right-hand side of its state for the leaf
+abbrev pub UnderLeaf : Transducer ℕ → ℕ → ℕ → (ℕ → Pattern) → Type 0
+UnderLeaf M leaf n h = (q : ℕ) → q < n → Prefix (h q) (M .rhs q leaf)
 
 -- what any number of cuts do to the patterns h: they stay above the common prefixes, and lose symbols or stay as they were, as b says
 pub record Cuts (ins : List ℕ) (M : Transducer ℕ) (n : ℕ) (h h′ : ℕ → Pattern) (b : Bool) : Type 0 where
   pub above : (l : Leaf ins) → AllAbove ins l M n h → AllAbove ins l M n h′
+  pub under : AllUnder n h′ h
   pub less : b ≡ true → total h′ n < total h n
   pub kept : b ≡ false → (p : ℕ) → h′ p ≡ h p
 
@@ -105,29 +113,19 @@ pub record Swept (ins outs starts bytes : List ℕ) (leaf : ℕ) (heads sizes he
   pub cuts : Cuts ins (machine ins outs starts bytes (length sizes)) (length sizes) (headOf outs heads sizes) (headOf outs heads′ sizes′) b
   pub fixed : b ≡ false → (q : ℕ) → q < length sizes → FixedAt ins leaf (machine ins outs starts bytes (length sizes)) (headOf outs heads sizes) q
 
--- ---- cuts along the calls
--- what the flags of callers ask: the bodies of at most 128 states lie where the table says
-pub record Flaggable (ins starts bytes : List ℕ) (n : ℕ) : Type 0 where
-  pub few-states : n ≤ 128
-  pub few-inputs : length ins ≤ 16
-  pub laid : Laid ins n starts bytes
-
--- a look at one state: it is cut, or left alone
-pub record Looked (ins outs starts bytes heads sizes heads′ sizes′ : List ℕ) (b : Bool) : Type 0 where
-  pub table : Heads outs heads′ sizes′
-  pub cuts : Cuts ins (machine ins outs starts bytes (length sizes)) (length sizes) (headOf outs heads sizes) (headOf outs heads′ sizes′) b
-
--- any number of looks: the patterns stay above the common prefixes, and gain no symbol
-pub record Followed (ins outs starts bytes heads sizes heads′ sizes′ : List ℕ) : Type 0 where
+-- ---- cuts letter by letter
+-- the patterns stay above the common prefixes, become prefixes of what they were, and gain no symbol
+pub record Searched (ins outs starts bytes heads sizes heads′ sizes′ : List ℕ) : Type 0 where
   pub table : Heads outs heads′ sizes′
   pub above : (l : Leaf ins) → AllAbove ins l (machine ins outs starts bytes (length sizes)) (length sizes) (headOf outs heads sizes) → AllAbove ins l (machine ins outs starts bytes (length sizes)) (length sizes) (headOf outs heads′ sizes′)
+  pub under : AllUnder (length sizes) (headOf outs heads′ sizes′) (headOf outs heads sizes)
   pub fewer : total (headOf outs heads′ sizes′) (length sizes) ≤ total (headOf outs heads sizes) (length sizes)
 
 -- ---- the end
--- the patterns are the common prefixes, if they were above them: then the right-hand side for the leaf does not cut
+-- the patterns are the common prefixes, if they were above them and the right-hand side for the leaf cuts nothing
 pub record Settled (ins outs starts bytes : List ℕ) (leaf : ℕ) (heads sizes heads′ sizes′ : List ℕ) : Type 0 where
   pub table : Heads outs heads′ sizes′
-  pub prefs : (l : Leaf ins) → l .symbol ≡ leaf → AllAbove ins l (machine ins outs starts bytes (length sizes)) (length sizes) (headOf outs heads sizes) → Prefs (alphabet ins l) (machine ins outs starts bytes (length sizes)) (λ q. q < length sizes) (headOf outs heads′ sizes′)
+  pub prefs : (l : Leaf ins) → l .symbol ≡ leaf → AllAbove ins l (machine ins outs starts bytes (length sizes)) (length sizes) (headOf outs heads sizes) → UnderLeaf (machine ins outs starts bytes (length sizes)) leaf (length sizes) (headOf outs heads sizes) → Prefs (alphabet ins l) (machine ins outs starts bytes (length sizes)) (λ q. q < length sizes) (headOf outs heads′ sizes′)
 
 -- ---- the start: the right-hand sides for a leaf, which have no calls
 -- the second bytes of the marks number `from` up to `to`

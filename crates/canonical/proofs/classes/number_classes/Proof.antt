@@ -9,9 +9,6 @@ use Prim.Native.Nat.{_-_, _<_}
 use borrow.Author.Needs.{needs}
 use Rattle.canonical.proofs.classes.number_classes.Statement.{statement}
 use Rattle.canonical.proofs.classes.number_classes.Tie as tie
-use Rattle.canonical.proofs.classes.number_classes.Reads as reads
-use Rattle.canonical.proofs.classes.number_classes.Lts as lts
-use Rattle.formats.proofs.bytes.wide.Reads as wide-reads
 
 abbrev Inv-loop : tie.InvT-loop
 Inv-loop old new₀ least₀ numbers₀ count₀ p₀ new least numbers count p = NumberLoop old new₀ least₀ new least numbers count p

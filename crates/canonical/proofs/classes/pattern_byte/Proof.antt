@@ -7,9 +7,6 @@ use Prim.Native.Nat.{_+_, _-_, _*_}
 use borrow.Author.Needs.{needs}
 use Rattle.canonical.proofs.classes.pattern_byte.Statement.{statement}
 use Rattle.canonical.proofs.classes.pattern_byte.Tie as tie
-use Rattle.canonical.proofs.classes.pattern_byte.Reads as reads
-use Rattle.canonical.proofs.classes.pattern_byte.Lts as lts
-use Rattle.formats.proofs.bytes.wide.Reads as wide-reads
 
 abbrev Inv-loop : tie.InvT-loop
 Inv-loop marks from to h₀ j₀ h j = PatternLoop marks from to h j

@@ -7,10 +7,6 @@ use Prim.Native.Nat.{_-_}
 use borrow.Author.Needs.{needs}
 use Rattle.canonical.proofs.classes.pattern_classes.Statement.{statement}
 use Rattle.canonical.proofs.classes.pattern_classes.Tie as tie
-use Rattle.canonical.proofs.classes.pattern_classes.Reads as reads
-use Rattle.canonical.proofs.classes.pattern_classes.Lts as lts
-use Rattle.canonical.proofs.classes.pattern_byte.Reads as pattern-byte-reads
-use Rattle.formats.proofs.bytes.number.Reads as number-reads
 
 abbrev Inv-loop : tie.InvT-loop
 Inv-loop ins starts marks classes₀ p₀ classes p = BytesLoop ins starts marks classes₀ classes p

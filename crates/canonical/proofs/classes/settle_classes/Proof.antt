@@ -5,12 +5,6 @@ use native.Mathlib.Omega.{arith}
 use borrow.Author.Needs.{needs}
 use Rattle.canonical.proofs.classes.settle_classes.Statement.{statement}
 use Rattle.canonical.proofs.classes.settle_classes.Tie as tie
-use Rattle.canonical.proofs.classes.settle_classes.Reads as reads
-use Rattle.canonical.proofs.classes.settle_classes.Lts as lts
-use Rattle.canonical.proofs.classes.number_classes.Reads as number-classes-reads
-use Rattle.canonical.proofs.classes.pattern_classes.Reads as pattern-classes-reads
-use Rattle.canonical.proofs.parting.part_classes.Reads as part-classes-reads
-use Rattle.formats.proofs.file.copy_at.Reads as copy-at-reads
 
 -- src/classes.rt:151:5
 pattern-classes-requires : tie.Need-pattern-classes-requires

@@ -3,12 +3,6 @@ use Rattle.canonical.proofs.Cleaning.{normal-reducible, normal-states, 
 use borrow.Author.Needs.{needs}
 use Rattle.canonical.proofs.normal.normal_by.Statement.{statement}
 use Rattle.canonical.proofs.normal.normal_by.Tie as tie
-use Rattle.canonical.proofs.normal.normal_by.Reads as reads
-use Rattle.canonical.proofs.normal.normal_by.Lts as lts
-use Rattle.canonical.proofs.normal.reduce.Reads as reduce-reads
-use Rattle.earliest.proofs.earliest.earliest_by.Reads as earliest-by-reads
-use Rattle.formats.proofs.alphabet.input_ranks.Reads as input-ranks-reads
-use Rattle.formats.proofs.alphabet.output_ranks.Reads as output-ranks-reads
 
 slice-aggregate-earliest-by : tie.Need-slice-aggregate-earliest-by
 slice-aggregate-earliest-by c = search needs

@@ -4,9 +4,6 @@ use Rattle.canonical.proofs.Normalizing.{reducible-part, reduces-part}
 use borrow.Author.Needs.{needs}
 use Rattle.canonical.proofs.normal.reduce.Statement.{statement}
 use Rattle.canonical.proofs.normal.reduce.Tie as tie
-use Rattle.canonical.proofs.normal.reduce.Reads as reads
-use Rattle.canonical.proofs.normal.reduce.Lts as lts
-use Rattle.canonical.proofs.normal.reduce_by.Reads as reduce-by-reads
 
 sub-reduce-by : tie.Need-sub-reduce-by
 sub-reduce-by c = search needs

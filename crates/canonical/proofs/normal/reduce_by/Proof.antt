@@ -6,10 +6,6 @@ use Rattle.canonical.proofs.Normalizing.{settled-mergeable, settled-red
 use borrow.Author.Needs.{needs}
 use Rattle.canonical.proofs.normal.reduce_by.Statement.{statement}
 use Rattle.canonical.proofs.normal.reduce_by.Tie as tie
-use Rattle.canonical.proofs.normal.reduce_by.Reads as reads
-use Rattle.canonical.proofs.normal.reduce_by.Lts as lts
-use Rattle.canonical.proofs.classes.settle_classes.Reads as settle-classes-reads
-use Rattle.canonical.proofs.quotient.merge.Reads as merge-reads
 
 slice-aggregate-settle-classes : tie.Need-slice-aggregate-settle-classes
 slice-aggregate-settle-classes c = search needs

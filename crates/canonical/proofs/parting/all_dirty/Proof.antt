@@ -3,11 +3,8 @@ use Rattle.canonical.proofs.Spreading.{AllLoop, all-next, all-end}
 use mathlib.Core.Path.{sym, _∙_}
 use native.Mathlib.Omega.{arith}
 use Prim.Native.Nat.{_-_}
-use borrow.Author.Needs.{needs}
 use Rattle.canonical.proofs.parting.all_dirty.Statement.{statement}
 use Rattle.canonical.proofs.parting.all_dirty.Tie as tie
-use Rattle.canonical.proofs.parting.all_dirty.Reads as reads
-use Rattle.canonical.proofs.parting.all_dirty.Lts as lts
 
 abbrev Inv-loop : tie.InvT-loop
 Inv-loop dirty₀ reps₀ list₀ n q₀ dirty reps list q = AllLoop dirty reps list q

@@ -5,9 +5,6 @@ use native.Mathlib.Omega.{arith}
 use borrow.Author.Needs.{needs}
 use Rattle.canonical.proofs.parting.clean_member.Statement.{statement}
 use Rattle.canonical.proofs.parting.clean_member.Tie as tie
-use Rattle.canonical.proofs.parting.clean_member.Reads as reads
-use Rattle.canonical.proofs.parting.clean_member.Lts as lts
-use Rattle.canonical.proofs.parting.find_clean.Reads as find-clean-reads
 
 -- src/parting.rt:33:9
 returns : tie.Need-returns

@@ -1,16 +1,12 @@
 -- `find_callers` meets its contract. The invariant: the calls of the states passed are flagged. Assumes nothing.
 use Rattle.canonical.proofs.Calling.{StatesLoop, no-states, next-state, all-states}
-use Rattle.prefixes.proofs.Settling.{row-fits}
+use Rattle.canonical.proofs.Patterns.{row-fits}
 use mathlib.Core.Path.{sym, _∙_}
 use native.Mathlib.Omega.{arith}
 use Prim.Native.Nat.{_-_}
 use borrow.Author.Needs.{needs}
 use Rattle.canonical.proofs.parting.find_callers.Statement.{statement}
 use Rattle.canonical.proofs.parting.find_callers.Tie as tie
-use Rattle.canonical.proofs.parting.find_callers.Reads as reads
-use Rattle.canonical.proofs.parting.find_callers.Lts as lts
-use Rattle.canonical.proofs.parting.flag_calls.Reads as flag-calls-reads
-use Rattle.formats.proofs.bytes.number.Reads as number-reads
 
 abbrev Inv-loop : tie.InvT-loop
 Inv-loop ins starts marks n callers₀ p₀ callers p = StatesLoop ins starts marks callers₀ callers p

@@ -8,10 +8,6 @@ use Prim.Native.Nat.{ℕ, _-_, _≤_, _<_}
 use borrow.Author.Needs.{needs}
 use Rattle.canonical.proofs.parting.find_class.Statement.{statement}
 use Rattle.canonical.proofs.parting.find_class.Tie as tie
-use Rattle.canonical.proofs.parting.find_class.Reads as reads
-use Rattle.canonical.proofs.parting.find_class.Lts as lts
-use Rattle.canonical.proofs.classes.same_states.Reads as same-states-reads
-use Rattle.formats.proofs.bytes.wide.Reads as wide-reads
 
 abbrev Inv-loop : tie.InvT-loop
 Inv-loop ins starts marks old reps base count p k₀ k = (base ≤ k) × (k ≤ count) × ((j : ℕ) → j < k → base ≤ j → Misses ins starts marks old reps p j)

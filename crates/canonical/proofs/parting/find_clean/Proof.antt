@@ -10,8 +10,6 @@ use Rattle.canonical.specs.Inner.Parting.{Clean}
 use borrow.Author.Needs.{needs}
 use Rattle.canonical.proofs.parting.find_clean.Statement.{statement}
 use Rattle.canonical.proofs.parting.find_clean.Tie as tie
-use Rattle.canonical.proofs.parting.find_clean.Reads as reads
-use Rattle.canonical.proofs.parting.find_clean.Lts as lts
 
 abbrev Inv-loop : tie.InvT-loop
 Inv-loop classes dirty c from to q₀ q = (j : ℕ) → j < q → from ≤ j → at classes j ≡ c → Clean dirty j → ⊥

@@ -3,8 +3,6 @@ use Prim.Native.Nat.{_-_}
 use borrow.Author.Needs.{needs}
 use Rattle.canonical.proofs.parting.find_member.Statement.{statement}
 use Rattle.canonical.proofs.parting.find_member.Tie as tie
-use Rattle.canonical.proofs.parting.find_member.Reads as reads
-use Rattle.canonical.proofs.parting.find_member.Lts as lts
 
 abbrev Inv-loop : tie.InvT-loop
 Inv-loop classes c from to p q₀ q = Unit {0}

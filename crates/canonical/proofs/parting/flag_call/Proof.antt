@@ -9,9 +9,6 @@ use Prim.Native.Nat.{_+_, _-_, _*_}
 use borrow.Author.Needs.{needs}
 use Rattle.canonical.proofs.parting.flag_call.Statement.{statement}
 use Rattle.canonical.proofs.parting.flag_call.Tie as tie
-use Rattle.canonical.proofs.parting.flag_call.Reads as reads
-use Rattle.canonical.proofs.parting.flag_call.Lts as lts
-use Rattle.formats.proofs.bytes.wide.Reads as wide-reads
 
 -- the table is as long as it was
 room : (c : tie.Joined1) → length (c .if1 .callers) ≡ 16640

@@ -9,9 +9,6 @@ use Prim.Native.Nat.{ℕ, _+_, _-_, _*_, _≤_}
 use borrow.Author.Needs.{needs}
 use Rattle.canonical.proofs.parting.flag_callers.Statement.{statement}
 use Rattle.canonical.proofs.parting.flag_callers.Tie as tie
-use Rattle.canonical.proofs.parting.flag_callers.Reads as reads
-use Rattle.canonical.proofs.parting.flag_callers.Lts as lts
-use Rattle.formats.proofs.bytes.wide.Reads as wide-reads
 
 abbrev Inv-loop : tie.InvT-loop
 Inv-loop callers r n dirty₀ list₀ len count₀ b to q₀ dirty list count q = FlagLoop callers r n dirty₀ to dirty list count q

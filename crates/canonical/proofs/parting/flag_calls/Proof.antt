@@ -7,10 +7,6 @@ use Prim.Native.Nat.{_-_}
 use borrow.Author.Needs.{needs}
 use Rattle.canonical.proofs.parting.flag_calls.Statement.{statement}
 use Rattle.canonical.proofs.parting.flag_calls.Tie as tie
-use Rattle.canonical.proofs.parting.flag_calls.Reads as reads
-use Rattle.canonical.proofs.parting.flag_calls.Lts as lts
-use Rattle.canonical.proofs.parting.flag_call.Reads as flag-call-reads
-use Rattle.formats.proofs.bytes.wide.Reads as wide-reads
 
 abbrev Inv-loop : tie.InvT-loop
 Inv-loop marks from to p callers₀ j₀ callers j = CallsLoop marks from p callers₀ callers j

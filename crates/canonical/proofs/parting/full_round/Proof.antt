@@ -4,10 +4,6 @@ use mathlib.Core.Path.{_∙_}
 use borrow.Author.Needs.{needs}
 use Rattle.canonical.proofs.parting.full_round.Statement.{statement}
 use Rattle.canonical.proofs.parting.full_round.Tie as tie
-use Rattle.canonical.proofs.parting.full_round.Reads as reads
-use Rattle.canonical.proofs.parting.full_round.Lts as lts
-use Rattle.canonical.proofs.parting.all_dirty.Reads as all-dirty-reads
-use Rattle.canonical.proofs.parting.part_round.Reads as part-round-reads
 
 -- src/parting.rt:404:5
 all-dirty-requires : tie.Need-all-dirty-requires

@@ -4,10 +4,6 @@ use mathlib.Core.Logic.{inl, inr}
 use borrow.Author.Needs.{needs}
 use Rattle.canonical.proofs.parting.next_round.Statement.{statement}
 use Rattle.canonical.proofs.parting.next_round.Tie as tie
-use Rattle.canonical.proofs.parting.next_round.Reads as reads
-use Rattle.canonical.proofs.parting.next_round.Lts as lts
-use Rattle.canonical.proofs.parting.all_dirty.Reads as all-dirty-reads
-use Rattle.canonical.proofs.parting.spread.Reads as spread-reads
 
 -- src/parting.rt:332:9
 spread-requires : tie.Need-spread-requires

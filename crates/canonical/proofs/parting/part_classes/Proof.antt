@@ -5,10 +5,6 @@ use Prim.Native.Nat.{ℕ}
 use borrow.Author.Needs.{needs}
 use Rattle.canonical.proofs.parting.part_classes.Statement.{statement}
 use Rattle.canonical.proofs.parting.part_classes.Tie as tie
-use Rattle.canonical.proofs.parting.part_classes.Reads as reads
-use Rattle.canonical.proofs.parting.part_classes.Lts as lts
-use Rattle.canonical.proofs.parting.full_round.Reads as full-round-reads
-use Rattle.canonical.proofs.parting.part_rest.Reads as part-rest-reads
 
 -- src/parting.rt:463:9
 slice-aggregate-full-round : tie.Need-slice-aggregate-full-round

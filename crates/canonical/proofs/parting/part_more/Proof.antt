@@ -9,11 +9,6 @@ use Prim.Native.Nat.{ℕ}
 use borrow.Author.Needs.{needs}
 use Rattle.canonical.proofs.parting.part_more.Statement.{statement}
 use Rattle.canonical.proofs.parting.part_more.Tie as tie
-use Rattle.canonical.proofs.parting.part_more.Reads as reads
-use Rattle.canonical.proofs.parting.part_more.Lts as lts
-use Rattle.canonical.proofs.parting.find_callers.Reads as find-callers-reads
-use Rattle.canonical.proofs.parting.next_round.Reads as next-round-reads
-use Rattle.canonical.proofs.parting.part_round.Reads as part-round-reads
 
 abbrev Inv-loop : tie.InvT-loop
 Inv-loop ins starts marks old₀ new₀ dirty₀ reps₀ list₀ moved₀ count m callers base₀ k₀ old new dirty reps list moved base k = PartLoop ins starts marks old₀ callers old new dirty reps list moved base k

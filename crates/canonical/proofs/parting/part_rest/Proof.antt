@@ -7,14 +7,8 @@ use lib.ListN.{length}
 use mathlib.Core.Path.{_≡_, refl, sym, _∙_}
 use mathlib.Core.Logic.{⊎-elim}
 use native.Mathlib.Omega.{arith}
-use borrow.Author.Needs.{needs}
 use Rattle.canonical.proofs.parting.part_rest.Statement.{statement}
 use Rattle.canonical.proofs.parting.part_rest.Tie as tie
-use Rattle.canonical.proofs.parting.part_rest.Reads as reads
-use Rattle.canonical.proofs.parting.part_rest.Lts as lts
-use Rattle.canonical.proofs.parting.full_round.Reads as full-round-reads
-use Rattle.canonical.proofs.parting.part_more.Reads as part-more-reads
-use Rattle.formats.proofs.file.copy_at.Reads as copy-at-reads
 
 -- what is known after the round of all states, or without it
 rest : (c : tie.Joined1) → Parted (now (c .before .before .before .before .before .before .before .before .before .before .args .ins)) (now (c .before .before .before .before .before .before .before .before .before .before .args .starts)) (now (c .before .before .before .before .before .before .before .before .before .before .args .marks)) (c .if1 .old) (c .if1 .new) (c .if1 .dirty) (c .if1 .reps) (c .if1 .list) (c .if1 .moved) (c .if1 .base) (c .if1 .k) × (length (c .if1 .old) ≡ length (now (c .before .before .before .before .before .before .before .before .before .before .args .old)))

@@ -7,10 +7,6 @@ use Prim.Native.Nat.{_-_}
 use borrow.Author.Needs.{needs}
 use Rattle.canonical.proofs.parting.part_round.Statement.{statement}
 use Rattle.canonical.proofs.parting.part_round.Tie as tie
-use Rattle.canonical.proofs.parting.part_round.Reads as reads
-use Rattle.canonical.proofs.parting.part_round.Lts as lts
-use Rattle.canonical.proofs.parting.place.Reads as place-reads
-use Rattle.formats.proofs.bytes.wide.Reads as wide-reads
 
 abbrev Inv-loop : tie.InvT-loop
 Inv-loop ins starts marks old new₀ dirty₀ reps₀ list len moved₀ base count₀ m₀ i₀ new dirty reps moved count m i = RoundLoop ins starts marks old list base len new dirty reps moved count m i

@@ -4,11 +4,6 @@ use native.Mathlib.Omega.{arith}
 use borrow.Author.Needs.{needs}
 use Rattle.canonical.proofs.parting.place.Statement.{statement}
 use Rattle.canonical.proofs.parting.place.Tie as tie
-use Rattle.canonical.proofs.parting.place.Reads as reads
-use Rattle.canonical.proofs.parting.place.Lts as lts
-use Rattle.canonical.proofs.classes.same_states.Reads as same-states-reads
-use Rattle.canonical.proofs.parting.find_class.Reads as find-class-reads
-use Rattle.canonical.proofs.parting.represent.Reads as represent-reads
 
 -- src/parting.rt:121:41
 shared-slice-read-represent : tie.Need-shared-slice-read-represent

@@ -9,11 +9,6 @@ use native.Mathlib.Omega.{arith}
 use borrow.Author.Needs.{needs}
 use Rattle.canonical.proofs.parting.represent.Statement.{statement}
 use Rattle.canonical.proofs.parting.represent.Tie as tie
-use Rattle.canonical.proofs.parting.represent.Reads as reads
-use Rattle.canonical.proofs.parting.represent.Lts as lts
-use Rattle.canonical.proofs.parting.clean_member.Reads as clean-member-reads
-use Rattle.canonical.proofs.parting.find_member.Reads as find-member-reads
-use Rattle.formats.proofs.bytes.wide.Reads as wide-reads
 
 -- src/parting.rt:72:59
 wide-requires : tie.Need-wide-requires

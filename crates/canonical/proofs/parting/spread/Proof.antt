@@ -9,10 +9,6 @@ use Prim.Native.Nat.{_-_}
 use borrow.Author.Needs.{needs}
 use Rattle.canonical.proofs.parting.spread.Statement.{statement}
 use Rattle.canonical.proofs.parting.spread.Tie as tie
-use Rattle.canonical.proofs.parting.spread.Reads as reads
-use Rattle.canonical.proofs.parting.spread.Lts as lts
-use Rattle.canonical.proofs.parting.flag_callers.Reads as flag-callers-reads
-use Rattle.formats.proofs.bytes.wide.Reads as wide-reads
 
 abbrev Inv-loop : tie.InvT-loop
 Inv-loop callers old₀ new dirty₀ list₀ moved m len₀ j₀ old dirty list len j = SpreadLoop callers old₀ new moved m old dirty list len j

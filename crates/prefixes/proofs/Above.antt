@@ -1,0 +1,141 @@
+-- Patterns above the common prefixes: what holds the pref(q) of every state is above them, a cut keeps it so, and patterns that nothing cuts are the pref(q).
+-- Assumes nothing.
+use Prim.Native.Nat.{ℕ, suc, _≤_, _<_}
+use native.Mathlib.Decide.{ℕ-discrete}
+use native.Mathlib.Omega.{arith}
+use mathlib.Core.List.{List}
+use mathlib.Core.Logic.{_≢_, by-cases}
+use mathlib.Core.Option.{some}
+use mathlib.Core.Path.{_≡_, refl, sym, ap, _∙_}
+use lib.ListN.{length, getD, replicate}
+use Rattle.theory.specs.Lcp.{lcp, lcps}
+use Rattle.theory.specs.Pref.{graft, Prefs}
+use Rattle.theory.specs.Prefix.{Pattern, Prefix, any, keeps, Prefixes, no-more, also}
+use Rattle.theory.specs.Term.{Term, Terms, var, bind, binds, mapT}
+use Rattle.theory.specs.Transducer.{Transducer}
+use Rattle.theory.specs.Vars.{AllVars, one, each, EachVars, done, both}
+use Rattle.theory.specs.Wf.{nth, Wf}
+use Rattle.theory.proofs.Cut.{lcp-graft, prefs-fixed}
+use Rattle.theory.proofs.Lcps.{lcp-keeps, lcp-right}
+use Rattle.theory.proofs.Prefixes.{prefixes-count, prefix-map, prefix-trans, prefix-antisym}
+use Rattle.theory.proofs.Prefs.{Fixed, fixpoint, pref-largest}
+use Rattle.theory.proofs.PrefsExist.{prefs-exist}
+use Rattle.theory.proofs.Terms.{bind-var}
+use Rattle.theory.proofs.Vars.{all-map}
+use Rattle.formats.specs.Alphabets.{Leaf}
+use Rattle.formats.specs.Inner.Layout.{transducer, Wholes}
+use Rattle.formats.proofs.Sheets.{transducer-over}
+use Rattle.transducer.proofs.Outputs.{ranked-vars}
+use Rattle.prefixes.specs.Alphabet.{alphabet, children-inside, children-of}
+use Rattle.prefixes.specs.Inner.Cores.{Cored}
+use Rattle.prefixes.specs.Inner.Heads.{machine, Layout, AllAbove, AllUnder}
+
+-- ---- the transducer of whole bodies is well-formed over the alphabet
+-- each of r children is of sort 0
+nth-sort : (r i : ℕ) → 1 ≤ i → i ≤ r → nth {A = ℕ} (replicate r 0) i ≡ some 0
+unfolding nth
+nth-sort ℕ.zero i p h = absurd (omega arith)
+nth-sort (suc r) ℕ.zero p h = absurd (omega arith)
+nth-sort (suc r) (suc ℕ.zero) p h = refl
+nth-sort (suc r) (suc (suc i)) p h = nth-sort r (suc i) (omega arith) (omega arith)
+
+-- its calls are of its states, on children that are there
+pub machine-wf : {ins outs : List ℕ} {n : ℕ} {start : ℕ → ℕ} {bytes : List ℕ} (l : Leaf ins) → Wholes ins outs n start bytes → Wf (alphabet ins l) (transducer ins outs n start bytes) (λ q. q < n)
+unfolding alphabet transducer nth
+machine-wf {ins} {outs} {n} {start} {bytes} l W =
+    let O = transducer-over ins outs n start bytes W in
+    let M = transducer ins outs n start bytes in
+    record {
+      initial = all-map (λ e c. record { valid = c .state; sort = nth-sort 1 (e .0) (c .from-one) (c .child) }) (ranked-vars outs n 1 (M .initial) (O .initial));
+      rhs = λ q a {sorts} h k.
+          let c = children-inside ins a k in
+          all-map (λ e m. record { valid = m .state; sort = ap (λ z. nth z (e .0)) (c .1) ∙ nth-sort (getD ins a 0) (e .0) (m .from-one) (m .child) })
+          (ranked-vars outs n (getD ins a 0) (M .rhs q a) (O .rhs q a h (c .0)));
+    }
+
+-- ---- prefixes
+-- a term is a prefix of what a substitution makes of it
+pub prefix-bind : {A B : Type 0} (t : Term A) (f : A → Term B) → Prefix t (bind t f)
+unfolding mapT
+prefix-bind t f = rw (bind-var t) at (prefix-map (λ a. a) t f)
+
+-- a term is a prefix of itself
+pub prefix-self : {A : Type 0} (t : Term A) → Prefix t t
+prefix-self t = rw (bind-var t) at (prefix-bind t (λ a. var a))
+
+module _ {A B C : Type 0} {f : A → Term B} {g : A → Term C} where
+  mutual
+    unfolding bind
+
+    -- if what f puts for each variable is a prefix of what g puts for it, so is the whole
+    bind-grows : {t : Term A} → AllVars (λ a. Prefix (f a) (g a)) t → Prefix (bind t f) (bind t g)
+    bind-grows (one p) = p
+    bind-grows (each ps) = keeps (binds-grow ps)
+
+    binds-grow : {ts : Terms A} → EachVars (λ a. Prefix (f a) (g a)) ts → Prefixes (binds ts f) (binds ts g)
+    binds-grow done = no-more
+    binds-grow (both p ps) = also (bind-grows p) (binds-grow ps)
+
+-- a grafted term grows with the patterns of the states that it calls
+pub graft-grows : {Q : Type 0} (p h : Q → Pattern) {t : Term (ℕ × Q)} → AllVars (λ e. Prefix (p (e .1)) (h (e .1))) t → Prefix (graft p t) (graft h t)
+unfolding graft
+graft-grows p h a = bind-grows a
+
+mutual
+  unfolding lcp
+
+  -- a prefix of two terms is a prefix of the largest common prefix
+  pub lcp-largest : {A B C : Type 0} {g : Term A} {h : Term B} {t : Term C} → Prefix g h → Prefix g t → Prefix g (lcp h t)
+  lcp-largest any q = any
+  lcp-largest (keeps {ts = hs} ps) (keeps {ts = ts} qs) = rw (lcp-keeps hs ts refl (sym (prefixes-count ps) ∙ prefixes-count qs)) (keeps (lcps-largest ps qs))
+
+  lcps-largest : {A B C : Type 0} {gs : Terms A} {hs : Terms B} {ts : Terms C} → Prefixes gs hs → Prefixes gs ts → Prefixes gs (lcps hs ts)
+  lcps-largest no-more no-more = no-more
+  lcps-largest (also p ps) (also q qs) = also (lcp-largest p q) (lcps-largest ps qs)
+
+-- ---- the pref(q)
+module _ {ins : List ℕ} {M : Transducer ℕ} {n : ℕ} (l : Leaf ins) (W : Wf (alphabet ins l) M (λ q. q < n)) where
+  -- the pattern pref(q) of each state
+  pref : ℕ → Pattern
+  pref = prefs-exist W .0
+
+  -- it is the largest common prefix of its outputs
+  is-pref : Prefs (alphabet ins l) M (λ q. q < n) pref
+  unfolding pref
+  is-pref = prefs-exist W .1
+
+  -- no grafted right-hand side cuts one
+  pref-fixed : (q a : ℕ) → q < n → a < length ins → Prefix (pref q) (graft pref (M .rhs q a))
+  unfolding alphabet
+  pref-fixed q a v there =
+      let t = M .rhs q a in
+      prefix-trans (rw (lcp-graft (pref q) pref t) at (lcp-largest (prefix-self (pref q)) (prefs-fixed W pref is-pref q a _ v (children-of ins a there)))) (lcp-right (pref q) (graft pref t))
+
+  -- what holds them is above the common prefixes
+  pref-enough : (h : ℕ → Pattern) → AllUnder n pref h → AllAbove ins l M n h
+  pref-enough h u q v g c = prefix-trans (pref-largest c (is-pref q v)) (u q v)
+
+  -- and what is above the common prefixes holds them
+  pref-under : {h : ℕ → Pattern} → AllAbove ins l M n h → AllUnder n pref h
+  pref-under all q v = all q v (pref q) (is-pref q v .common)
+
+  -- they are a core of it
+  pref-core : {h : ℕ → Pattern} → AllAbove ins l M n h → Cored ins l M n h
+  pref-core all = record { core = pref; is-core = record { below = pref-under all; fixed = pref-fixed }; enough = pref-enough }
+
+  module _ {h : ℕ → Pattern} (all : AllAbove ins l M n h) where
+    -- a cut keeps the patterns above the common prefixes
+    pub cut-above : (h′ : ℕ → Pattern) (q a : ℕ) → q < n → a < length ins → h′ q ≡ lcp (h q) (graft h (M .rhs q a)) → ((r : ℕ) → r ≢ q → h′ r ≡ h r) → AllAbove ins l M n h′
+    unfolding alphabet
+    cut-above h′ q a v there e others = pref-enough h′ (λ r w. by-cases (ℕ-discrete r q)
+        (λ z. rw (z, e) (lcp-largest (pref-under all q v) (prefix-trans (pref-fixed q a v there) (graft-grows pref h (all-map (λ c f. pref-under all (c .1) (f .valid)) (W .rhs q a v (children-of ins a there)))))))
+        (λ k. rw (others r k) (pref-under all r w)))
+
+    -- patterns above the common prefixes that no expanded right-hand side cuts are the pref(q)
+    pub above-end : Fixed (alphabet ins l) M (λ q. q < n) h → Prefs (alphabet ins l) M (λ q. q < n) h
+    above-end fix q v = rw (prefix-antisym (pref-largest (fixpoint W h fix q v) (is-pref q v)) (pref-under all q v)) (is-pref q v)
+
+-- ---- cores
+-- patterns above the common prefixes have a core
+pub cores : {ins outs starts bytes : List ℕ} {n : ℕ} → Layout ins outs starts bytes n → (l : Leaf ins) {h : ℕ → Pattern} → AllAbove ins l (machine ins outs starts bytes n) n h → Cored ins l (machine ins outs starts bytes n) n h
+cores Y l all = pref-core l (machine-wf l (Y .wholes)) all
