@@ -2,6 +2,7 @@
 // of an area is 7 before.
 ghost use Prim.Native.Nat.{_≤_};
 use crate::answer;
+use crate::inputs::BYTE_MORE;
 use crate::inputs::CONSTANT;
 use crate::inputs::CUT_OFF;
 use crate::inputs::M;
@@ -116,20 +117,27 @@ fn limits() {
     ring(b"a ring of 65 passes: ", 65);
 }
 
+// An area that is too short by one byte.
+fn show_short(name: &[u8], stock: &[u8], sheet: &[u8]) {
+    let mut short = [7u8; 20482];
+    show_in(name, stock, sheet, &mut short);
+}
+
 // T with one fault, in its area and in its alphabets; then each mends the fault of the one before it.
 fn refusals() {
-    let mut short = [7u8; 20482];
-    show_in(b"T, area of 20,482: ", &S, &T, &mut short);
+    show_short(b"T, area of 20,482: ", &S, &T);
     show(b"T under stock 1 1 1 0: ", &NO_LEAF, &T);
-    show_in(
+    show_short(
         b"1 0 3 under stock 1 1 1 0, area of 20,482: ",
         &NO_LEAF,
         &CUT_OFF,
-        &mut short,
     );
     show(b"1 0 3 under stock 1 1 1 0: ", &NO_LEAF, &CUT_OFF);
+}
+
+fn bad_sheets() {
     show(b"1 0 3: ", &S, &CUT_OFF);
-    show(b"0 0 1 1 0 0: ", &S, &[0, 0, 1, 1, 0, 0]);
+    show(b"0 0 1 1 0 0: ", &S, &BYTE_MORE);
     show(b"0 0 1 1 0: ", &S, &NO_STATE);
 }
 
@@ -137,4 +145,5 @@ pub(crate) fn run() {
     small();
     limits();
     refusals();
+    bad_sheets();
 }

@@ -47,6 +47,9 @@ pub(crate) const CUT_OFF: [u8; 3] = [1, 0, 3];
 // Refusal 5's small input: a call of state 0, where there is none.
 pub(crate) const NO_STATE: [u8; 5] = [0, 0, 1, 1, 0];
 
+// And a byte more behind it, which refusal 4 meets first.
+pub(crate) const BYTE_MORE: [u8; 6] = [0, 0, 1, 1, 0, 0];
+
 // The largest alphabets: 16 input symbols, the last of rank 0 and the others of rank 4; 64 output symbols, the first of rank 1, the
 // last of rank 0 and the others of rank 4.
 pub(crate) fn largest_alphabets() -> [u8; 82]

@@ -1,5 +1,6 @@
 // Transducers (01: sheet): accepted, refused by 4, and refused by 2 first.
 use crate::answer;
+use crate::inputs::BYTE_MORE;
 use crate::inputs::CONSTANT;
 use crate::inputs::CUT_OFF;
 use crate::inputs::NO_LEAF;
@@ -8,6 +9,15 @@ use crate::inputs::T;
 use crate::inputs::T_PRIME;
 use crate::inputs::U;
 use formats::file::read_transducer;
+
+// Counts of 0 and of 257.
+const NO_MARK: [u8; 3] = [0, 0, 0];
+
+const MANY_MARKS: [u8; 5] = [0, 1, 1, 0, 1];
+
+// T with a byte more.
+const T_MORE: [u8; 22] =
+    *b"\x01\x00\x03\x00\x03\x00\x01\x00\x00\x01\x00\x01\x00\x00\x00\x01\x00\x01\x00\x00\x01\x00";
 
 // The answer over S.
 pub(crate) fn show(name: &[u8], sheet: &[u8]) {
@@ -36,17 +46,15 @@ fn bad_alphabets() {
 fn bad_contents() {
     show(b"sheet 1 0 3: ", &CUT_OFF);
     show(b"sheet, empty: ", &[]);
-    show(b"sheet 0 0 0, a count of 0: ", &[0, 0, 0]);
-    show(b"sheet 0 1 1 0 1, a count of 257: ", &[0, 1, 1, 0, 1]);
-    show(b"sheet 0 0 1 1 0 0, a byte more: ", &[0, 0, 1, 1, 0, 0]);
+    show(b"sheet 0 0 0, a count of 0: ", &NO_MARK);
+    show(b"sheet 0 1 1 0 1, a count of 257: ", &MANY_MARKS);
+    show(b"sheet 0 0 1 1 0 0, a byte more: ", &BYTE_MORE);
 }
 
 // T with a byte more, and with its last byte missing.
 fn other_lengths() {
-    let more =
-        *b"\x01\x00\x03\x00\x03\x00\x01\x00\x00\x01\x00\x01\x00\x00\x00\x01\x00\x01\x00\x00\x01\x00";
-    show(b"sheet T and a byte: ", &more);
-    show(b"sheet T but its last byte: ", &more[0..20]);
+    show(b"sheet T and a byte: ", &T_MORE);
+    show(b"sheet T but its last byte: ", &T[0..20]);
 }
 
 pub(crate) fn run() {

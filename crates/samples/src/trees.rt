@@ -1,10 +1,9 @@
 // Input trees (01: design): accepted, refused by 3, and refused by 2 first.
-ghost use Prim.Native.Nat.{_≤_};
+ghost use Prim.Native.Nat.{_≤_, _<_};
 ghost use lib.ListN.{length};
 use crate::answer;
 use crate::inputs::NO_LEAF;
 use crate::inputs::S;
-use crate::inputs::longest_chain;
 use formats::tree::read_tree;
 
 // S's input symbols a and e, and a third of rank 2; one output symbol.
@@ -29,17 +28,27 @@ fn bad_alphabets() {
     answer::tree(b"design 1 under the empty stock: ", read_tree(&[], &[1]));
 }
 
-// Chains of a that end in e.
+// A chain of a that ends in e, as long as the array, every byte of which is 0 before.
+fn show_chain(name: &[u8], s: &mut [u8])
+    requires { ⌜ 0 < length (now s) ⌝ }
+{
+    let last = s.len() - 1;
+    s[last] = 1;
+    show(name, s);
+}
+
 fn levels() {
-    show(b"design of 511 a and e: ", &longest_chain());
+    let mut longest = [0u8; 512];
+    show_chain(b"design of 511 a and e: ", &mut longest);
     let mut over = [0u8; 513];
-    over[512] = 1;
-    show(b"design of 512 a and e: ", &over);
+    show_chain(b"design of 512 a and e: ", &mut over);
 }
 
 // 455 nodes of rank 2 in a chain of right children, the left child of each being 7 a and e: 455 * 9 = 4,095 nodes, and 455 + 8
 // levels. The last right child is left to the caller; every byte is 0 before.
-fn fill_comb(s: &mut [u8; 4097]) {
+fn fill_comb(s: &mut [u8])
+    requires { ⌜ 4095 ≤ length (now s) ⌝ }
+{
     let mut j = 0;
     while j < 455 {
         s[9 * j] = 2;
@@ -48,28 +57,22 @@ fn fill_comb(s: &mut [u8; 4097]) {
     }
 }
 
-fn show_wide(name: &[u8], s: &[u8], n: usize)
-    requires { ⌜ n ≤ length (now s) ⌝ }
+// The comb, whose last right child is a chain of a that ends in e.
+fn show_comb(name: &[u8], s: &mut [u8])
+    requires { ⌜ 4096 ≤ length (now s) ⌝ }
 {
-    answer::tree(name, read_tree(&WIDE, &s[0..n]));
-}
-
-// The first n bytes of the comb. The array comes by its own type, so its length is known after stores.
-fn show_comb(name: &[u8], s: &[u8; 4097], n: usize)
-    requires { ⌜ n ≤ 4097 ⌝ }
-{
-    show_wide(name, s, n);
+    fill_comb(s);
+    let last = s.len() - 1;
+    s[last] = 1;
+    answer::tree(name, read_tree(&WIDE, s));
 }
 
 // The last right child is e, and then a(e).
 fn nodes() {
-    let mut s = [0u8; 4097];
-    fill_comb(&mut s);
-    s[4095] = 1;
-    show_comb(b"design of 4,096 parts: ", &s, 4096);
-    s[4095] = 0;
-    s[4096] = 1;
-    show_comb(b"design of 4,097 parts: ", &s, 4097);
+    let mut most = [0u8; 4096];
+    show_comb(b"design of 4,096 parts: ", &mut most);
+    let mut over = [0u8; 4097];
+    show_comb(b"design of 4,097 parts: ", &mut over);
 }
 
 pub(crate) fn run() {
