@@ -290,7 +290,7 @@ module _ {ins outs starts bytes heads₀ sizes₀ other₀ : List ℕ} (B : Bodi
         go false e = rw (ss, t, e) (omega (arith, ap (λ k. total k (length sizes)) (same-patterns (C .cuts) e)))
 
   pub settle-end : again ≡ false → Settled ins outs starts bytes leaf heads₀ sizes₀ heads sizes
-  settle-end e = record { table = L .table; prefs = λ l s a u. all-fixed l (machine-wf l (B .layout .wholes)) (L .above l a) (λ q v. prefix-trans (L .under q v) (u q v)) (L .fixed e) }
+  settle-end e = record { table = L .table; prefs = λ l a u. all-fixed l (machine-wf l (B .layout .wholes)) (L .above l a) (λ q v. prefix-trans (L .under q v) (u q v)) (L .fixed e) }
 
 -- ---- before a sweep: the patterns are as they were, or cuts letter by letter made them smaller
 pub record Between (ins outs starts bytes : List ℕ) (leaf : ℕ) (heads₀ sizes₀ other₀ heads sizes : List ℕ) (again : Bool) (heads′ sizes′ other′ : List ℕ) : Type 0 where

@@ -205,5 +205,5 @@ module _ {ins outs starts bytes heads₀ sizes₀ other₀ : List ℕ} (A : Pref
   pub all-prefixes : (leaf < length ins) × (getD ins leaf 0 ≡ 0) → {heads′ sizes′ : List ℕ} → Settled ins outs starts bytes leaf heads sizes heads′ sizes′ → length sizes′ ≡ length sizes → Prefixes ins outs starts bytes sizes₀ heads′ sizes′
   all-prefixes found T e =
       let l₀ : Leaf ins = record { symbol = leaf; there = found .0; rank = found .1 } in
-      let P = rw same at (T .prefs l₀ refl) in
+      let P = rw same at (T .prefs l₀) in
       record { table = T .table; same = e ∙ same; prefs = λ l q h. pref-leaf l₀ l (P (start-above l₀ (A .layout) S) (start-under (A .layout) S) q h) }

@@ -1,3 +1,3 @@
--- Normal forms of transducers. Inner holds what only inner functions and their proofs speak of.
+-- Largest common prefixes: the trees over an input alphabet as those of a grammar. Inner holds what only inner functions and their proofs speak of.
 pub mod Alphabet
 pub mod Inner

@@ -1,4 +1,4 @@
-// Normal forms of transducers: common prefixes, the earliest form.
+// The largest common prefixes of the outputs of a transducer's states (01: heads).
 pub mod pattern;
 pub mod prefix;
 pub mod search;

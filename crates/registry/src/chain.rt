@@ -50,7 +50,7 @@ fn rest_unused(held: usize, t: Table) -> bool
 }
 
 // Whether the head, the table of n records and the area are a registry.
-pub fn chained(h: Head, n: usize, t: Table, area: &[u8]) -> bool
+pub(crate) fn chained(h: Head, n: usize, t: Table, area: &[u8]) -> bool
     requires { ⌜ (33 ≤ n → length (t .records) ≡ 33) ⌝ }
     ensures { λ b. ⌜ Decides ((33 ≤ n) × Chained h (t .records) (now (area .entry))) b ⌝ }
 {

@@ -20,7 +20,7 @@ use formats::file::copy_at;
 use formats::refusal::Refusal;
 
 // The commit: these bytes are put behind what is held, and get the next number.
-pub fn add(h: Head, t: Table, area: &mut [u8], bytes: &[u8]) -> Stepped
+pub(crate) fn add(h: Head, t: Table, area: &mut [u8], bytes: &[u8]) -> Stepped
     requires { ⌜ Room h (now area) (now bytes) × (h .answered < 18446744073709551615) ⌝ }
     ensures { λ r. ⌜ Adds h (t .records) (now (area .entry)) (now (bytes .entry)) r (now (area .exit)) ⌝ }
 {
@@ -45,7 +45,7 @@ pub fn add(h: Head, t: Table, area: &mut [u8], bytes: &[u8]) -> Stepped
 }
 
 // The answer n is counted.
-pub fn count(h: Head, t: Table, n: usize) -> Stepped
+pub(crate) fn count(h: Head, t: Table, n: usize) -> Stepped
     requires { ⌜ h .answered < 18446744073709551615 ⌝ }
     ensures { λ r. ⌜ Counts h t n r ⌝ }
 {
@@ -74,7 +74,7 @@ pub fn refuse(h: Head, t: Table, r: Refusal) -> Stepped
 }
 
 // Gives these bytes a number: the one that they have, or the next where there is room.
-pub fn number_bytes(h: Head, t: Table, area: &mut [u8], bytes: &[u8]) -> Stepped
+pub(crate) fn number_bytes(h: Head, t: Table, area: &mut [u8], bytes: &[u8]) -> Stepped
     requires { ⌜ Chained h (t .records) (now area) ⌝ }
     ensures { λ r. ⌜ StepsWith (now (bytes .entry)) h (t .records) (now (area .entry)) r (now (area .exit)) ⌝ }
 {

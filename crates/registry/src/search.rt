@@ -26,7 +26,7 @@ fn same_bytes(a: &[u8], b: &[u8]) -> bool
 }
 
 // Body i, as a part of the area.
-pub fn body_at(t: Table, i: usize, area: &[u8]) -> &[u8]
+pub(crate) fn body_at(t: Table, i: usize, area: &[u8]) -> &[u8]
     requires { ⌜ (i < 33) × (recordAt (t .records) i .start + recordAt (t .records) i .size ≤ length (now area)) ⌝ }
     ensures { λ r. ⌜ now r ≡ body (t .records) (now (area .entry)) i ⌝ }
 {
@@ -37,7 +37,7 @@ pub fn body_at(t: Table, i: usize, area: &[u8]) -> &[u8]
 }
 
 // The lowest number, from 1 on, whose body is these bytes; the next number where there is none.
-pub fn find(held: usize, t: Table, area: &[u8], bytes: &[u8]) -> usize
+pub(crate) fn find(held: usize, t: Table, area: &[u8], bytes: &[u8]) -> usize
     requires { ⌜ Placed held (t .records) (now area) ⌝ }
     ensures { λ n. ⌜ Finds held (t .records) (now (area .entry)) (now (bytes .entry)) n ⌝ }
 {

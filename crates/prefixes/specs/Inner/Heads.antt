@@ -125,7 +125,7 @@ pub record Searched (ins outs starts bytes heads sizes heads′ sizes′ : List 
 -- the patterns are the common prefixes, if they were above them and the right-hand side for the leaf cuts nothing
 pub record Settled (ins outs starts bytes : List ℕ) (leaf : ℕ) (heads sizes heads′ sizes′ : List ℕ) : Type 0 where
   pub table : Heads outs heads′ sizes′
-  pub prefs : (l : Leaf ins) → l .symbol ≡ leaf → AllAbove ins l (machine ins outs starts bytes (length sizes)) (length sizes) (headOf outs heads sizes) → UnderLeaf (machine ins outs starts bytes (length sizes)) leaf (length sizes) (headOf outs heads sizes) → Prefs (alphabet ins l) (machine ins outs starts bytes (length sizes)) (λ q. q < length sizes) (headOf outs heads′ sizes′)
+  pub prefs : (l : Leaf ins) → AllAbove ins l (machine ins outs starts bytes (length sizes)) (length sizes) (headOf outs heads sizes) → UnderLeaf (machine ins outs starts bytes (length sizes)) leaf (length sizes) (headOf outs heads sizes) → Prefs (alphabet ins l) (machine ins outs starts bytes (length sizes)) (λ q. q < length sizes) (headOf outs heads′ sizes′)
 
 -- ---- the start: the right-hand sides for a leaf, which have no calls
 -- the second bytes of the marks number `from` up to `to`
