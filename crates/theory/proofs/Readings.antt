@@ -9,7 +9,7 @@ use mathlib.Core.Option.{some}
 use lib.ListN.{getElem?, length, length-map}
 use Rattle.theory.specs.Discovered.{Read, read-call, read-node, Reads, read-none, read-more, ReadRhs, no-rhs, skip-rhs, read-rhs, ReadStates, read-initial, read-state, Discovered}
 use Rattle.theory.specs.Grammar.{Grammar}
-use Rattle.theory.specs.Listing.{Indexes, Listed, listed}
+use Rattle.theory.specs.Listing.{Indexes, Listed, Closed, listed}
 use Rattle.theory.specs.NormalForm.{Identical}
 use Rattle.theory.specs.Registry.{Enter, found, added}
 use Rattle.theory.specs.Term.{Term, Terms, bind, binds, mapT, var}
@@ -119,7 +119,7 @@ module _ {Q Q′ : Type 0} (f : Q → Q′) where
   get-map (r ∷ L) (suc n) e = get-map L n e
 
   -- what stands in the list under f is some f q, with q in the list
-  map-get : {y : Q′} (L : List Q) (n : ℕ) → getElem? (map f L) n ≡ some y → (q : Q) × (getElem? L n ≡ some q) × (f q ≡ y)
+  pub map-get : {y : Q′} (L : List Q) (n : ℕ) → getElem? (map f L) n ≡ some y → (q : Q) × (getElem? L n ≡ some q) × (f q ≡ y)
   map-get [] n e = conflict (cc)
   map-get (r ∷ L) ℕ.zero e = (r, refl, cc)
   map-get (r ∷ L) (suc n) e = map-get L n e
@@ -130,7 +130,7 @@ unfolding renamed mapT
 renamed-twice f g t = bind-renamed f t (λ e. var (e .0, g (e .1)))
 
 -- terms are renamed alike where the names of their calls agree
-renamed-ext : {Q Q′ : Type 0} (f g : Q → Q′) {t : Term (ℕ × Q)} → AllVars (λ e. f (e .1) ≡ g (e .1)) t → renamed f t ≡ renamed g t
+pub renamed-ext : {Q Q′ : Type 0} (f g : Q → Q′) {t : Term (ℕ × Q)} → AllVars (λ e. f (e .1) ≡ g (e .1)) t → renamed f t ≡ renamed g t
 unfolding renamed mapT
 renamed-ext f g p = bind-ext (all-map (λ e z. ap (λ q. var (e .0, q)) z) p)
 
@@ -171,28 +171,29 @@ module _ {Q Q′ : Type 0} {G : Grammar} {M : Transducer Q} {M′ : Transducer Q
   pub discovered-mapped : {L : List Q} → Discovered G M L → Discovered G M′ (map f L)
   discovered-mapped {L} d = rw (length-map L f) (states-mapped d)
 
-  module _ {L : List Q} {idx : Q → ℕ} {idx′ : Q′ → ℕ} (d : Discovered G M L) (I : Indexes L idx) (I′ : Indexes (map f L) idx′) where
+  module _ {L : List Q} {idx : Q → ℕ} {idx′ : Q′ → ℕ} (C : Closed G M L idx) (E : Every Valid L) (I : Indexes L idx) (I′ : Indexes (map f L) idx′) where
     -- a term of listed states is renamed alike
     mapped-term : {t : Term (ℕ × Q)} → AllVars (λ e. Listed L idx (e .1)) t → renamed idx t ≡ renamed idx′ (renamed f t)
     mapped-term {t} p = sym (renamed-twice f idx′ t ∙ renamed-ext (λ q. idx′ (f q)) idx (all-map (λ e z. I′ .index (idx (e .1)) (f (e .1)) (get-map f L (idx (e .1)) z)) p))
 
     mapped-sort : (p : ℕ) → p < length L → listed M L idx .sort p ≡ listed M′ (map f L) idx′ .sort p
     mapped-sort p l = let x = get-some L p l in
-        listed-sort M L idx p (x .1) ∙ (sym (same-sort (x .0) (states-valid W d .every p (x .0) (x .1))) ∙ sym (listed-sort M′ (map f L) idx′ p (get-map f L p (x .1))))
+        listed-sort M L idx p (x .1) ∙ (sym (same-sort (x .0) (E .every p (x .0) (x .1))) ∙ sym (listed-sort M′ (map f L) idx′ p (get-map f L p (x .1))))
 
     mapped-rhs : (p a : ℕ) (sorts : List ℕ) → p < length L → G .children (listed M L idx .sort p) a ≡ some sorts → listed M L idx .rhs p a ≡ listed M′ (map f L) idx′ .rhs p a
     mapped-rhs p a sorts l k =
         let x = get-some L p l in
-        let v = states-valid W d .every p (x .0) (x .1) in
+        let v = E .every p (x .0) (x .1) in
         let k′ : G .children (M .sort (x .0)) a ≡ some sorts = ap (λ s. G .children s a) (sym (listed-sort M L idx p (x .1))) ∙ k in
         let here : Listed L idx (x .0) = ap (getElem? L) (I .index p (x .0) (x .1)) ∙ x .1 in
-        listed-rhs M L idx p a (x .1) ∙ (mapped-term (discovered-closed I d .rhs (x .0) a here k′)
+        listed-rhs M L idx p a (x .1) ∙ (mapped-term (C .rhs (x .0) a here k′)
         ∙ (ap (renamed idx′) (sym (F .rhs (x .0) a v k′)) ∙ sym (listed-rhs M′ (map f L) idx′ p a (get-map f L p (x .1)))))
 
-    mapped-identical : Identical G (listed M L idx) (listed M′ (map f L) idx′) (length L) (length (map f L))
+    -- Listed, and with the list carried over, M and M′ are one transducer.
+    pub mapped-identical : Identical G (listed M L idx) (listed M′ (map f L) idx′) (length L) (length (map f L))
     unfolding listed
-    mapped-identical = record { number = sym (length-map L f); initial = mapped-term (discovered-closed I d .initial) ∙ ap (renamed idx′) (sym (F .initial)); sort = mapped-sort; rhs = mapped-rhs }
+    mapped-identical = record { number = sym (length-map L f); initial = mapped-term (C .initial) ∙ ap (renamed idx′) (sym (F .initial)); sort = mapped-sort; rhs = mapped-rhs }
 
   -- Listed in the order of first meeting, M and M′ are one transducer.
   pub listed-identical : {L : List Q} {L′ : List Q′} {idx : Q → ℕ} {idx′ : Q′ → ℕ} → Discovered G M L → Indexes L idx → Discovered G M′ L′ → Indexes L′ idx′ → Identical G (listed M L idx) (listed M′ L′ idx′) (length L) (length L′)
-  listed-identical d I d′ I′ = let e = discovered-unique (discovered-mapped d) d′ in rw e at (mapped-identical d I (rw (← e) at I′))
+  listed-identical d I d′ I′ = let e = discovered-unique (discovered-mapped d) d′ in rw e at (mapped-identical (discovered-closed I d) (states-valid W d) I (rw (← e) at I′))

@@ -1,13 +1,12 @@
 -- The trimmed earliest form is equivalent, earliest and numbered, and it is one; an earliest form with numbers for its states, listed, is the trimmed one, and follows it while it is read.
 use Prim.Native.Nat.{ℕ, _<_, _≤_}
-use native.Mathlib.Decide.{ℕ-discrete, decLt}
-use native.Mathlib.Omega.{arith}
+use native.Mathlib.Decide.{ℕ-discrete}
 use mathlib.Core.Path.{_≡_, refl, ap, sym, _∙_}
-use mathlib.Core.Logic.{by-cases}
 use mathlib.Core.HLevel.{×-discrete}
-use mathlib.Core.List.{List, List-discrete, map, map-id}
+use mathlib.Core.List.{List, List-discrete, map-id}
 use mathlib.Core.Option.{some, Option·getD}
-use lib.ListN.{getElem?, length, length-map}
+use lib.ListN.{getElem?, length}
+use Rattle.theory.specs.Accessible.{Accessible}
 use Rattle.theory.specs.Discovered.{ReadRhs, ReadStates, Discovered}
 use Rattle.theory.specs.Earliest.{Earliest}
 use Rattle.theory.specs.EarliestForm.{earliestForm, expand, label, opened}
@@ -19,20 +18,20 @@ use Rattle.theory.specs.Numbered.{Numbered}
 use Rattle.theory.specs.Pref.{Prefs}
 use Rattle.theory.specs.Prefix.{Pattern, Open}
 use Rattle.theory.specs.Term.{Term, node, none, sub}
-use Rattle.theory.specs.Transducer.{Transducer, renamed}
+use Rattle.theory.specs.Transducer.{Transducer}
 use Rattle.theory.specs.Trimmed.{Trimmed}
 use Rattle.theory.specs.Vars.{AllVars}
 use Rattle.theory.specs.Wf.{Wf}
-use Rattle.theory.proofs.Discovery.{Every, rhs-valid, states-valid, states-distinct, discovered-numbered, distinct-indexes, indexOf}
+use Rattle.theory.proofs.Accessibility.{accessible-by, follows-stage, follows-states}
+pub use Rattle.theory.proofs.Accessibility.{Follows}
+use Rattle.theory.proofs.Discovery.{discovered-numbered}
 use Rattle.theory.proofs.EarlyForm.{early-wf}
 use Rattle.theory.proofs.Equivalences.{equivalent-trans, equiv-splits}
 use Rattle.theory.proofs.Identity.{identical-sym, identical-trans, identical-wf, identical-equiv, identical-equivalent, identical-earliest, identical-numbered}
-use Rattle.theory.proofs.Listings.{listed-sort, listed-rhs}
-use Rattle.theory.proofs.Lists.{Extends, get-lt, get-some}
 use Rattle.theory.proofs.Morphism.{Maps, renamed-id}
 use Rattle.theory.proofs.NormalForms.{early-listed-equivalent, early-listed-wf, early-listed-earliest}
 use Rattle.theory.proofs.Prefs.{pref-unique}
-use Rattle.theory.proofs.Readings.{get-map, renamed-twice, states-extend, stage-extends, rhs-mapped, states-mapped, discovered-mapped, listed-identical}
+use Rattle.theory.proofs.Readings.{discovered-mapped, listed-identical}
 use Rattle.theory.proofs.Vars.{all-map, bind-ext}
 
 module _ {Q : Type 0} {G : Grammar} {M : Transducer Q} {Valid : Q → Type 0} (W : Wf G M Valid) {N : Transducer ℕ} {k : ℕ} (T : Trimmed G M Valid N k) where
@@ -84,17 +83,6 @@ module _ {Q : Type 0} {G : Grammar} {M : Transducer Q} {Valid : Q → Type 0} (W
 pub trimmed-unique : {Q : Type 0} {G : Grammar} {M : Transducer Q} {Valid : Q → Type 0} → Wf G M Valid → {N N′ : Transducer ℕ} {k k′ : ℕ} → Trimmed G M Valid N k → Trimmed G M Valid N′ k′ → Identical G N N′ k k′
 trimmed-unique W T T′ = identical-trans (T .form) (identical-trans (early-identical W (T .prefix) (T′ .prefix) (T .prefs) (T′ .prefs) (T .met) (T .numbers) (T′ .met) (T′ .numbers)) (identical-sym (T′ .form)))
 
--- N goes on from what is listed: its states below the length of L have the right-hand sides of those of L, renamed
-pub record Follows (G : Grammar) (E : Transducer ℕ) (L : List ℕ) (N : Transducer ℕ) (k : ℕ) : Type 0 where
-  pub name : ℕ → ℕ
-  pub few : length L ≤ k
-  pub initial : N .initial ≡ renamed name (E .initial)
-  pub rhs : (j c b : ℕ) (sorts : List ℕ) → getElem? L j ≡ some c → G .children (E .sort c) b ≡ some sorts → N .rhs j b ≡ renamed name (E .rhs c b)
-
--- a list that goes on is no shorter
-extends-length : {I : Type 0} {R R′ : List I} → Extends R R′ → length R ≤ length R′
-extends-length {R} {R′} x = by-cases (decLt (length R′) (length R)) (λ l. let y = get-some R (length R′) l in omega (arith, get-lt R′ (length R′) (x .kept (length R′) (y .0) (y .1)))) (λ l. omega arith)
-
 -- E is the earliest form with numbers, Code, for its states: the number c stands for the state pair c.
 module _ {G : Grammar} {M : Transducer ℕ} {Valid : ℕ → Type 0} (W : Wf G M Valid) (h : ℕ → Pattern) (H : Prefs G M Valid h)
     {E : Transducer ℕ} {Code : ℕ → Type 0} (EW : Wf G E Code) (pair : ℕ → ℕ × List ℕ) (P : Maps G E (earliestForm M h) Code pair)
@@ -104,58 +92,23 @@ module _ {G : Grammar} {M : Transducer ℕ} {Valid : ℕ → Type 0} (W : Wf G M
 
   -- What is identical to E, listed in the order of first meeting, is the trimmed form of M.
   pub trimmed-by : {L : List ℕ} {idx : ℕ → ℕ} {N : Transducer ℕ} {k : ℕ} → Discovered G E L → Indexes L idx → Identical G N (listed E L idx) k (length L) → Trimmed G M Valid N k
-  trimmed-by {L} d I i =
-      let d′ = discovered-mapped EW P same-sort inj d in
-      let I′ = distinct-indexes same-state (states-distinct d′) in
-      record {
-        prefix = h;
-        prefs = H;
-        states = map pair L;
-        number = indexOf same-state (map pair L);
-        numbers = I′;
-        met = d′;
-        form = identical-trans i (listed-identical EW P same-sort inj d I d′ I′);
-      }
+  trimmed-by d I i =
+      let A = accessible-by EW pair P same-sort inj same-state d I i in
+      record { prefix = h; prefs = H; states = A .states; number = A .number; numbers = A .numbers; met = A .met; form = A .form }
 
-  module _ {N : Transducer ℕ} {k : ℕ} (T : Trimmed G M Valid N k) where
-    -- the states of the trimmed form are met so in the earliest form by h
-    met-here : Discovered G (earliestForm M h) (T .states)
-    met-here = early-met W (T .prefix) h (T .prefs) H (T .met)
-
-    form-here : Identical G N (listed (earliestForm M h) (T .states) (T .number)) k (length (T .states))
-    form-here = identical-trans (T .form) (early-identical W (T .prefix) h (T .prefs) H (T .met) (T .numbers) met-here (T .numbers))
-
-    module _ {L : List ℕ} (v : Every Code L) (x : Extends (map pair L) (T .states)) where
-      follows-few : length L ≤ k
-      follows-few = omega (arith, extends-length x, length-map L pair, form-here .number)
-
-      follows-rhs : (j c b : ℕ) (sorts : List ℕ) → getElem? L j ≡ some c → G .children (E .sort c) b ≡ some sorts → N .rhs j b ≡ renamed (λ c. T .number (pair c)) (E .rhs c b)
-      follows-rhs j c b sorts e a =
-          let y = x .kept j (pair c) (get-map pair L j e) in
-          let l : j < k = omega (arith, follows-few, get-lt L j e) in
-          let s : N .sort j ≡ E .sort c = form-here .sort j l ∙ (listed-sort (earliestForm M h) (T .states) (T .number) j y ∙ same-sort c (v .every j c e)) in
-          form-here .rhs j b sorts l (ap (λ z. G .children z b) s ∙ a)
-          ∙ (listed-rhs (earliestForm M h) (T .states) (T .number) j b y ∙ (ap (renamed (T .number)) (P .rhs c b (v .every j c e) a) ∙ renamed-twice pair (T .number) (E .rhs c b)))
-
-      follows : Follows G E L N k
-      unfolding listed
-      follows = record {
-        name = λ c. T .number (pair c);
-        few = follows-few;
-        initial = form-here .initial ∙ (ap (renamed (T .number)) (P .initial) ∙ renamed-twice pair (T .number) (E .initial));
-        rhs = follows-rhs;
-      }
+  -- the trimmed form is the accessible part of the earliest form by h
+  trimmed-accessible : {N : Transducer ℕ} {k : ℕ} → Trimmed G M Valid N k → Accessible G (earliestForm M h) N k
+  trimmed-accessible T =
+      let d = early-met W (T .prefix) h (T .prefs) H (T .met) in
+      record { states = T .states; number = T .number; numbers = T .numbers; met = d; form = identical-trans (T .form) (early-identical W (T .prefix) h (T .prefs) H (T .met) (T .numbers) d (T .numbers)) }
 
   -- The trimmed form follows E after the first p states of the list and some right-hand sides of the next.
   pub trimmed-follows-stage : {N : Transducer ℕ} {k p a c : ℕ} {L L′ : List ℕ} → ReadStates G E p L → getElem? L p ≡ some c → ReadRhs G E c L a L′ → a ≤ G .symbols → Trimmed G M Valid N k → Follows G E L′ N k
-  trimmed-follows-stage {p} {c} {L} s e r l T =
-      let v = states-valid EW s in
-      let u = v .every p c e in
-      follows T (rhs-valid EW u r v) (stage-extends (states-mapped EW P same-sort inj s) (get-map pair L p e) (rhs-mapped EW P same-sort inj u v r) l (met-here T) .1)
+  trimmed-follows-stage s e r l T = follows-stage EW pair P same-sort inj s e r l (trimmed-accessible T)
 
   -- The trimmed form follows E after the first p states of the list.
   pub trimmed-follows-states : {N : Transducer ℕ} {k p : ℕ} {L : List ℕ} → ReadStates G E p L → p ≤ length L → Trimmed G M Valid N k → Follows G E L N k
-  trimmed-follows-states {L} s l T = follows T (states-valid EW s) (states-extend (states-mapped EW P same-sort inj s) (rw (length-map L pair) l) (met-here T))
+  trimmed-follows-states s l T = follows-states EW pair P same-sort inj s l (trimmed-accessible T)
 
 -- What is identical to a trimmed form of M is one.
 pub trimmed-form : {Q : Type 0} {G : Grammar} {M : Transducer Q} {Valid : Q → Type 0} {N N′ : Transducer ℕ} {k k′ : ℕ} → Identical G N N′ k k′ → Trimmed G M Valid N k → Trimmed G M Valid N′ k′
