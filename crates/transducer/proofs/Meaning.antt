@@ -23,10 +23,12 @@ use Rattle.formats.proofs.Offsets.{offset-grows, offset-most}
 use Rattle.formats.proofs.Pairs.{number-less, pairs-length, getD-slice}
 use Rattle.transducer.proofs.Walks.{spell-same}
 
--- the bodies are whole, and lie in the file
+-- the bodies are whole, of at most 64 marks, and lie in the file
 pub record Bodies (ins outs : List ℕ) (n : ℕ) (counts bytes : List ℕ) : Type 0 where
   pub wholes : Wholes ins outs n (offset counts) bytes
   pub inside : 2 * offset counts (bodyCount ins n) ≤ length bytes
+  pub states : n ≤ 128
+  pub few : (j : ℕ) → j < bodyCount ins n → offset counts (j + 1) ≤ offset counts j + 64
 
 -- ---- letters
 known-symbol : {A : Type 0} (rs : List ℕ) (b : ℕ) → Known (symbolOf {A = A} rs b) → symbolOf {A = A} rs b ≡ symbol b (getD rs b 0)
@@ -141,8 +143,10 @@ module _ (ins outs : List ℕ) (n : ℕ) (counts bytes starts : List ℕ) (B : B
   unfolding body
   table = record {
     states = n;
+    few-states = B .states;
     long = long;
     ordered = λ j h. rw (right j (omega arith), right (j + 1) (omega arith)) (offset-grows counts j);
+    few = λ j h. rw (right j (omega arith), right (j + 1) (omega arith)) (B .few j h);
     inside = λ j h. rw (right j h) (omega (arith, B .inside, offset-most counts j (bodyCount ins n) h));
     callable = λ q a j h k f t. callable-at q a j h k f t;
   }

@@ -1,15 +1,17 @@
--- The sizes that counting notes: nothing at first, then one more.
+-- What is noted of states and trees: the sizes of what states write, and where it stands. Nothing at first, then one more.
 -- Assumes nothing.
-use Prim.Native.Nat.{ℕ, suc, _+_, _*_, _<_}
+use Prim.Native.Nat.{ℕ, suc, _+_, _-_, _≤_, _<_}
+use native.Mathlib.Numerals.{add-one}
 use native.Mathlib.Omega.{arith}
 use mathlib.Core.Bool.{Bool, true, false}
 use mathlib.Core.Path.{_≡_, refl, sym, ap, _∙_}
-use mathlib.Core.List.{List}
+use mathlib.Core.List.{List, [], _∷_, _++_, append-assoc}
 use lib.Dec.{eqb}
-use lib.ListN.{length, getD, set, length-set, replicate, length-replicate}
-use lib.Seq.{getD-set-same, getD-set-other}
+use lib.ListN.{length, getD, set, take, drop, length-set, length-drop, replicate, length-replicate}
+use lib.Seq.{sets, sets-eq, take-at, drop-at, length-take-le, take-suc, getD-drop, drop-set-add, take-set-le, getD-set-same, getD-set-other}
 use borrow.Author.Tests.{eqb-true, eqb-false}
-use Rattle.transducer.specs.Inner.Written.{applied, Noted}
+use Rattle.formats.proofs.Writing.{sets-append}
+use Rattle.transducer.specs.Inner.Written.{applied, noteKey, Noted, StandsAt, Standing}
 
 zeros : (n k : ℕ) → _≡_ {A = ℕ} (getD (replicate n 0) k 0) 0
 zeros ℕ.zero k = refl
@@ -19,17 +21,14 @@ zeros (suc n) (suc k) = zeros n k
 pub nothing-noted : (ins starts bytes s : List ℕ) → Noted ins starts bytes s (replicate 4096 0) (replicate 4096 0)
 nothing-noted ins starts bytes s = record { long = length-replicate {A = ℕ} 4096 0; wide = length-replicate {A = ℕ} 4096 0; right = λ k q p h e. absurd (omega (arith, zeros 4096 k)) }
 
-pub one-noted : {ins starts bytes s keys sizes keys′ sizes′ : List ℕ} → Noted ins starts bytes s keys sizes → (k q p n : ℕ) → k < 4096 → p < 4096 → n ≡ length (applied ins starts bytes s q p) → keys′ ≡ set keys k (4096 * (q + 1) + p) → sizes′ ≡ set sizes k n → Noted ins starts bytes s keys′ sizes′
-one-noted {ins} {starts} {bytes} {s} {keys} {sizes} {keys′} {sizes′} N k q p n h l e f g = record {
-  long = ap length f ∙ length-set keys k (4096 * (q + 1) + p) ∙ N .long;
+pub one-noted : {ins starts bytes s keys sizes keys′ sizes′ : List ℕ} → Noted ins starts bytes s keys sizes → (k q p n : ℕ) {key : ℕ} → k < 4096 → p < 4096 → n ≡ length (applied ins starts bytes s q p) → key ≡ noteKey q p → keys′ ≡ set keys k key → sizes′ ≡ set sizes k n → Noted ins starts bytes s keys′ sizes′
+one-noted {ins} {starts} {bytes} {s} {keys} {sizes} {keys′} {sizes′} N k q p n {key} h l e u f g = record {
+  long = ap length f ∙ length-set keys k key ∙ N .long;
   wide = ap length g ∙ length-set sizes k n ∙ N .wide;
-  right = λ j r o i d. go j r o i (sym (ap (λ v. getD v j 0) f) ∙ d) (eqb j k) refl;
+  right = λ j r o b d. go j r o b (sym (ap (λ v. getD v j 0) f) ∙ d) (eqb j k) refl;
 }
   where
-    key : ℕ
-    key = 4096 * (q + 1) + p
-
-    go : (j r o : ℕ) → o < 4096 → getD (set keys k key) j 0 ≡ 4096 * (r + 1) + o → (b : Bool) → eqb j k ≡ b → getD sizes′ j 0 ≡ length (applied ins starts bytes s r o)
+    go : (j r o : ℕ) → o < 4096 → getD (set keys k key) j 0 ≡ noteKey r o → (b : Bool) → eqb j k ≡ b → getD sizes′ j 0 ≡ length (applied ins starts bytes s r o)
     go j r o i d true t =
         let z : j ≡ k = eqb-true j k t in
         let a : getD (set keys k key) k 0 ≡ key = getD-set-same keys k key 0 (omega (arith, N .long)) in
@@ -40,3 +39,75 @@ one-noted {ins} {starts} {bytes} {s} {keys} {sizes} {keys′} {sizes′} N k q p
     go j r o i d false t =
         let z = eqb-false j k t in
         ap (λ v. getD v j 0) g ∙ getD-set-other sizes k j n 0 z ∙ N .right j r o i (sym (getD-set-other keys k j key 0 z) ∙ d)
+
+-- ---- where it stands
+-- what stands before a place stays when something is written from there on
+before-sets : (v l : List ℕ) (a n i : ℕ) → a + n ≤ i → take n (drop a (sets l i v)) ≡ take n (drop a l)
+before-sets [] l a n i h = refl
+before-sets (x ∷ v) l a n i h =
+    let e : a + (i - a) ≡ i = omega arith in
+    before-sets v (set l i x) a n (suc i) (omega arith)
+    ∙ ap (λ k. take n (drop a (set l k x))) (sym e)
+    ∙ ap (take n) (drop-set-add a l (i - a) x)
+    ∙ take-set-le n (drop a l) (i - a) x (omega arith)
+
+-- what was written can be read there
+read-back : (w l : List ℕ) (at : ℕ) → at + length w ≤ length l → take (length w) (drop at (sets l at w)) ≡ w
+read-back w l at h =
+    let rest = drop (at + length w) l in
+    ap (λ m. take (length w) (drop at m)) (sets-eq w l at h ∙ append-assoc (take at l) w rest)
+    ∙ ap (take (length w)) (drop-at (take at l) (w ++ rest) at (length-take-le at l (omega arith)))
+    ∙ take-at w rest (length w) refl
+
+stands-on : {w area : List ℕ} {e at : ℕ} (v : List ℕ) → StandsAt w area e at → StandsAt w (sets area at v) e (at + length v)
+stands-on {w} {area} {e} {at} v S = record { before = omega (arith, S .before); long = S .long; there = before-sets v area (e - length w) (length w) at (omega (arith, S .before, S .long)) ∙ S .there }
+
+-- what was just written stands
+just-written : (w area : List ℕ) (at : ℕ) → at + length w ≤ length area → StandsAt w (sets area at w) (at + length w) (at + length w)
+just-written w area at h = let z : at + length w - length w ≡ at = omega arith in record { before = omega arith; long = omega arith; there = rw z (read-back w area at h) }
+
+module _ {ins starts bytes s : List ℕ} where
+  pub nothing-standing : {keys sizes : List ℕ} (area : List ℕ) → Noted ins starts bytes s keys sizes → Standing ins starts bytes s keys sizes (replicate 4096 0) area 0
+  nothing-standing area N = record { noted = N; all-places = length-replicate {A = ℕ} 4096 0; stands = λ k q p h e f. absurd (omega (arith, zeros 4096 k)) }
+
+  -- more was written
+  pub standing-on : {keys sizes places area area′ : List ℕ} {at r : ℕ} (v : List ℕ) → Standing ins starts bytes s keys sizes places area at → area′ ≡ sets area at v → r ≡ at + length v → Standing ins starts bytes s keys sizes places area′ r
+  standing-on v S e f = record { noted = S .noted; all-places = S .all-places; stands = λ k q p h g i. rw (e, f) (stands-on v (S .stands k q p h g i)) }
+
+  -- what state q writes on the tree at p now stands from `at` on, up to r
+  pub one-standing : {keys sizes places area′ keys′ sizes′ places′ : List ℕ} {r : ℕ} (area : List ℕ) → Standing ins starts bytes s keys sizes places area′ r → (k q p n at : ℕ) {key : ℕ} → k < 4096 → p < 4096
+      → at + length (applied ins starts bytes s q p) ≤ length area → r ≡ at + length (applied ins starts bytes s q p) → area′ ≡ sets area at (applied ins starts bytes s q p)
+      → n ≡ r - at → key ≡ noteKey q p → keys′ ≡ set keys k key → sizes′ ≡ set sizes k n → places′ ≡ set places k r → Standing ins starts bytes s keys′ sizes′ places′ area′ r
+  one-standing {keys} {sizes} {places} {area′} {keys′} {sizes′} {places′} {r} area S k q p n at {key} h l room end wrote e x f g i = record {
+    noted = one-noted (S .noted) k q p n h l (omega arith) x f g;
+    all-places = ap length i ∙ length-set places k r ∙ S .all-places;
+    stands = λ j t o b c d. rw i (go j t o b (sym (ap (λ v. getD v j 0) f) ∙ c) (rw i at d) (eqb j k) refl);
+  }
+    where
+      go : (j t o : ℕ) → o < 4096 → getD (set keys k key) j 0 ≡ noteKey t o → 0 < getD (set places k r) j 0 → (b : Bool) → eqb j k ≡ b → StandsAt (applied ins starts bytes s t o) area′ (getD (set places k r) j 0) r
+      go j t o b c d true u =
+          let z : j ≡ k = eqb-true j k u in
+          let w = ap (λ v. getD (set keys k key) v 0) z ∙ getD-set-same keys k key 0 (omega (arith, S .noted .long)) in
+          let y = ap (λ v. getD (set places k r) v 0) z ∙ getD-set-same places k r 0 (omega (arith, S .all-places)) in
+          let m : t ≡ q = omega arith in
+          let m′ : o ≡ p = omega arith in
+          rw (y, m, m′, end, wrote) (just-written (applied ins starts bytes s q p) area at room)
+      go j t o b c d false u =
+          let z = eqb-false j k u in
+          let y = getD-set-other places k j r 0 z in
+          rw y (S .stands j t o b (sym (getD-set-other keys k j key 0 z) ∙ c) (omega (arith, y)))
+
+-- ---- copying from where it stands
+getD-before : (v l : List ℕ) (i at : ℕ) → i < at → getD (sets l at v) i 0 ≡ getD l i 0
+getD-before [] l i at h = refl
+getD-before (x ∷ v) l i at h = getD-before v (set l at x) i (suc at) (omega arith) ∙ getD-set-other l at i x 0 (omega arith)
+
+pub copy-more : (l : List ℕ) (from n at k : ℕ) {m m′ : List ℕ} → from + n ≤ at → at + n ≤ length l → k < n → m ≡ sets l at (take k (drop from l)) → m′ ≡ set m (at + k) (getD m (from + k) 0) → m′ ≡ sets l at (take (k + 1) (drop from l))
+copy-more l from n at k {m} {m′} h g i e f =
+    let D = drop from l in
+    let x = getD D k 0 in
+    let less : k < length D = omega (arith, length-drop from l) in
+    let y : getD m (from + k) 0 ≡ x = ap (λ l. getD l (from + k) 0) e ∙ getD-before (take k D) l (from + k) at (omega arith) ∙ sym (getD-drop from l k 0) in
+    let z : at + length (take k D) ≡ at + k = ap (λ n. at + n) (length-take-le k D (omega arith)) in
+    let s : take k D ++ (x ∷ []) ≡ take (k + 1) D = rw add-one (sym (take-suc D k 0 less)) in
+    f ∙ ap (set m (at + k)) y ∙ ap (λ l. set l (at + k) x) e ∙ ap (λ i. set (sets l at (take k D)) i x) (sym z) ∙ sym (sets-append (take k D) (x ∷ []) l at) ∙ ap (sets l at) s

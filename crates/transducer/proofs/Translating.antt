@@ -1,6 +1,6 @@
 -- From the parts of a file to what the translation asks, and to what it answers.
 -- Assumes nothing.
-use Prim.Native.Nat.{ℕ, _*_, _≤_, _<_}
+use Prim.Native.Nat.{ℕ, _-_, _*_, _≤_, _<_}
 use native.Mathlib.Nat.{zero-add}
 use native.Mathlib.Omega.{arith}
 use mathlib.Core.List.{List}
@@ -8,7 +8,7 @@ use mathlib.Core.Logic.{inl, inr}
 use mathlib.Core.Path.{_≡_, refl, sym, ap, ap₂, _∙_}
 use lib.ListN.{length, getD}
 use lib.Seq.{sets, slice, length-slice}
-use Rattle.theory.specs.Size.{size}
+use Rattle.theory.specs.Size.{size, levels}
 use Rattle.theory.specs.Term.{Tree}
 use Rattle.theory.specs.Transducer.{translate}
 use Rattle.formats.specs.Alphabets.{inputs, outputs}
@@ -22,14 +22,14 @@ use Rattle.formats.specs.declared.tree.Extent.{Extent}
 use Rattle.formats.specs.declared.tree.Extent.the-variants as extent
 use Rattle.formats.proofs.Counts.{few-bodies, laid}
 use Rattle.formats.proofs.Judging.{refuse, pass, accept}
-use Rattle.formats.proofs.Offsets.{offset-most}
-use Rattle.formats.proofs.Pairs.{pairs-length, getD-slice}
+use Rattle.formats.proofs.Offsets.{offset-most, offset-next}
+use Rattle.formats.proofs.Pairs.{pairs-length, pairs-at, getD-slice}
 use Rattle.formats.proofs.Sheets.{counted-right, encodes-counted, encodes-wholes, wholes-encodes}
 use Rattle.formats.proofs.Trees.{whole-input, measured-none}
 use Rattle.transducer.specs.Answers.{translated, roomCheck, Translates}
 use Rattle.transducer.specs.Output.{Output}
 use Rattle.transducer.specs.Inner.Machine.{Machine, OutputBy, TranslatesBy}
-use Rattle.transducer.specs.Inner.Written.{walked, Callable, Input, Walkable, Emitted}
+use Rattle.transducer.specs.Inner.Written.{walked, hop, Callable, Input, Walkable, Emitted}
 use Rattle.transducer.specs.declared.translate.Translation.{Translation}
 use Rattle.transducer.specs.declared.translate.Translation.the-variants.{Symbols, Refused}
 use Rattle.transducer.proofs.Meaning.{Bodies, body-read, table, translate-walked}
@@ -39,7 +39,7 @@ use Rattle.transducer.proofs.Outputs.{output-unique, from-parts, to-par
 -- ---- the initial term over the whole input tree
 module _ {ins outs : List ℕ} {n : ℕ} {counts bytes : List ℕ} (starts : List ℕ) (R : Right ins n counts bytes) (W : Wholes ins outs n (offset counts) bytes) (S : Starts counts starts (bodyCount ins n)) (long : length starts ≡ 2050) where
   pub bodies : Bodies ins outs n counts bytes
-  bodies = record { wholes = W; inside = omega (arith, R .sums .all) }
+  bodies = record { wholes = W; inside = omega (arith, R .sums .all); states = R .states; few = λ j h. omega (arith, R .sums .each j h, offset-next counts j (omega (arith, R .long))) }
 
   callable-initial : (j : ℕ) → j < offset counts 1 → Callable n 1 (markAt bytes j)
   unfolding body offset
@@ -52,9 +52,9 @@ module _ {ins outs : List ℕ} {n : ℕ} {counts bytes : List ℕ} (starts : Lis
       rw (← zero-add j, ← d .1) c
 
   -- it can be walked, and gives the code of the translation
-  pub walkable : (s ends : List ℕ) (to : ℕ) → to ≡ getD starts 1 0 → IsTree ins s → Input ins s ends → length ends ≡ 4096 → Walkable ins starts bytes s ends 0 to 0
-  unfolding body trees offset table
-  walkable s ends to e T I h =
+  pub walkable : (s ends : List ℕ) (to left : ℕ) → to ≡ getD starts 1 0 → IsTree ins s → levels (tree ins s) ≤ left → Input ins s ends → length ends ≡ 4096 → Walkable ins starts bytes s ends 0 to 0 left
+  unfolding body trees offset table hop
+  walkable s ends to left e T f I h =
       let L = laid starts R S long in
       let y = S 1 (omega arith) in
       record {
@@ -63,6 +63,10 @@ module _ {ins outs : List ℕ} {n : ℕ} {counts bytes : List ℕ} (starts : Lis
         ordered = omega arith;
         inside = omega (arith, L .inside 1 (omega arith));
         callable = λ j h k. rw (T .one) (callable-initial j (omega arith));
+        flat = λ j h k i.
+            let c = rw (pairs-at bytes j (omega (arith, L .inside 1 (omega arith)))) at (callable-initial j (omega arith)) in
+            let z : getD bytes (2 * j) 0 - 1 ≡ 0 = omega (arith, c i .0) in
+            rw z f;
         all-starts = long;
         all-ends = h;
       }
@@ -100,8 +104,8 @@ module _ {stock : List ℕ} {n : ℕ} {counts bytes : List ℕ} (X : Machine sto
       read-input h = record { whole = read-whole .one .all; long = omega (arith, read-whole .small); right = rw e at (M .ends d l q) }
 
       module _ (starts : List ℕ) (S : Starts counts starts (bodyCount ins n)) (long : length starts ≡ 2050) (to : ℕ) (f : to ≡ getD starts 1 0) where
-        pub can-walk : length ends ≡ 4096 → Walkable ins starts bytes s ends 0 to 0
-        can-walk h = rw e (walkable starts machine-right machine-wholes (rw e at S) long s ends to f (read-whole .one) (read-input h) h)
+        pub can-walk : length ends ≡ 4096 → Walkable ins starts bytes s ends 0 to 0 l
+        can-walk h = rw e (walkable starts machine-right machine-wholes (rw e at S) long s ends to l f (read-whole .one) (omega (arith, rw e at (M .whole d l q .2))) (read-input h) h)
 
         given-code : walked ins starts bytes s 0 0 to ≡ code (translate (transducer (inputs stock) (outputs stock) n (offset counts) bytes) (tree (inputs stock) s))
         given-code = ap (λ i. walked i starts bytes s 0 0 to) e ∙ gives starts machine-right machine-wholes (rw e at S) long s to f (read-whole .one)

@@ -5,13 +5,13 @@ use native.Mathlib.Numerals.{add-one}
 use native.Mathlib.Omega.{arith}
 use mathlib.Core.Bool.{Bool, true, false}
 use mathlib.Core.Path.{_≡_, refl, sym, ap, ap₂, _∙_}
-use mathlib.Core.List.{List, [], _∷_, _++_, append-nil}
+use mathlib.Core.List.{List, [], _∷_, _++_}
 use lib.Dec.{leb, ltb}
 use lib.ListN.{length, getD, drop, length-drop}
 use lib.Seq.{drop-cons, slice-empty}
 use borrow.Author.Tests.{ltb-true, leb-true}
 use Rattle.theory.specs.Term.{node, Terms, none, more, count, Tree}
-use Rattle.theory.specs.Size.{size}
+use Rattle.theory.specs.Size.{size, levels, deepest}
 use Rattle.formats.specs.Code.{Mark}
 use Rattle.formats.specs.Inner.Decode.{letters, lettersAll, firsts, rests, grown, put, forest, first}
 use Rattle.formats.specs.Inner.Layout.{symbolOf, symbolIf, trees, tree, pairs, markAt, bodyNumber}
@@ -78,6 +78,28 @@ unfolding trees
 in-list ins s p h =
     let (t, ts, e) = some-tree (trees ins (drop p s)) h in
     omega (arith, first-tree (symbolOf ins) 0 s p e .1, letters-pos t)
+
+-- ---- levels
+deep-child : (F : Terms ⊥) (r k : ℕ) → k < r → r ≤ count F → levels (first (rests k F)) ≤ deepest (firsts r F)
+unfolding levels deepest first rests firsts count
+deep-child none r k h g = absurd (omega arith)
+deep-child (more t ts) ℕ.zero k h g = absurd (omega arith)
+deep-child (more t ts) (suc r) ℕ.zero h g = omega arith
+deep-child (more t ts) (suc r) (suc k) h g = omega (arith, deep-child ts r k (omega arith) (omega arith))
+
+-- each child of the node at p has a level less
+pub child-flat : (ins s ends : List ℕ) → Input ins s ends → (p k : ℕ) → p < length s → k < getD ins (getD s p 0) 0 → levels (tree ins (drop (hop ends k (p + 1)) s)) < levels (tree ins (drop p s))
+unfolding tree first levels
+child-flat ins s ends I p k h g =
+    let N = node-at ins s p (I .whole) h in
+    let w = place ins s ends I k (p + 1) (omega (arith, N .enough)) in
+    let d = deep-child (trees ins (drop (p + 1) s)) (getD ins (getD s p 0) 0) k g (N .enough) in
+    omega (arith, d, ap (λ F. levels (first F)) (w .trees-there), ap (λ F. levels (first F)) (N .there))
+
+-- and there is at least one
+pub some-level : (ins s : List ℕ) → lettersAll (trees ins s) ≡ length s → (p : ℕ) → p < length s → 0 < levels (tree ins (drop p s))
+unfolding tree first levels
+some-level ins s w p h = omega (arith, ap (λ F. levels (first F)) (node-at ins s p w h .there))
 
 called-rests : (body : ℕ → ℕ → List Mark) (F : Terms ⊥) (k q : ℕ) → k < count F → called body F (suc k) q ≡ written body (first (rests k F)) q
 unfolding called count rests first
@@ -174,32 +196,54 @@ unfolding hop
 hop-more ends n k p h g = g (suc k) (omega arith)
 
 -- ---- what the two functions ask
-pub number-fits : {ins starts bytes s ends : List ℕ} {q p a : ℕ} → Ready ins starts bytes s ends q p → a ≡ getD s p 0 → bodyNumber ins q a + 1 < length starts
-number-fits {ins} {s = s} {q} {p} {a} R e =
+pub number-fits : {ins starts bytes s ends : List ℕ} {q p left a : ℕ} → Ready ins starts bytes s ends q p left → a ≡ getD s p 0 → bodyNumber ins q a + 1 < length starts
+number-fits {ins} {s = s} {q} {p} {left} {a} R e =
     let N = node-at ins s p (R .input .whole) (R .place) in
     omega (arith, number-less ins q (R .table .states) a (R .state) (rw e (N .known)), R .table .long)
 
-pub to-walk : {ins starts bytes s ends : List ℕ} {q p a from to : ℕ} → Ready ins starts bytes s ends q p → a ≡ getD s p 0 → from ≡ getD starts (bodyNumber ins q a) 0 → to ≡ getD starts (bodyNumber ins q a + 1) 0
-    → Walkable ins starts bytes s ends from to (p + 1) × (applied ins starts bytes s q p ≡ walked ins starts bytes s (p + 1) from to)
-to-walk {ins} {starts} {bytes} {s} {ends} {q} {p} {a} {from} {to} R e f g =
-    let N = node-at ins s p (R .input .whole) (R .place) in
-    let T = R .table in
-    let k : a < length ins = rw e (N .known) in
-    let less = number-less ins q (T .states) a (R .state) k in (
-      record {
-        table = T;
-        input = R .input;
-        ordered = rw (f, g) (T .ordered (bodyNumber ins q a) less);
-        inside = rw g (T .inside (bodyNumber ins q a + 1) (omega arith));
-        callable = λ j h l i. let c = T .callable q a j (R .state) k (omega arith) (omega arith) i in (omega (arith, c .0, N .enough, ap (λ b. getD ins b 0) e), c .1);
-        all-starts = R .all-starts;
-        all-ends = R .all-ends;
-      },
-      rw (f, g, e) (apply-walk ins starts bytes s T (R .input .whole) q p (R .state) (R .place)),
-    )
+module _ {ins starts bytes s ends : List ℕ} {q p left : ℕ} (R : Ready ins starts bytes s ends q p left) where
+  pub body-fits : bodyNumber ins q (getD s p 0) + 1 < length starts
+  body-fits = number-fits R refl
+
+  pub some-left : 0 < left
+  some-left = omega (arith, R .flat, some-level ins s (R .input .whole) p (R .place))
+
+  -- places where states and trees are noted
+  pub few-noted : (q < 256) × (p < 4096)
+  few-noted = (omega (arith, R .state, R .table .few-states), omega (arith, R .place, R .input .long, R .all-ends))
+
+  module _ {b from to : ℕ} (e : b ≡ bodyNumber ins q (getD s p 0)) (f : from ≡ getD starts b 0) (g : to ≡ getD starts (b + 1) 0) where
+    -- the marks of the right-hand side can be walked, one level less is left, and they are few
+    pub body-walk : Walkable ins starts bytes s ends from to (p + 1) (left - 1) × (applied ins starts bytes s q p ≡ walked ins starts bytes s (p + 1) from to) × (to ≤ from + 64)
+    body-walk =
+        let N = node-at ins s p (R .input .whole) (R .place) in
+        let T = R .table in
+        let k = N .known in
+        let a = getD s p 0 in
+        let n = bodyNumber ins q a in
+        let less = number-less ins q (T .states) a (R .state) k in
+        let f′ : from ≡ getD starts n 0 = f ∙ ap (λ k. getD starts k 0) e in
+        let g′ : to ≡ getD starts (n + 1) 0 = g ∙ ap (λ k. getD starts (k + 1) 0) e in
+        let inside : 2 * to ≤ length bytes = rw g′ (T .inside (n + 1) (omega arith)) in (
+          record {
+            table = T;
+            input = R .input;
+            ordered = rw (f′, g′) (T .ordered n less);
+            inside = inside;
+            callable = λ j h l i. let c = T .callable q a j (R .state) k (omega arith) (omega arith) i in (omega (arith, c .0, N .enough), c .1);
+            flat = λ j h l i.
+                let c = rw (pairs-at bytes j (omega arith)) at (T .callable q a j (R .state) k (omega arith) (omega arith)) in
+                let d = child-flat ins s ends (R .input) p (getD bytes (2 * j) 0 - 1) (R .place) (omega (arith, c i .0)) in
+                omega (arith, d, R .flat);
+            all-starts = R .all-starts;
+            all-ends = R .all-ends;
+          },
+          rw (f′, g′) (apply-walk ins starts bytes s T (R .input .whole) q p (R .state) (R .place)),
+          rw (f′, g′) (T .few n less),
+        )
 
 -- the calls of a walk
-pub call-in : {ins starts bytes s ends : List ℕ} {from to below : ℕ} (W : Walkable ins starts bytes s ends from to below) (j : ℕ) → from ≤ j → j < to → (getD bytes (2 * j) 0 ≡ 0 → ⊥) → CallAt ins starts bytes s ends (W .table .states) below j to
+pub call-in : {ins starts bytes s ends : List ℕ} {from to below left : ℕ} (W : Walkable ins starts bytes s ends from to below left) (j : ℕ) → from ≤ j → j < to → (getD bytes (2 * j) 0 ≡ 0 → ⊥) → CallAt ins starts bytes s ends (W .table .states) below j to
 call-in {ins} {starts} {bytes} {s} {ends} {from} {to} {below} W j h g e = call-at ins starts bytes s ends (W .table .states) below j to (W .input) g (W .inside) e (W .callable j h g)
 
 pub walk-end : (ins starts bytes s : List ℕ) (below j to : ℕ) → j ≤ to → to ≤ j → walked ins starts bytes s below j to ≡ []
@@ -207,45 +251,16 @@ unfolding spell
 walk-end ins starts bytes s below j to h g = let e : j ≡ to = omega arith in rw (e, slice-empty to (pairs bytes))
 
 -- a call (i, x) of a walk: the child can be found, at p, and the state x applied there
-module _ {ins starts bytes s ends : List ℕ} {from to below : ℕ} (W : Walkable ins starts bytes s ends from to below) (j : ℕ) (h : from ≤ j) (g : j < to) where
+module _ {ins starts bytes s ends : List ℕ} {from to below left : ℕ} (W : Walkable ins starts bytes s ends from to below left) (j : ℕ) (h : from ≤ j) (g : j < to) where
   pub to-skip : {i : ℕ} → i ≡ getD bytes (2 * j) 0 → (i ≡ 0 → ⊥) → (k : ℕ) → k < i - 1 → hop ends k below < length ends
   to-skip e some k l = call-in W j h g (λ z. some (e ∙ z)) .hops k (omega arith)
 
   pub to-apply : {i x p : ℕ} → i ≡ getD bytes (2 * j) 0 → (i ≡ 0 → ⊥) → x ≡ getD bytes (2 * j + 1) 0 → p ≡ hop ends (i - 1) below
-      → Ready ins starts bytes s ends x p × (below ≤ p) × (walked ins starts bytes s below j to ≡ applied ins starts bytes s x p ++ walked ins starts bytes s below (j + 1) to)
+      → Ready ins starts bytes s ends x p left × (walked ins starts bytes s below j to ≡ applied ins starts bytes s x p ++ walked ins starts bytes s below (j + 1) to)
   to-apply {i} {x} {p} e some f k =
       let c = call-in W j h g (λ z. some (e ∙ z)) in
       let z : p ≡ hop ends (getD bytes (2 * j) 0 - 1) below = k ∙ ap (λ n. hop ends (n - 1) below) e in
-      (record { table = W .table; input = W .input; state = rw f (c .state); place = rw z (c .inside); all-starts = W .all-starts; all-ends = W .all-ends }, rw z (c .after), rw (z, f) (c .writes))
-
--- the marks behind the first
-pub walk-on : {ins starts bytes s ends : List ℕ} {from to below : ℕ} → Walkable ins starts bytes s ends from to below → from < to → Walkable ins starts bytes s ends (from + 1) to below
-walk-on W h = record { table = W .table; input = W .input; ordered = omega arith; inside = W .inside; callable = λ j k l. W .callable j (omega arith) l; all-starts = W .all-starts; all-ends = W .all-ends }
-
--- ---- by the number of a body
-module _ {ins starts bytes s ends : List ℕ} {q p : ℕ} (R : Ready ins starts bytes s ends q p) where
-  pub body-fits : bodyNumber ins q (getD s p 0) + 1 < length starts
-  body-fits = number-fits R refl
-
-  module _ {b from to : ℕ} (e : b ≡ bodyNumber ins q (getD s p 0)) (f : from ≡ getD starts b 0) (g : to ≡ getD starts (b + 1) 0) where
-    pub body-walk : Walkable ins starts bytes s ends from to (p + 1) × (applied ins starts bytes s q p ≡ walked ins starts bytes s (p + 1) from to)
-    body-walk = to-walk R refl (f ∙ ap (λ k. getD starts k 0) e) (g ∙ ap (λ k. getD starts (k + 1) 0) e)
-
-    -- a right-hand side that is one symbol
-    pub one-symbol : to ≡ from + 1 → getD bytes (2 * from) 0 ≡ 0 → applied ins starts bytes s q p ≡ getD bytes (2 * from + 1) 0 ∷ []
-    one-symbol h z =
-        let w = body-walk in
-        w .1 ∙ walk-symbol ins starts bytes s (p + 1) from to (omega arith) (w .0 .inside) z ∙ ap (_∷_ (getD bytes (2 * from + 1) 0)) (walk-end ins starts bytes s (p + 1) (from + 1) to (omega arith) (omega arith))
-
--- the last mark is a call: what is left is the walk of the right-hand side that is called
-pub last-call : {ins starts bytes s ends : List ℕ} {j to below : ℕ} (W : Walkable ins starts bytes s ends j to below) → j < to → to ≤ j + 1 → {i x p b from upto : ℕ} → i ≡ getD bytes (2 * j) 0 → (i ≡ 0 → ⊥) → x ≡ getD bytes (2 * j + 1) 0 → p ≡ hop ends (i - 1) below
-    → b ≡ bodyNumber ins x (getD s p 0) → from ≡ getD starts b 0 → upto ≡ getD starts (b + 1) 0
-    → Walkable ins starts bytes s ends from upto (p + 1) × (below ≤ p) × (p < length s) × (walked ins starts bytes s below j to ≡ walked ins starts bytes s (p + 1) from upto)
-last-call {ins} {starts} {bytes} {s} {ends} {j} {to} {below} W h l {i} {x} {p} e some f k g m n =
-    let a = to-apply W j (omega arith) h e some f k in
-    let w = body-walk (a .0) g m n in
-    (w .0, a .1, a .0 .place, a .2 ∙ ap (λ v. applied ins starts bytes s x p ++ v) (walk-end ins starts bytes s below (j + 1) to (omega arith) l) ∙ append-nil (applied ins starts bytes s x p) ∙ w .1)
-
--- the place in the input has risen, whatever marks are left
-pub input-falls : (n below p d e : ℕ) → below ≤ p → p < n → d < 18446744073709551616 → 18446744073709551616 * (n - (p + 1)) + d < 18446744073709551616 * (n - below) + e
-input-falls n below p d e h g l = omega arith
+      (record { table = W .table; input = W .input; state = rw f (c .state); place = rw z (c .inside); flat = rw z (W .flat j h g (pos-of (λ y. some (e ∙ y)))); all-starts = W .all-starts; all-ends = W .all-ends }, rw (z, f) (c .writes))
+    where
+      pos-of : (getD bytes (2 * j) 0 ≡ 0 → ⊥) → 0 < getD bytes (2 * j) 0
+      pos-of h = omega (arith, h)

@@ -1,18 +1,17 @@
 // Translation (01: sewing): what the transducer of a file gives on an input tree.
 ghost use mathlib.Core.Path.{_≡_};
 ghost use Prim.Native.Nat.{ℕ, _+_, _^_, _≤_, _<_, min};
-ghost use lib.ListN.{length, getD};
-ghost use mathlib.Core.List.{[], _∷_};
+ghost use lib.ListN.{length, getD, take, drop};
+ghost use lib.Seq.{sets};
 ghost use Rattle.formats.specs.Inner.Layout.{bodyNumber};
 ghost use Rattle.transducer.specs.Answers.{Translates};
 ghost use Rattle.transducer.specs.Inner.Machine.{Machine, TranslatesBy};
-ghost use Rattle.transducer.specs.Inner.Written.{applied, walked, Ready, Walkable, hop, Filled, Noted, Emitted};
+ghost use Rattle.transducer.specs.Inner.Written.{applied, walked, Ready, Walkable, hop, noteKey, Noted, Standing, Wrote, Emitted};
 use formats::alphabet::input_ranks;
 use formats::bodies::fill_starts;
 use formats::bytes::number;
 use formats::bytes::wide;
 use formats::file::FileRead;
-use formats::file::copy_at;
 use formats::file::counts_end;
 use formats::file::read_transducer;
 use formats::refusal::Refusal;
@@ -47,98 +46,20 @@ fn body_at(ins: &[u8], s: &[u8], q: usize, p: usize) -> usize
     1 + q * ins.len() + wide(s[p])
 }
 
-// Writes the symbol `x` at `at`, if there is room.
-fn put(out: &mut [u8], at: usize, x: u8) -> usize
-    requires { ⌜ at ≤ length (now out) ⌝ }
-    ensures { λ r. ⌜ Filled (x ∷ []) at (now (out .entry)) (now (out .exit)) r ⌝ }
-{
-    if at < out.len() {
-        out[at] = x;
-    }
-    at + 1
-}
-
-// Writes what the state `q` gives on the tree at `p` of `s`, from `at` on, as far as there is room, and says where that ends.
-fn apply(
-    ins: &[u8],
-    starts: &[u16; 2050],
-    marks: &[u8],
-    s: &[u8],
-    ends: &[u16; 4096],
-    q: usize,
-    p: usize,
-    out: &mut [u8],
-    at: usize,
-) -> usize
-    requires { ⌜ Ready (now ins) (now starts) (now marks) (now s) (now ends) q p × (at ≤ length (now out)) ⌝ }
-    ensures { λ r. ⌜ Filled (applied (now (ins .entry)) (now (starts .entry)) (now (marks .entry)) (now (s .entry)) q p) at (now (out .entry)) (now (out .exit)) r ⌝ }
-{
-    let b = body_at(ins, s, q, p);
-    let from = number(starts[b]);
-    let to = number(starts[b + 1]);
-    if to == from + 1 {
-        if marks[2 * from] == 0 {
-            return put(out, at, marks[2 * from + 1]);
-        }
-    }
-    walk(ins, starts, marks, s, ends, from, to, p + 1, out, at)
-}
-
-// Writes what the marks number `from` up to `upto` give, over the trees that stand from `under` on. A call that is the last mark is
-// not made: the walk goes on with the marks of the right-hand side that is called.
-fn walk(
-    ins: &[u8],
-    starts: &[u16; 2050],
-    marks: &[u8],
-    s: &[u8],
-    ends: &[u16; 4096],
-    from: usize,
-    upto: usize,
-    under: usize,
-    out: &mut [u8],
-    at: usize,
-) -> usize
-    requires { ⌜ Walkable (now ins) (now starts) (now marks) (now s) (now ends) from upto under × (at ≤ length (now out)) ⌝ }
-    ensures { λ r. ⌜ Filled (walked (now (ins .entry)) (now (starts .entry)) (now (marks .entry)) (now (s .entry)) under from upto) at (now (out .entry)) (now (out .exit)) r ⌝ }
-{
-    let mut w = at;
-    let mut j = from;
-    let mut to = upto;
-    let mut below = under;
-    while j < to {
-        let i = wide(marks[2 * j]);
-        let x = marks[2 * j + 1];
-        j += 1;
-        if i == 0 {
-            if w == out.len() {
-                return w + 1;
-            }
-            out[w] = x;
-            w += 1;
-            continue;
-        }
-        let p = skip(ends, below, i - 1);
-        if j < to {
-            w = apply(ins, starts, marks, s, ends, wide(x), p, out, w);
-            if w > out.len() {
-                return w;
-            }
-            continue;
-        }
-        let b = body_at(ins, s, wide(x), p);
-        j = number(starts[b]);
-        to = number(starts[b + 1]);
-        below = p + 1;
-    }
-    w
-}
-
-// Where the size for state `q` and the tree at `p` is noted.
+// Where what is noted of state `q` and the tree at `p` stands.
 fn slot(q: usize, p: usize) -> usize
     requires { ⌜ (q < 256) × (p < 4096) ⌝ }
     ensures { λ r. ⌜ r < 4096 ⌝ }
 {
     (p + 61 * q) % 4096
+}
+
+// The key under which it is noted: 0 is none.
+fn note_key(q: usize, p: usize) -> u32
+    requires { ⌜ (q < 256) × (p < 4096) ⌝ }
+    ensures { λ r. ⌜ r ≡ noteKey q p ⌝ }
+{
+    (4096 * (q + 1) + p) as u32
 }
 
 // `have` and `n` more, or one past `limit` where that passes it.
@@ -154,7 +75,7 @@ fn added(have: usize, n: usize, limit: usize) -> usize
 }
 
 // How far `have` and the symbols that state `q` gives on the tree at `p` go, or one past `limit` where they pass it. A size that
-// is known is noted, so that it is not counted again.
+// is known is noted, so that it is not counted again. The tree has at most `left` levels.
 fn count(
     ins: &[u8],
     starts: &[u16; 2050],
@@ -163,17 +84,18 @@ fn count(
     ends: &[u16; 4096],
     q: usize,
     p: usize,
+    left: usize,
     have: usize,
     limit: usize,
-    keys: &mut [usize; 4096],
+    keys: &mut [u32; 4096],
     sizes: &mut [usize; 4096],
 ) -> usize
-    requires { ⌜ Ready (now ins) (now starts) (now marks) (now s) (now ends) q p × (q < 256) × (have ≤ limit) × (limit + 1 < 2 ^ 64) × Noted (now ins) (now starts) (now marks) (now s) (now keys) (now sizes) ⌝ }
+    requires { ⌜ Ready (now ins) (now starts) (now marks) (now s) (now ends) q p left × (have ≤ limit) × (limit + 1 < 2 ^ 64) × Noted (now ins) (now starts) (now marks) (now s) (now keys) (now sizes) ⌝ }
     ensures size { λ r. ⌜ r ≡ min (have + length (applied (now (ins .entry)) (now (starts .entry)) (now (marks .entry)) (now (s .entry)) q p)) (limit + 1) ⌝ }
     ensures noted { λ _. ⌜ Noted (now (ins .entry)) (now (starts .entry)) (now (marks .entry)) (now (s .entry)) (now (keys .exit)) (now (sizes .exit)) ⌝ }
 {
     let k = slot(q, p);
-    let key = 4096 * (q + 1) + p;
+    let key = note_key(q, p);
     if keys[k] == key {
         return added(have, sizes[k], limit);
     }
@@ -189,6 +111,7 @@ fn count(
         from,
         to,
         p + 1,
+        left - 1,
         have,
         limit,
         keys,
@@ -211,12 +134,13 @@ fn tally(
     from: usize,
     to: usize,
     below: usize,
+    left: usize,
     have: usize,
     limit: usize,
-    keys: &mut [usize; 4096],
+    keys: &mut [u32; 4096],
     sizes: &mut [usize; 4096],
 ) -> usize
-    requires { ⌜ Walkable (now ins) (now starts) (now marks) (now s) (now ends) from to below × (have ≤ limit) × (limit + 1 < 2 ^ 64) × Noted (now ins) (now starts) (now marks) (now s) (now keys) (now sizes) ⌝ }
+    requires { ⌜ Walkable (now ins) (now starts) (now marks) (now s) (now ends) from to below left × (have ≤ limit) × (limit + 1 < 2 ^ 64) × Noted (now ins) (now starts) (now marks) (now s) (now keys) (now sizes) ⌝ }
     ensures size { λ r. ⌜ r ≡ min (have + length (walked (now (ins .entry)) (now (starts .entry)) (now (marks .entry)) (now (s .entry)) below from to)) (limit + 1) ⌝ }
     ensures noted { λ _. ⌜ Noted (now (ins .entry)) (now (starts .entry)) (now (marks .entry)) (now (s .entry)) (now (keys .exit)) (now (sizes .exit)) ⌝ }
 {
@@ -234,27 +158,160 @@ fn tally(
             continue;
         }
         let p = skip(ends, below, i - 1);
-        n = count(ins, starts, marks, s, ends, x, p, n, limit, keys, sizes);
+        n = count(
+            ins,
+            starts,
+            marks,
+            s,
+            ends,
+            x,
+            p,
+            left,
+            n,
+            limit,
+            keys,
+            sizes,
+        );
     }
     n
 }
 
-// Writes what the marks number 0 up to `to` give over the whole input tree, if there is room: counted before the first is written.
-fn emit_counted(
+// Copies the `n` symbols from `from` on to `at`, behind them.
+fn copy_within(out: &mut [u8], from: usize, n: usize, at: usize)
+    requires { ⌜ (from + n ≤ at) × (at + n ≤ length (now out)) ⌝ }
+    ensures { λ _. ⌜ now (out .exit) ≡ sets (now (out .entry)) at (take n (drop from (now (out .entry)))) ⌝ }
+{
+    let mut k = 0;
+    while k < n {
+        out[at + k] = out[from + k];
+        k += 1;
+    }
+}
+
+// Writes what state `q` gives on the tree at `p`, from `at` on, where there is room for it, and says where that ends. What was
+// written before is copied from where it stands. The tree has at most `left` levels.
+fn apply(
+    ins: &[u8],
+    starts: &[u16; 2050],
+    marks: &[u8],
+    s: &[u8],
+    ends: &[u16; 4096],
+    q: usize,
+    p: usize,
+    left: usize,
+    keys: &mut [u32; 4096],
+    sizes: &mut [usize; 4096],
+    places: &mut [usize; 4096],
+    out: &mut [u8],
+    at: usize,
+) -> usize
+    requires { ⌜ Ready (now ins) (now starts) (now marks) (now s) (now ends) q p left × Standing (now ins) (now starts) (now marks) (now s) (now keys) (now sizes) (now places) (now out) at × (at + length (applied (now ins) (now starts) (now marks) (now s) q p) ≤ length (now out)) ⌝ }
+    ensures wrote { λ r. ⌜ Wrote (applied (now (ins .entry)) (now (starts .entry)) (now (marks .entry)) (now (s .entry)) q p) at (now (out .entry)) (now (out .exit)) r ⌝ }
+    ensures standing { λ r. ⌜ Standing (now (ins .entry)) (now (starts .entry)) (now (marks .entry)) (now (s .entry)) (now (keys .exit)) (now (sizes .exit)) (now (places .exit)) (now (out .exit)) r ⌝ }
+{
+    let k = slot(q, p);
+    let key = note_key(q, p);
+    if keys[k] == key {
+        if places[k] > 0 {
+            let n = sizes[k];
+            copy_within(out, places[k] - n, n, at);
+            return at + n;
+        }
+    }
+    let b = body_at(ins, s, q, p);
+    let from = number(starts[b]);
+    let to = number(starts[b + 1]);
+    let r = walk(
+        ins,
+        starts,
+        marks,
+        s,
+        ends,
+        from,
+        to,
+        p + 1,
+        left - 1,
+        keys,
+        sizes,
+        places,
+        out,
+        at,
+    );
+    keys[k] = key;
+    sizes[k] = r - at;
+    places[k] = r;
+    r
+}
+
+// The same of the marks number `from` up to `to`, over the trees that stand from `below` on: each call applies its state.
+fn walk(
+    ins: &[u8],
+    starts: &[u16; 2050],
+    marks: &[u8],
+    s: &[u8],
+    ends: &[u16; 4096],
+    from: usize,
+    to: usize,
+    below: usize,
+    left: usize,
+    keys: &mut [u32; 4096],
+    sizes: &mut [usize; 4096],
+    places: &mut [usize; 4096],
+    out: &mut [u8],
+    at: usize,
+) -> usize
+    requires { ⌜ Walkable (now ins) (now starts) (now marks) (now s) (now ends) from to below left × Standing (now ins) (now starts) (now marks) (now s) (now keys) (now sizes) (now places) (now out) at × (at + length (walked (now ins) (now starts) (now marks) (now s) below from to) ≤ length (now out)) ⌝ }
+    ensures wrote { λ r. ⌜ Wrote (walked (now (ins .entry)) (now (starts .entry)) (now (marks .entry)) (now (s .entry)) below from to) at (now (out .entry)) (now (out .exit)) r ⌝ }
+    ensures standing { λ r. ⌜ Standing (now (ins .entry)) (now (starts .entry)) (now (marks .entry)) (now (s .entry)) (now (keys .exit)) (now (sizes .exit)) (now (places .exit)) (now (out .exit)) r ⌝ }
+{
+    let mut w = at;
+    let mut j = from;
+    while j < to {
+        let i = wide(marks[2 * j]);
+        let x = marks[2 * j + 1];
+        j += 1;
+        if i == 0 {
+            out[w] = x;
+            w += 1;
+            continue;
+        }
+        w = apply(
+            ins,
+            starts,
+            marks,
+            s,
+            ends,
+            wide(x),
+            skip(ends, below, i - 1),
+            left,
+            keys,
+            sizes,
+            places,
+            out,
+            w,
+        );
+    }
+    w
+}
+
+// Writes what the marks number 0 up to `to` give over the whole input tree of `left` levels, if there is room: it is counted
+// before the first symbol is written.
+fn emit(
     ins: &[u8],
     starts: &[u16; 2050],
     marks: &[u8],
     s: &[u8],
     ends: &[u16; 4096],
     to: usize,
+    left: usize,
     out: &mut [u8],
 ) -> usize
-    requires { ⌜ Walkable (now ins) (now starts) (now marks) (now s) (now ends) 0 to 0 ⌝ }
+    requires { ⌜ Walkable (now ins) (now starts) (now marks) (now s) (now ends) 0 to 0 left ⌝ }
     ensures { λ r. ⌜ Emitted (walked (now (ins .entry)) (now (starts .entry)) (now (marks .entry)) (now (s .entry)) 0 0 to) (now (out .entry)) (now (out .exit)) r ⌝ }
 {
-    let mut keys = [0usize; 4096];
+    let mut keys = [0u32; 4096];
     let mut sizes = [0usize; 4096];
-    let symbols = tally(
+    let n = tally(
         ins,
         starts,
         marks,
@@ -263,39 +320,32 @@ fn emit_counted(
         0,
         to,
         0,
+        left,
         0,
         out.len(),
         &mut keys,
         &mut sizes,
     );
-    if symbols > out.len() {
-        return symbols;
+    if n > out.len() {
+        return n;
     }
-    walk(ins, starts, marks, s, ends, 0, to, 0, out, 0)
-}
-
-// The same: an output of at most 8,192 symbols is written to a place of its own first, and not counted.
-fn emit(
-    ins: &[u8],
-    starts: &[u16; 2050],
-    marks: &[u8],
-    s: &[u8],
-    ends: &[u16; 4096],
-    to: usize,
-    out: &mut [u8],
-) -> usize
-    requires { ⌜ Walkable (now ins) (now starts) (now marks) (now s) (now ends) 0 to 0 ⌝ }
-    ensures { λ r. ⌜ Emitted (walked (now (ins .entry)) (now (starts .entry)) (now (marks .entry)) (now (s .entry)) 0 0 to) (now (out .entry)) (now (out .exit)) r ⌝ }
-{
-    let mut short = [0u8; 8192];
-    let symbols = walk(ins, starts, marks, s, ends, 0, to, 0, &mut short, 0);
-    if symbols > 8192 {
-        return emit_counted(ins, starts, marks, s, ends, to, out);
-    }
-    if symbols <= out.len() {
-        copy_at(&short[0..symbols], out, 0);
-    }
-    symbols
+    let mut places = [0usize; 4096];
+    walk(
+        ins,
+        starts,
+        marks,
+        s,
+        ends,
+        0,
+        to,
+        0,
+        left,
+        &mut keys,
+        &mut sizes,
+        &mut places,
+        out,
+        0,
+    )
 }
 
 // Translates by the transducer whose n, counts and marks these are.
@@ -315,9 +365,9 @@ fn translate_by(
     let mut starts = [0u16; 2050];
     fill_starts(counts, 1 + n * ins.len(), &mut starts);
     match measure_all(ins, s, &mut ends) {
-        Extent::Tree(_, _) => {
+        Extent::Tree(_, levels) => {
             let to = number(starts[1]);
-            let size = emit(ins, &starts, marks, s, &ends, to, out);
+            let size = emit(ins, &starts, marks, s, &ends, to, levels, out);
             if size > out.len() {
                 return Translation::Refused(Refusal::LongOutput);
             }

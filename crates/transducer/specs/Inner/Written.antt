@@ -1,9 +1,10 @@
 -- What a state writes on an input tree, byte by byte: the marks of its right-hand side in order, and for each call what the state called writes.
-use Prim.Native.Nat.{ℕ, suc, _+_, _*_, _<_, _≤_, min}
+use Prim.Native.Nat.{ℕ, suc, _+_, _-_, _*_, _<_, _≤_}
 use mathlib.Core.List.{List, [], _∷_, _++_}
 use mathlib.Core.Path.{_≡_}
-use lib.ListN.{length, getD, drop}
+use lib.ListN.{length, getD, take, drop}
 use lib.Seq.{slice, sets}
+use Rattle.theory.specs.Size.{levels}
 use Rattle.theory.specs.Term.{Tree, Terms, var, node, none, more, count}
 use Rattle.formats.specs.Code.{Mark}
 use Rattle.formats.specs.Inner.Decode.{lettersAll}
@@ -48,8 +49,10 @@ Callable n r m = 0 < m .0 → (m .0 ≤ r) × (m .1 < n)
 -- the right-hand sides of some states lie where the table of starts says, and every call in them can be made
 pub record Table (ins starts bytes : List ℕ) : Type 0 where
   pub states : ℕ
+  pub few-states : states ≤ 128
   pub long : bodyCount ins states < length starts
   pub ordered : (j : ℕ) → j < bodyCount ins states → getD starts j 0 ≤ getD starts (j + 1) 0
+  pub few : (j : ℕ) → j < bodyCount ins states → getD starts (j + 1) 0 ≤ getD starts j 0 + 64
   pub inside : (j : ℕ) → j ≤ bodyCount ins states → 2 * getD starts j 0 ≤ length bytes
   pub callable : (q a j : ℕ) → q < states → a < length ins → getD starts (bodyNumber ins q a) 0 ≤ j → j < getD starts (bodyNumber ins q a + 1) 0 → Callable states (getD ins a 0) (markAt bytes j)
 
@@ -64,35 +67,58 @@ unfoldable pub hop : List ℕ → ℕ → ℕ → ℕ
 hop ends ℕ.zero p = p
 hop ends (suc n) p = hop ends n (getD ends p 0)
 
--- state q can be applied to the tree at p
-pub record Ready (ins starts bytes s ends : List ℕ) (q p : ℕ) : Type 0 where
+-- levels left times marks, which falls with every call: a right-hand side has at most 64 marks, so that one level outweighs them
+abbrev pub levelsTimesMarks : ℕ → ℕ → ℕ
+levelsTimesMarks left marks = 65 * left + marks
+
+-- state q can be applied to the tree at p, which has at most `left` levels
+pub record Ready (ins starts bytes s ends : List ℕ) (q p left : ℕ) : Type 0 where
   pub table : Table ins starts bytes
   pub input : Input ins s ends
   pub state : q < table .states
   pub place : p < length s
+  pub flat : levels (tree ins (drop p s)) ≤ left
   pub all-starts : length starts ≡ 2050
   pub all-ends : length ends ≡ 4096
 
--- the marks number `from` up to `to` can be walked over the trees from `below` on
-pub record Walkable (ins starts bytes s ends : List ℕ) (from to below : ℕ) : Type 0 where
+-- the marks number `from` up to `to` can be walked over the trees from `below` on, and those that are called have at most `left` levels
+pub record Walkable (ins starts bytes s ends : List ℕ) (from to below left : ℕ) : Type 0 where
   pub table : Table ins starts bytes
   pub input : Input ins s ends
   pub ordered : from ≤ to
   pub inside : 2 * to ≤ length bytes
   pub callable : (j : ℕ) → from ≤ j → j < to → Callable (table .states) (count (trees ins (drop below s))) (markAt bytes j)
+  pub flat : (j : ℕ) → from ≤ j → j < to → 0 < getD bytes (2 * j) 0 → levels (tree ins (drop (hop ends (getD bytes (2 * j) 0 - 1) below) s)) ≤ left
   pub all-starts : length starts ≡ 2050
   pub all-ends : length ends ≡ 4096
 
--- w was written from `at` on, as far as there is room: where it ends, or one past the area
-pub record Filled (w : List ℕ) (at : ℕ) (before after : List ℕ) (r : ℕ) : Type 0 where
-  pub place : r ≡ min (at + length w) (length before + 1)
-  pub wrote : at + length w ≤ length before → after ≡ sets before at w
+-- ---- what is noted of states and trees
+-- the key of state q and the tree at p; 0 is the key of nothing
+abbrev pub noteKey : ℕ → ℕ → ℕ
+noteKey q p = 4096 * (q + 1) + p
 
 -- sizes of what states write: the size at k is that of state q on the tree at p, where the key at k is that of q and p
 pub record Noted (ins starts bytes s keys sizes : List ℕ) : Type 0 where
   pub long : length keys ≡ 4096
   pub wide : length sizes ≡ 4096
-  pub right : (k q p : ℕ) → p < 4096 → getD keys k 0 ≡ 4096 * (q + 1) + p → getD sizes k 0 ≡ length (applied ins starts bytes s q p)
+  pub right : (k q p : ℕ) → p < 4096 → getD keys k 0 ≡ noteKey q p → getD sizes k 0 ≡ length (applied ins starts bytes s q p)
+
+-- w stands in the area, ends at e, and that is not behind `at`
+pub record StandsAt (w area : List ℕ) (e at : ℕ) : Type 0 where
+  pub before : e ≤ at
+  pub long : length w ≤ e
+  pub there : take (length w) (drop (e - length w) area) ≡ w
+
+-- what was written so far, up to `at`: the place at k is where the output of q and p ends, where the key at k is that of q and p; 0 if it does not stand yet
+pub record Standing (ins starts bytes s keys sizes places area : List ℕ) (at : ℕ) : Type 0 where
+  pub noted : Noted ins starts bytes s keys sizes
+  pub all-places : length places ≡ 4096
+  pub stands : (k q p : ℕ) → p < 4096 → getD keys k 0 ≡ noteKey q p → 0 < getD places k 0 → StandsAt (applied ins starts bytes s q p) area (getD places k 0) at
+
+-- w was written from `at` on, where there was room for it, up to r
+pub record Wrote (w : List ℕ) (at : ℕ) (before after : List ℕ) (r : ℕ) : Type 0 where
+  pub end : r ≡ at + length w
+  pub wrote : after ≡ sets before at w
 
 -- w was written from the start of the area, if there is room for it: how much that is, or more than there is room for
 pub record Emitted (w before after : List ℕ) (r : ℕ) : Type 0 where
