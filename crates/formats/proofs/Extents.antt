@@ -1,15 +1,15 @@
 -- Laws of `measured`, at a position of a list.
 -- Assumes nothing.
 use Prim.Native.Nat.{ℕ, suc, _+_, _-_, _≤_, _<_, max}
-use native.Mathlib.Decide.{decLe, decLt}
+use native.Mathlib.Decide.{decLe}
 use native.Mathlib.Numerals.{add-one}
 use native.Mathlib.Omega.{arith}
 use mathlib.Core.Bool.{Bool, true, false}
 use mathlib.Core.Path.{_≡_, refl, sym, ap, ap₂, _∙_}
 use mathlib.Core.List.{List}
 use lib.Dec.{leb, leb·suc-suc}
-use lib.ListN.{length, getD, drop, set, drop-of-length-le}
-use lib.Seq.{drop-cons, getD-set-same, getD-set-other}
+use lib.ListN.{length, getD, drop, drop-of-length-le}
+use lib.Seq.{drop-cons}
 use borrow.Author.Tests.{lt-ltb, le-ltb, le-leb, lt-leb, leb-true, leb-false}
 use Rattle.theory.specs.Term.{var, node, Terms, none, more, count, Tree as GroundTree}
 use Rattle.theory.specs.Size.{size, sizes, levels, deepest}
@@ -17,7 +17,7 @@ use Rattle.theory.proofs.Terms.{conflict}
 use Rattle.formats.specs.Inner.Decode.{letters, lettersAll, firsts, grown, put, forest, first}
 use Rattle.formats.specs.Inner.Layout.{symbolOf, trees, tree, IsTree}
 use Rattle.formats.specs.Inner.Marked.{ended}
-use Rattle.formats.specs.Inner.Measured.{treeIf, measured, endAt, Ends, Unary, Extents, WholeTree, MeasuredAll}
+use Rattle.formats.specs.Inner.Measured.{treeIf, measured, WholeTree, MeasuredAll}
 use Rattle.formats.specs.declared.bodies.End.the-variants.{At}
 use Rattle.formats.specs.declared.tree.Extent.{Extent}
 use Rattle.formats.specs.declared.tree.Extent.the-variants.{Tree, Bad}
@@ -155,126 +155,53 @@ seen room at (more t ts) e l m =
 record Child (rs s : List ℕ) (room n p deep e l : ℕ) : Type 0 where
   next : resume room n p deep (trees rs (drop p s)) ≡ resume room (n - 1) e (max deep l) (trees rs (drop e s))
   further : p < e
-  inside : e ≤ length s
   flat : l ≤ room
-  ends : e ≡ endAt rs s p
 
 child : (rs s : List ℕ) (room n p deep e l : ℕ) → 0 < n → measured room p (trees rs (drop p s)) ≡ Tree e l → Child rs s room n p deep e l
-unfolding trees tree first resume
+unfolding trees resume
 child rs s room ℕ.zero p deep e l h m = absurd (omega arith)
 child rs s room (suc n) p deep e l h m =
     let S = seen room p (trees rs (drop p s)) e l m in
-    let w = first-tree (symbolOf rs) 0 s p (S .these) in
     let z = letters-size (S .one) in
     let r : p + letters (S .one) ≡ e = omega (arith, S .end) in
-    let b : S .others ≡ trees rs (drop e s) = w .0 ∙ ap (λ k. trees rs (drop k s)) r in
+    let b : S .others ≡ trees rs (drop e s) = first-tree (symbolOf rs) 0 s p (S .these) .0 ∙ ap (λ k. trees rs (drop k s)) r in
     let i = le-leb (levels (S .one)) room (S .flat) in
     let q : n ≡ suc n - 1 = omega arith in
     record {
       next = ap (resume room (suc n) p deep) (S .these) ∙ ap (λ f. treeIf f (resume room n (p + size (S .one)) (max deep (levels (S .one))) (S .others))) i ∙ cc (S .end, S .deep, b, q);
       further = omega (arith, letters-pos (S .one));
-      inside = omega (arith, w .1);
       flat = omega (arith, S .flat, S .deep);
-      ends = sym (S .end) ∙ ap (λ F. p + size (first F)) (sym (S .these));
     }
-
--- a tree at position at: it ends there, and further on
-pub tree-end : (rs s : List ℕ) (room at e l : ℕ) → measured room at (trees rs (drop at s)) ≡ Tree e l → (e ≡ endAt rs s at) × (e ≤ length s) × (l ≤ room)
-tree-end rs s room at e l m = let w = child rs s room 1 at 0 e l (omega arith) m in (w .ends, w .inside, w .flat)
-
--- a node of rank 1: the tree below it, with one level more
-module _ (rs s : List ℕ) (at room : ℕ) (U : Unary rs s at) (r : 0 < room) where
-  one-below : measured room at (trees rs (drop at s)) ≡ resume (room - 1) 1 (at + 1) 0 (trees rs (drop (at + 1) s))
-  one-below = one-node rs s at room (getD s at 0) 1 r (U .there) refl (U .known) (sym (U .rank))
-
-  pub unary-tree : (e l : ℕ) → measured (room - 1) (at + 1) (trees rs (drop (at + 1) s)) ≡ Tree e l → measured room at (trees rs (drop at s)) ≡ Tree e (l + 1)
-  unary-tree e l m =
-      let w = child rs s (room - 1) 1 (at + 1) 0 e l (omega arith) m in
-      let q : max 0 l + 1 ≡ l + 1 = omega arith in
-      one-below ∙ w .next ∙ no-more (room - 1) e (max 0 l) (trees rs (drop e s)) (1 - 1) (omega arith) ∙ ap (Tree e) q
-
-  pub unary-bad : measured (room - 1) (at + 1) (trees rs (drop (at + 1) s)) ≡ Bad → measured room at (trees rs (drop at s)) ≡ Bad
-  unary-bad m = one-below ∙ bad-child (room - 1) 1 (at + 1) 0 (trees rs (drop (at + 1) s)) (omega arith) m
-
--- ---- the table of ends
--- what stood there before the child at p, and what the child put there
-ends-more : (rs s before after : List ℕ) (a p e : ℕ) → Ends rs s before a p → ((k : ℕ) → k < p → getD after k 0 ≡ getD before k 0) → Ends rs s after p e → Ends rs s after a e
-ends-more rs s before after a p e old kept new k h g = by-case (decLt k p)
-  where
-    by-case : Dec (k < p) → getD after k 0 ≡ endAt rs s k
-    by-case (yes y) = kept k y ∙ old k h y
-    by-case (no n) = new k (omega arith) g
-
--- the node itself is put there last
-ends-node : (rs s l : List ℕ) (a e : ℕ) → a < length l → e ≡ endAt rs s a → Ends rs s l (a + 1) e → Ends rs s (set l a e) a e
-ends-node rs s l a e i h below k g m = by-case (decLt a k)
-  where
-    by-case : Dec (a < k) → getD (set l a e) k 0 ≡ endAt rs s k
-    by-case (yes y) = getD-set-other l a k e 0 (omega arith) ∙ below k (omega arith) m
-    by-case (no n) = let z : k ≡ a = omega arith in rw z (getD-set-same l a e 0 i ∙ h)
 
 -- ---- the loop over the children
 -- The node at `at`, with `left` children still to be read from p on: what it answers is `resume` from here, with room for one level less.
--- The ends of the subtrees passed are noted, and what stands before them is as it was.
-pub record Measuring (rs s before : List ℕ) (at room : ℕ) (ends : List ℕ) (left p deep : ℕ) : Type 0 where
+pub record Measuring (rs s : List ℕ) (at room left p deep : ℕ) : Type 0 where
   pub further : at < p
-  pub inside : p ≤ length s
   pub flat : deep < room
-  pub long : length ends ≡ length before
   pub answer : measured room at (trees rs (drop at s)) ≡ resume (room - 1) left p deep (trees rs (drop p s))
-  pub noted : Ends rs s ends (at + 1) p
-  pub kept : (k : ℕ) → k < at + 1 → getD ends k 0 ≡ getD before k 0
 
-module _ {rs s ends : List ℕ} {at room : ℕ} where
-  -- no tree, and nothing noted
-  pub nothing-there : measured room at (trees rs (drop at s)) ≡ Bad → Extents rs s at room ends ends Bad
-  nothing-there m = record { answer = sym m; filled = λ e l q. conflict (cc); kept = λ k h. refl }
+-- before the first child
+pub first-child : {rs s : List ℕ} {at room k n : ℕ} → 0 < room → at < length s → k ≡ getD s at 0 → k < length rs → n ≡ getD rs k 0 → Measuring rs s at room n (at + 1) 0
+first-child {rs} {s} {at} {room} {k} {n} r h e g f = record { further = omega arith; flat = r; answer = one-node rs s at room k n r h e g f }
 
-  -- before the first child
-  pub first-child : {k n : ℕ} → 0 < room → at < length s → k ≡ getD s at 0 → k < length rs → n ≡ getD rs k 0 → Measuring rs s ends at room ends n (at + 1) 0
-  first-child {k} {n} r h e g f = record {
-    further = omega arith;
-    inside = omega arith;
-    flat = r;
-    long = refl;
-    answer = one-node rs s at room k n r h e g f;
-    noted = λ k h g. absurd (omega arith);
-    kept = λ k h. refl;
-  }
-
-module _ {rs s before ends : List ℕ} {at room left p deep : ℕ} (M : Measuring rs s before at room ends left p deep) where
-  module _ {after : List ℕ} {r : Extent} (some : 0 < left) (E : Extents rs s p (room - 1) ends after r) where
+module _ {rs s : List ℕ} {at room left p deep : ℕ} (M : Measuring rs s at room left p deep) where
+  module _ {r : Extent} (some : 0 < left) (E : r ≡ measured (room - 1) p (trees rs (drop p s))) where
     -- a child is read, or is not there
-    pub next-child : {e l d : ℕ} → r ≡ Tree e l → length after ≡ length ends → d ≡ max deep l → Measuring rs s before at room after (left - 1) e d
-    next-child {e} {l} {d} q long x =
-        let w = child rs s (room - 1) left p deep e l some (sym (E .answer) ∙ q) in
+    pub next-child : {e l d : ℕ} → r ≡ Tree e l → d ≡ max deep l → Measuring rs s at room (left - 1) e d
+    next-child {e} {l} {d} q x =
+        let w = child rs s (room - 1) left p deep e l some (sym E ∙ q) in
         record {
           further = omega (arith, M .further, w .further);
-          inside = w .inside;
           flat = omega (arith, M .flat, w .flat);
-          long = long ∙ M .long;
           answer = M .answer ∙ w .next ∙ ap (λ d. resume (room - 1) (left - 1) e d (trees rs (drop e s))) (sym x);
-          noted = ends-more rs s ends after (at + 1) p e (M .noted) (E .kept) (E .filled e l q);
-          kept = λ k h. E .kept k (omega (arith, M .further)) ∙ M .kept k h;
         }
 
-    pub no-child : r ≡ Bad → Extents rs s at room before after Bad
-    no-child q = record {
-      answer = sym (M .answer ∙ bad-child (room - 1) left p deep (trees rs (drop p s)) some (sym (E .answer) ∙ q));
-      filled = λ e l q. conflict (cc);
-      kept = λ k h. E .kept k (omega (arith, M .further)) ∙ M .kept k (omega arith);
-    }
+    pub no-child : r ≡ Bad → Bad ≡ measured room at (trees rs (drop at s))
+    no-child q = sym (M .answer ∙ bad-child (room - 1) left p deep (trees rs (drop p s)) some (sym E ∙ q))
 
-  -- every child is read, and the end of the node itself is noted
-  pub node-done : left ≡ 0 → at < length ends → Extents rs s at room before (set ends at p) (Tree p (deep + 1))
-  node-done z i =
-      let q = M .answer ∙ no-more (room - 1) p deep (trees rs (drop p s)) left z in
-      let w = child rs s room 1 at 0 p (deep + 1) (omega arith) q in
-      record {
-        answer = sym q;
-        filled = λ e d h. let x : p ≡ e = cc in rw (← x) (ends-node rs s ends at p i (w .ends) (M .noted));
-        kept = λ k h. getD-set-other ends at k p 0 (omega arith) ∙ M .kept k (omega arith);
-      }
+  -- every child is read
+  pub node-done : left ≡ 0 → Tree p (deep + 1) ≡ measured room at (trees rs (drop at s))
+  node-done z = sym (M .answer ∙ no-more (room - 1) p deep (trees rs (drop p s)) left z)
 
 -- ---- one tree that is all of s
 pub whole-size : (ins s : List ℕ) → IsTree ins s → size (tree ins s) ≡ length s
@@ -301,27 +228,26 @@ measured-whole ins s room l m =
     (whole-end (symbolOf ins) 0 s 0 (ap (ended 0) (S .these) ∙ ap At q), omega (arith, ap levels e, S .flat), omega (arith, ap levels e, S .deep))
 
 -- ---- what measuring all of s answers
-not-whole : {ins s after : List ℕ} → (WholeTree ins s → ⊥) → MeasuredAll ins s after Bad
-not-whole f = record { whole = λ e l q. conflict (cc); ends = λ e l q. conflict (cc); bad = λ q W. f W }
+not-whole : {ins s : List ℕ} → (WholeTree ins s → ⊥) → MeasuredAll ins s Bad
+not-whole f = record { whole = λ e l q. conflict (cc); bad = λ q W. f W }
 
-pub too-long : {ins s after : List ℕ} → 4096 < length s → MeasuredAll ins s after Bad
+pub too-long : {ins s : List ℕ} → 4096 < length s → MeasuredAll ins s Bad
 too-long h = not-whole (λ W. omega (arith, W .small))
 
-module _ {ins s before after : List ℕ} {r : Extent} (E : Extents ins s 0 512 before after r) where
+module _ {ins s : List ℕ} {r : Extent} (E : r ≡ measured 512 0 (trees ins s)) where
   whole-answer : WholeTree ins s → r ≡ Tree (length s) (levels (tree ins s))
-  whole-answer W = E .answer ∙ whole-measured ins s 512 (W .one) (W .flat)
+  whole-answer W = E ∙ whole-measured ins s 512 (W .one) (W .flat)
 
-  pub no-tree : r ≡ Bad → MeasuredAll ins s after Bad
+  pub no-tree : r ≡ Bad → MeasuredAll ins s Bad
   no-tree q = not-whole (λ W. let x = sym q ∙ whole-answer W in conflict (cc))
 
-  pub not-all : {e l : ℕ} → r ≡ Tree e l → (e ≡ length s → ⊥) → MeasuredAll ins s after Bad
+  pub not-all : {e l : ℕ} → r ≡ Tree e l → (e ≡ length s → ⊥) → MeasuredAll ins s Bad
   not-all q f = not-whole (λ W. let x = sym q ∙ whole-answer W in f (cc))
 
-  pub all-measured : {e l : ℕ} → r ≡ Tree e l → e ≡ length s → length s ≤ 4096 → MeasuredAll ins s after (Tree e l)
+  pub all-measured : {e l : ℕ} → r ≡ Tree e l → e ≡ length s → length s ≤ 4096 → MeasuredAll ins s (Tree e l)
   all-measured {e} {l} q same short =
-      let w = measured-whole ins s 512 l (sym (E .answer) ∙ q ∙ ap (λ k. Tree k l) same) in
+      let w = measured-whole ins s 512 l (sym E ∙ q ∙ ap (λ k. Tree k l) same) in
       record {
         whole = λ e′ l′ x. let y : e ≡ e′ = cc in let z : l ≡ l′ = cc in (record { one = w .0; small = short; flat = w .1 }, omega (arith, whole-size ins s (w .0)), omega (arith, w .2));
-        ends = λ e′ l′ x. rw (← same) (E .filled e l q);
         bad = λ x. conflict (cc);
       }

@@ -1,5 +1,5 @@
 -- Forest, Codes: trees and their codes. Letters, Pairs, Offsets: what bytes say. Marks, Behind, Counts: the readers of bodies and counts.
--- Stock: the file of the alphabets. Cuts, Lines, Sheets: bodies and their bytes, terms by number, the file of a transducer. Judging, Verdicts, Writing: what entry points answer. Laws: what the promises come to.
+-- Extents, Trees: measuring a tree. Stock: the file of the alphabets. Cuts, Lines, Sheets: bodies and their bytes, terms by number, the file of a transducer. Judging, Verdicts, Writing: what entry points answer. Laws: what the promises come to.
 pub mod Forest
 pub mod Codes
 pub mod Letters
@@ -12,7 +12,6 @@ pub mod Cuts
 pub mod Lines
 pub mod Sheets
 pub mod Extents
-pub mod Runs
 pub mod Trees
 pub mod Stock
 pub mod Deciding

@@ -62,7 +62,7 @@ module _ {ins s : List ℕ} where
   input-unique I I′ = sym (input-whole I .1) ∙ input-whole I′ .1
 
 -- ---- what measuring all of s says
-module _ {ins s after : List ℕ} {r : Extent} (M : MeasuredAll ins s after r) where
+module _ {ins s : List ℕ} {r : Extent} (M : MeasuredAll ins s r) where
   pub measured-tree : {e l : ℕ} → r ≡ extent.Tree e l → (d : Tree) × (InputTree ins s d × (e ≡ size d) × (l ≡ levels d))
   measured-tree {e} {l} q = let w = M .whole e l q in (tree ins s, (whole-input (w .0), w .1, w .2))
 

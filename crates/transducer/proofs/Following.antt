@@ -39,12 +39,12 @@ use Rattle.formats.proofs.Trees.{whole-input, measured-none}
 use Rattle.transducer.specs.Answers.{found, named, FindsSymbol}
 use Rattle.transducer.specs.Inner.Machine.{Machine, FindsBy}
 use Rattle.transducer.specs.Inner.Placed.{placed, Followed}
-use Rattle.transducer.specs.Inner.Written.{hop}
+use Rattle.transducer.specs.Inner.Written.{Input, hop}
 use Rattle.transducer.specs.declared.address.Found.{Found}
 use Rattle.transducer.specs.declared.address.Found.the-variants as finding
 use Rattle.transducer.proofs.Opening.{Opened, opened-sheet}
 use Rattle.transducer.proofs.Outputs.{ranked-vars, same-translate, from-parts}
-use Rattle.transducer.proofs.Translating.{machine-right, output-read, read-whole, read-input}
+use Rattle.transducer.proofs.Translating.{machine-right, output-read, read-whole}
 use Rattle.transducer.proofs.Walks.{node-at, place, in-list}
 
 -- ---- names
@@ -367,7 +367,7 @@ placed-named nothing = refl
 placed-named (some b) = refl
 
 -- ins and outs are the ranks in the stock
-module _ {stock : List ℕ} {n : ℕ} {counts bytes : List ℕ} (X : Machine stock n counts bytes) {ins : List ℕ} (e : ins ≡ inputs stock) {s ends : List ℕ} {r : Extent} (M : MeasuredAll ins s ends r) where
+module _ {stock : List ℕ} {n : ℕ} {counts bytes : List ℕ} (X : Machine stock n counts bytes) {ins : List ℕ} (e : ins ≡ inputs stock) {s : List ℕ} {r : Extent} (M : MeasuredAll ins s r) where
   -- what is no input tree is refused
   pub no-tree : (v : List ℕ) → r ≡ extent.Bad → FindsBy stock n counts bytes s v (finding.Refused BadTree)
   no-tree v q = refuse (measured-none (rw e at M) q) tt
@@ -378,8 +378,8 @@ module _ {stock : List ℕ} {n : ℕ} {counts bytes : List ℕ} (X : Machine sto
     by-starts = from-offsets starts (machine-right X) (rw e at S) long (outputs stock) (encodes-wholes (inputs stock) (outputs stock) n counts bytes (X .machine) (X .encodes))
 
     -- an address can be followed
-    pub can-follow : length ends ≡ 4096 → Followed ins outs n starts bytes s ends
-    can-follow h = rw (e, f) (record { laid = laid starts (machine-right X) (rw e at S) long; wholes = by-starts; one = read-whole X e M q .one; input = read-input X e M q h })
+    pub can-follow : {ends : List ℕ} → Input ins s ends → Followed ins outs n starts bytes s ends
+    can-follow I = rw (e, f) (record { laid = laid starts (machine-right X) (rw e at S) long; wholes = by-starts; one = read-whole X e M q .one; input = rw e at I })
 
     -- and what is found is what the file's parts promise
     pub symbol-found : (v : List ℕ) {x : Found} → x ≡ placed (sought ins outs n starts bytes s v) → FindsBy stock n counts bytes s v x

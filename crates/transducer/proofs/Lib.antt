@@ -1,11 +1,12 @@
 -- Opening: an accepted file with its parts. Uses, Calls: the linear test. Walks, Meaning: what is written, byte by byte, is the code of the output.
--- Noting: the sizes of what states write, and where it stands.
+-- Subtrees: the table of where each subtree ends. Noting: the sizes of what states write, and where it stands.
 -- Outputs: the output is one tree. Translating, Following: what translation and the reader of one symbol ask and answer.
 -- Laws: what the promises come to; read it first. Samples: the samples of document 01 that are proved.
 pub mod Opening
 pub mod Uses
 pub mod Calls
 pub mod Walks
+pub mod Subtrees
 pub mod Noting
 pub mod Meaning
 pub mod Outputs

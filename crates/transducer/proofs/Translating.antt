@@ -91,7 +91,7 @@ module _ {stock : List ℕ} {n : ℕ} {counts bytes : List ℕ} (X : Machine sto
   pub output-read : (s : List ℕ) → WholeTree (inputs stock) s → OutputBy stock n counts bytes s (translate (transducer (inputs stock) (outputs stock) n (offset counts) bytes) (tree (inputs stock) s))
   output-read s T = record { machine = transducer (inputs stock) (outputs stock) n (offset counts) bytes; input = tree (inputs stock) s; encodes = wholes-encodes (inputs stock) (outputs stock) n counts bytes machine-right machine-wholes; is-tree = whole-input T; given = refl }
 
-  module _ {ins : List ℕ} (e : ins ≡ inputs stock) {s ends : List ℕ} {r : Extent} (M : MeasuredAll ins s ends r) where
+  module _ {ins : List ℕ} (e : ins ≡ inputs stock) {s : List ℕ} {r : Extent} (M : MeasuredAll ins s r) where
     pub not-tree : {before : List ℕ} → r ≡ extent.Bad → TranslatesBy stock n counts bytes s before before (Refused BadTree)
     not-tree q = refuse (measured-none (rw e at M) q) refl
 
@@ -99,13 +99,9 @@ module _ {stock : List ℕ} {n : ℕ} {counts bytes : List ℕ} (X : Machine sto
       pub read-whole : WholeTree (inputs stock) s
       read-whole = rw e at (M .whole d l q .0)
 
-      pub read-input : length ends ≡ 4096 → Input (inputs stock) s ends
-      unfolding trees
-      read-input h = record { whole = read-whole .one .all; long = omega (arith, read-whole .small); right = rw e at (M .ends d l q) }
-
       module _ (starts : List ℕ) (S : Starts counts starts (bodyCount ins n)) (long : length starts ≡ 2050) (to : ℕ) (f : to ≡ getD starts 1 0) where
-        pub can-walk : length ends ≡ 4096 → Walkable ins starts bytes s ends 0 to 0 l
-        can-walk h = rw e (walkable starts machine-right machine-wholes (rw e at S) long s ends to l f (read-whole .one) (omega (arith, rw e at (M .whole d l q .2))) (read-input h) h)
+        pub can-walk : {ends : List ℕ} → Input ins s ends → length ends ≡ 4096 → Walkable ins starts bytes s ends 0 to 0 l
+        can-walk {ends} I h = rw e (walkable starts machine-right machine-wholes (rw e at S) long s ends to l f (read-whole .one) (omega (arith, rw e at (M .whole d l q .2))) (rw e at I) h)
 
         given-code : walked ins starts bytes s 0 0 to ≡ code (translate (transducer (inputs stock) (outputs stock) n (offset counts) bytes) (tree (inputs stock) s))
         given-code = ap (λ i. walked i starts bytes s 0 0 to) e ∙ gives starts machine-right machine-wholes (rw e at S) long s to f (read-whole .one)

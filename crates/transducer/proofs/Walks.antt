@@ -11,10 +11,11 @@ use lib.ListN.{length, getD, drop, length-drop}
 use lib.Seq.{drop-cons, slice-empty}
 use borrow.Author.Tests.{ltb-true, leb-true}
 use Rattle.theory.specs.Term.{node, Terms, none, more, count, Tree}
-use Rattle.theory.specs.Size.{size, levels, deepest}
+use Rattle.theory.specs.Size.{size, sizes, levels, deepest}
 use Rattle.formats.specs.Code.{Mark}
 use Rattle.formats.specs.Inner.Decode.{letters, lettersAll, firsts, rests, grown, put, forest, first}
 use Rattle.formats.specs.Inner.Layout.{symbolOf, symbolIf, trees, tree, pairs, markAt, bodyNumber}
+use Rattle.formats.specs.Inner.Measured.{Ends}
 use Rattle.transducer.specs.Inner.Written.{spell, written, called, bodyAt, applied, walked, Callable, Table, Input, hop, Ready, Walkable}
 use Rattle.formats.proofs.Forest.{first-tree, letters-pos, count-rests, all-drop}
 use Rattle.formats.proofs.Extents.{letters-size}
@@ -57,21 +58,30 @@ some-tree (more t ts) h = (t, ts, refl)
 -- the k-th tree from position p on
 pub record Place (ins s ends : List ℕ) (k p : ℕ) : Type 0 where
   pub after : p ≤ hop ends k p
+  pub far : hop ends k p ≡ p + sizes (firsts k (trees ins (drop p s)))
   pub trees-there : trees ins (drop (hop ends k p) s) ≡ rests k (trees ins (drop p s))
 
-pub place : (ins s ends : List ℕ) → Input ins s ends → (k p : ℕ) → k ≤ count (trees ins (drop p s)) → Place ins s ends k p
-unfolding hop rests count trees tree first
-place ins s ends I ℕ.zero p h = record { after = omega arith; trees-there = refl }
-place ins s ends I (suc k) p h =
+-- where the ends from position a on are right
+pub place-from : (ins s ends : List ℕ) (a : ℕ) → Ends ins s ends a (length s) → (k p : ℕ) → a ≤ p → k ≤ count (trees ins (drop p s)) → Place ins s ends k p
+unfolding hop firsts rests count trees tree first size
+place-from ins s ends a E ℕ.zero p g h = record { after = omega arith; far = omega arith; trees-there = refl }
+place-from ins s ends a E (suc k) p g h =
     let (t, ts, e) = some-tree (trees ins (drop p s)) (omega arith) in
     let w = first-tree (symbolOf ins) 0 s p e in
     let z = letters-size t in
     let pos = letters-pos t in
-    let r : getD ends p 0 ≡ p + letters t = I .right p (omega arith) (omega arith) ∙ ap (λ F. p + size (first F)) e ∙ omega arith in
+    let r : getD ends p 0 ≡ p + letters t = E p g (omega arith) ∙ ap (λ F. p + size (first F)) e ∙ omega arith in
     let b : ts ≡ trees ins (drop (getD ends p 0) s) = w .0 ∙ ap (λ k. trees ins (drop k s)) (sym r) in
     let c : count (trees ins (drop p s)) ≡ suc (count ts) = ap count e in
-    let i = place ins s ends I k (getD ends p 0) (omega (arith, ap count b)) in
-    record { after = omega (arith, i .after); trees-there = i .trees-there ∙ ap (rests k) (sym b) ∙ ap (rests (suc k)) (sym e) }
+    let i = place-from ins s ends a E k (getD ends p 0) (omega arith) (omega (arith, ap count b)) in
+    record {
+      after = omega (arith, i .after);
+      far = omega (arith, i .far, ap (λ F. sizes (firsts k F)) b, ap (λ F. sizes (firsts (suc k) F)) e);
+      trees-there = i .trees-there ∙ ap (rests k) (sym b) ∙ ap (rests (suc k)) (sym e);
+    }
+
+pub place : (ins s ends : List ℕ) → Input ins s ends → (k p : ℕ) → k ≤ count (trees ins (drop p s)) → Place ins s ends k p
+place ins s ends I k p h = place-from ins s ends 0 (I .right) k p (omega arith) h
 
 pub in-list : (ins s : List ℕ) (p : ℕ) → 0 < count (trees ins (drop p s)) → p < length s
 unfolding trees

@@ -10,7 +10,8 @@ ghost use Rattle.formats.specs.Inner.Marked.{part};
 ghost use Rattle.transducer.specs.Answers.{FindsSymbol};
 ghost use Rattle.transducer.specs.Inner.Machine.{Machine, FindsBy};
 ghost use Rattle.transducer.specs.Inner.Placed.{placed, Followed};
-use crate::translate::skip;
+use crate::children::fill_ends;
+use crate::children::skip;
 use formats::alphabet::input_ranks;
 use formats::alphabet::output_ranks;
 use formats::bodies::End;
@@ -117,8 +118,9 @@ fn symbol_by(stock: &[u8], n: usize, counts: &[u8], marks: &[u8], s: &[u8], addr
     let mut ends = [0u16; 4096];
     let mut starts = [0u16; 2050];
     fill_starts(counts, 1 + n * ins.len(), &mut starts);
-    match measure_all(ins, s, &mut ends) {
+    match measure_all(ins, s) {
         Extent::Tree(_, _) => {
+            fill_ends(ins, s, &mut ends);
             follow(
                 ins,
                 output_ranks(stock),

@@ -1,12 +1,14 @@
 // Translation (01: sewing): what the transducer of a file gives on an input tree.
 ghost use mathlib.Core.Path.{_≡_};
-ghost use Prim.Native.Nat.{ℕ, _+_, _^_, _≤_, _<_, min};
+ghost use Prim.Native.Nat.{_+_, _^_, _≤_, _<_, min};
 ghost use lib.ListN.{length, getD, take, drop};
 ghost use lib.Seq.{sets};
 ghost use Rattle.formats.specs.Inner.Layout.{bodyNumber};
 ghost use Rattle.transducer.specs.Answers.{Translates};
 ghost use Rattle.transducer.specs.Inner.Machine.{Machine, TranslatesBy};
-ghost use Rattle.transducer.specs.Inner.Written.{applied, walked, Ready, Walkable, hop, noteKey, Noted, Standing, Wrote, Emitted};
+ghost use Rattle.transducer.specs.Inner.Written.{applied, walked, Ready, Walkable, noteKey, Noted, Standing, Wrote, Emitted};
+use crate::children::fill_ends;
+use crate::children::skip;
 use formats::alphabet::input_ranks;
 use formats::bodies::fill_starts;
 use formats::bytes::number;
@@ -22,20 +24,6 @@ use formats::tree::measure_all;
 pub enum Translation {
     Symbols(usize),
     Refused(Refusal),
-}
-
-// The tree that stands n trees behind the one at `from`.
-pub(crate) fn skip(ends: &[u16], from: usize, n: usize) -> usize
-    requires { ⌜ ((k : ℕ) → k < n → hop (now ends) k from < length (now ends)) ⌝ }
-    ensures { λ r. ⌜ r ≡ hop (now (ends .entry)) n from ⌝ }
-{
-    let mut p = from;
-    let mut left = n;
-    while left > 0 {
-        p = number(ends[p]);
-        left -= 1;
-    }
-    p
 }
 
 // The number of the right-hand side of the state `q` and of the symbol at `p` of `s`.
@@ -364,8 +352,9 @@ fn translate_by(
     let mut ends = [0u16; 4096];
     let mut starts = [0u16; 2050];
     fill_starts(counts, 1 + n * ins.len(), &mut starts);
-    match measure_all(ins, s, &mut ends) {
+    match measure_all(ins, s) {
         Extent::Tree(_, levels) => {
+            fill_ends(ins, s, &mut ends);
             let to = number(starts[1]);
             let size = emit(ins, &starts, marks, s, &ends, to, levels, out);
             if size > out.len() {

@@ -19,9 +19,6 @@ returns c =
 input-ranks-requires : tie.Need-input-ranks-requires
 input-ranks-requires c κs = held (c .before .alphabets-right .ensures) (c .if1 .left)
 
-slice-aggregate-measure-all : tie.Need-slice-aggregate-measure-all
-slice-aggregate-measure-all c = search needs
-
 measure-all-requires : tie.Need-measure-all-requires
 measure-all-requires c κs = search needs
 
@@ -33,20 +30,18 @@ enum-told c = search needs
 
 returns-2 : tie.Need-returns-2
 returns-2 c =
-    let s = now (c .before .before .before .before .before .before .before .before .before .before .before .args .design) in
-    let a = c .before .before .before .before .before .before .before .before .alphabets-right in
-    let m = c .before .before .before .before .measure-all in
-    let M = subst (λ ins. MeasuredAll ins s (m .last .1 .1 .0) (m .result)) (c .before .before .before .before .before .before .input-ranks .ensures) (m .ensures) in
+    let s = now (c .before .before .before .before .before .before .before .before .before .args .design) in
+    let m = c .before .before .before .measure-all in
+    let M = subst (λ ins. MeasuredAll ins s (m .result)) (c .before .before .before .before .input-ranks .ensures) (m .ensures) in
     let w = measured-tree M (c .before .e .given .1) in
-    pass (held (a .ensures) (c .before .before .before .before .before .before .before .if1 .left)) (pass (w .0, w .1 .0) (accept w))
+    pass (held (c .before .before .before .before .before .before .alphabets-right .ensures) (c .before .before .before .before .before .if1 .left)) (pass (w .0, w .1 .0) (accept w))
 
 returns-3 : tie.Need-returns-3
 returns-3 c =
-    let s = now (c .before .before .before .before .before .before .before .before .before .before .args .design) in
-    let a = c .before .before .before .before .before .before .before .alphabets-right in
-    let m = c .before .before .before .measure-all in
-    let M = subst (λ ins. MeasuredAll ins s (m .last .1 .1 .0) (m .result)) (c .before .before .before .before .before .input-ranks .ensures) (m .ensures) in
-    pass (held (a .ensures) (c .before .before .before .before .before .before .if1 .left)) (refuse (measured-none M (c .enum-told .given .1)) tt)
+    let s = now (c .before .before .before .before .before .before .before .before .args .design) in
+    let m = c .before .before .measure-all in
+    let M = subst (λ ins. MeasuredAll ins s (m .result)) (c .before .before .before .input-ranks .ensures) (m .ensures) in
+    pass (held (c .before .before .before .before .before .alphabets-right .ensures) (c .before .before .before .before .if1 .left)) (refuse (measured-none M (c .enum-told .given .1)) tt)
 
 pub read-tree-spec : {M : Type 1} → statement M
 read-tree-spec =
@@ -55,7 +50,6 @@ read-tree-spec =
     alphabets-right-requires
     returns
     input-ranks-requires
-    slice-aggregate-measure-all
     measure-all-requires
     enum-known-e
     enum-told

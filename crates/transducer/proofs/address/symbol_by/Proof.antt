@@ -25,14 +25,17 @@ slice-aggregate-fill-starts c = search needs
 fill-starts-requires : tie.Need-fill-starts-requires
 fill-starts-requires c κs = starts-fit (c .before .before .before .before .before .before .before .pre) (c .before .input-ranks .ensures)
 
-slice-aggregate-measure-all : tie.Need-slice-aggregate-measure-all
-slice-aggregate-measure-all c = search needs
-
 measure-all-requires : tie.Need-measure-all-requires
 measure-all-requires c κs = search needs
 
 enum-told : tie.Need-enum-told
 enum-told c = search needs
+
+slice-aggregate-fill-ends : tie.Need-slice-aggregate-fill-ends
+slice-aggregate-fill-ends c = search needs
+
+fill-ends-requires : tie.Need-fill-ends-requires
+fill-ends-requires c κs = (c .before .before .before .measure-all .ensures .whole _ _ (c .before .enum-told .given .1) .0, omega (arith, length-replicate {A = ℕ} 4096 0))
 
 output-ranks-requires : tie.Need-output-ranks-requires
 output-ranks-requires c κs = search needs
@@ -45,20 +48,19 @@ slice-aggregate-follow-2 c = search needs
 
 follow-requires : tie.Need-follow-requires
 follow-requires c κs =
-    let F = c .before .before .before .before .before .before .before .before .before .fill-starts in
-    let m = c .before .before .before .before .before .before .measure-all in
-    can-follow (c .before .before .before .before .before .before .before .before .before .before .before .before .before .before .before .before .before .pre) (c .before .before .before .before .before .before .before .before .before .before .before .input-ranks .ensures) (m .ensures) (c .before .before .before .enum-told .given .1) (c .before .before .output-ranks .ensures) (F .last .1 .1 .0) (F .ensures) (F .kept .1 .1 .0 ∙ length-replicate {A = ℕ} 2050 0) (m .kept .1 .1 .0 ∙ length-replicate {A = ℕ} 4096 0)
+    let F = c .before .before .before .before .before .before .before .before .before .before .fill-starts in
+    can-follow (c .before .before .before .before .before .before .before .before .before .before .before .before .before .before .before .before .before .before .pre) (c .before .before .before .before .before .before .before .before .before .before .before .before .input-ranks .ensures) (c .before .before .before .before .before .before .before .before .measure-all .ensures) (c .before .before .before .before .before .before .enum-told .given .1) (c .before .before .output-ranks .ensures) (F .last .1 .1 .0) (F .ensures) (F .kept .1 .1 .0 ∙ length-replicate {A = ℕ} 2050 0) (c .before .before .before .before .fill-ends .ensures)
 
 enum-told-2 : tie.Need-enum-told-2
 enum-told-2 c = search needs
 
 returns : tie.Need-returns
 returns c =
-    let F = c .before .before .before .before .before .before .before .before .before .before .fill-starts in
-    symbol-found (c .before .before .before .before .before .before .before .before .before .before .before .before .before .before .before .before .before .before .pre) (c .before .before .before .before .before .before .before .before .before .before .before .before .input-ranks .ensures) (c .before .before .before .before .before .before .before .measure-all .ensures) (c .before .before .before .before .enum-told .given .1) (c .before .before .before .output-ranks .ensures) (F .last .1 .1 .0) (F .ensures) (F .kept .1 .1 .0 ∙ length-replicate {A = ℕ} 2050 0) (now (c .before .before .before .before .before .before .before .before .before .before .before .before .before .before .before .before .before .before .args .address)) (c .follow .ensures)
+    let F = c .before .before .before .before .before .before .before .before .before .before .before .fill-starts in
+    symbol-found (c .before .before .before .before .before .before .before .before .before .before .before .before .before .before .before .before .before .before .before .pre) (c .before .before .before .before .before .before .before .before .before .before .before .before .before .input-ranks .ensures) (c .before .before .before .before .before .before .before .before .before .measure-all .ensures) (c .before .before .before .before .before .before .before .enum-told .given .1) (c .before .before .before .output-ranks .ensures) (F .last .1 .1 .0) (F .ensures) (F .kept .1 .1 .0 ∙ length-replicate {A = ℕ} 2050 0) (now (c .before .before .before .before .before .before .before .before .before .before .before .before .before .before .before .before .before .before .before .args .address)) (c .follow .ensures)
 
 returns-2 : tie.Need-returns-2
-returns-2 c = no-tree (c .before .before .before .before .before .before .before .before .before .before .before .before .before .before .pre) (c .before .before .before .before .before .before .before .before .input-ranks .ensures) (c .before .before .before .measure-all .ensures) (now (c .before .before .before .before .before .before .before .before .before .before .before .before .before .before .args .address)) (c .enum-told2 .given .1)
+returns-2 c = no-tree (c .before .before .before .before .before .before .before .before .before .before .before .before .pre) (c .before .before .before .before .before .before .input-ranks .ensures) (c .before .before .measure-all .ensures) (now (c .before .before .before .before .before .before .before .before .before .before .before .before .args .address)) (c .enum-told2 .given .1)
 
 pub symbol-by-spec : {M : Type 1} → statement M
 symbol-by-spec =
@@ -69,9 +71,10 @@ symbol-by-spec =
     add-fill-starts
     slice-aggregate-fill-starts
     fill-starts-requires
-    slice-aggregate-measure-all
     measure-all-requires
     enum-told
+    slice-aggregate-fill-ends
+    fill-ends-requires
     output-ranks-requires
     slice-aggregate-follow
     slice-aggregate-follow-2

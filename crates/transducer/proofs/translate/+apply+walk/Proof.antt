@@ -24,7 +24,7 @@ use Rattle.formats.proofs.bytes.wide.Reads as wide-reads
 use Rattle.transducer.proofs.translate.body_at.Reads as body-at-reads
 use Rattle.transducer.proofs.translate.copy_within.Reads as copy-within-reads
 use Rattle.transducer.proofs.translate.note_key.Reads as note-key-reads
-use Rattle.transducer.proofs.translate.skip.Reads as skip-reads
+use Rattle.transducer.proofs.children.skip.Reads as skip-reads
 use Rattle.transducer.proofs.translate.slot.Reads as slot-reads
 use Rattle.transducer.proofs.translate.+apply+walk.{statement}
 use Rattle.transducer.proofs.translate.+apply+walk.Tie.{close}

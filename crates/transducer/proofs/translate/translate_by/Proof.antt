@@ -3,8 +3,8 @@ use Prim.Native.Nat.{ℕ}
 use native.Mathlib.Omega.{arith}
 use mathlib.Core.Path.{_∙_}
 use lib.ListN.{length-replicate}
-use borrow.Author.Needs.{needs}
 use Rattle.transducer.proofs.Translating.{starts-fit, not-tree, can-walk, too-long, all-written}
+use borrow.Author.Needs.{needs}
 use Rattle.transducer.proofs.translate.translate_by.Statement.{statement}
 use Rattle.transducer.proofs.translate.translate_by.Tie as tie
 
@@ -23,14 +23,17 @@ slice-aggregate-fill-starts c = search needs
 fill-starts-requires : tie.Need-fill-starts-requires
 fill-starts-requires c κs = starts-fit (c .before .before .before .before .before .before .before .pre) (c .before .input-ranks .ensures)
 
-slice-aggregate-measure-all : tie.Need-slice-aggregate-measure-all
-slice-aggregate-measure-all c = search needs
-
 measure-all-requires : tie.Need-measure-all-requires
 measure-all-requires c κs = search needs
 
-enum-told : tie.Need-enum-told
-enum-told c = search needs
+enum-known-levels : tie.Need-enum-known-levels
+enum-known-levels c = search needs
+
+slice-aggregate-fill-ends : tie.Need-slice-aggregate-fill-ends
+slice-aggregate-fill-ends c = search needs
+
+fill-ends-requires : tie.Need-fill-ends-requires
+fill-ends-requires c κs = (c .before .before .before .before .measure-all .ensures .whole _ _ (c .before .before .levels .given .1) .0, omega (arith, length-replicate {A = ℕ} 4096 0))
 
 array-read-number : tie.Need-array-read-number
 array-read-number c = search needs
@@ -40,33 +43,31 @@ number-requires c κs = search needs
 
 emit-requires : tie.Need-emit-requires
 emit-requires c κs =
-    let F = c .before .before .before .before .before .before .before .before .before .before .fill-starts in
-    let m = c .before .before .before .before .before .before .before .measure-all in
-    can-walk (c .before .before .before .before .before .before .before .before .before .before .before .before .before .before .before .before .before .before .pre) (c .before .before .before .before .before .before .before .before .before .before .before .before .input-ranks .ensures) (m .ensures) (c .before .before .before .before .enum-told .given .1) (F .last .1 .1 .0) (F .ensures) (F .kept .1 .1 .0 ∙ length-replicate {A = ℕ} 2050 0) (c .before .before .before .number .result) (c .before .before .before .number .ensures) (m .kept .1 .1 .0 ∙ length-replicate {A = ℕ} 4096 0)
+    let F = c .before .before .before .before .before .before .before .before .before .before .before .before .fill-starts in
+    let E = c .before .before .before .before .before .fill-ends in
+    can-walk (c .before .before .before .before .before .before .before .before .before .before .before .before .before .before .before .before .before .before .before .before .pre) (c .before .before .before .before .before .before .before .before .before .before .before .before .before .before .input-ranks .ensures) (c .before .before .before .before .before .before .before .before .before .before .measure-all .ensures) (c .before .before .before .before .before .before .before .before .levels .given .1) (F .last .1 .1 .0) (F .ensures) (F .kept .1 .1 .0 ∙ length-replicate {A = ℕ} 2050 0) (c .before .before .before .number .result) (c .before .before .before .number .ensures) (E .ensures) (E .kept .1 .1 .0 ∙ length-replicate {A = ℕ} 4096 0)
 
 same-length : tie.Need-same-length
 same-length c = search needs
 
 returns : tie.Need-returns
 returns c =
-    let F = c .before .before .before .before .before .before .before .before .before .before .before .before .before .before .fill-starts in
-    let m = c .before .before .before .before .before .before .before .before .before .before .before .measure-all in
-    too-long (c .before .before .before .before .before .before .before .before .before .before .before .before .before .before .before .before .before .before .before .before .before .before .pre) (c .before .before .before .before .before .before .before .before .before .before .before .before .before .before .before .before .input-ranks .ensures) (m .ensures) (c .before .before .before .before .before .before .before .before .enum-told .given .1) (F .last .1 .1 .0) (F .ensures) (F .kept .1 .1 .0 ∙ length-replicate {A = ℕ} 2050 0) (c .before .before .before .before .before .before .before .number .result) (c .before .before .before .before .before .before .before .number .ensures) (c .before .before .before .emit .ensures) (omega (arith, c .if1 .taken))
+    let F = c .before .before .before .before .before .before .before .before .before .before .before .before .before .before .before .before .fill-starts in
+    too-long (c .before .before .before .before .before .before .before .before .before .before .before .before .before .before .before .before .before .before .before .before .before .before .before .before .pre) (c .before .before .before .before .before .before .before .before .before .before .before .before .before .before .before .before .before .before .input-ranks .ensures) (c .before .before .before .before .before .before .before .before .before .before .before .before .before .before .measure-all .ensures) (c .before .before .before .before .before .before .before .before .before .before .before .before .levels .given .1) (F .last .1 .1 .0) (F .ensures) (F .kept .1 .1 .0 ∙ length-replicate {A = ℕ} 2050 0) (c .before .before .before .before .before .before .before .number .result) (c .before .before .before .before .before .before .before .number .ensures) (c .before .before .before .emit .ensures) (omega (arith, c .if1 .taken))
 
-enum-told-2 : tie.Need-enum-told-2
-enum-told-2 c = search needs
+enum-told : tie.Need-enum-told
+enum-told c = search needs
 
 same-length-2 : tie.Need-same-length-2
 same-length-2 c = search needs
 
 returns-2 : tie.Need-returns-2
 returns-2 c =
-    let F = c .before .before .before .before .before .before .before .before .before .before .before .before .before .before .fill-starts in
-    let m = c .before .before .before .before .before .before .before .before .before .before .before .measure-all in
-    all-written (c .before .before .before .before .before .before .before .before .before .before .before .before .before .before .before .before .before .before .before .before .before .before .pre) (c .before .before .before .before .before .before .before .before .before .before .before .before .before .before .before .before .input-ranks .ensures) (m .ensures) (c .before .before .before .before .before .before .before .before .enum-told .given .1) (F .last .1 .1 .0) (F .ensures) (F .kept .1 .1 .0 ∙ length-replicate {A = ℕ} 2050 0) (c .before .before .before .before .before .before .before .number .result) (c .before .before .before .before .before .before .before .number .ensures) (c .before .before .before .emit .ensures) (omega (arith, c .if1 .left))
+    let F = c .before .before .before .before .before .before .before .before .before .before .before .before .before .before .before .before .fill-starts in
+    all-written (c .before .before .before .before .before .before .before .before .before .before .before .before .before .before .before .before .before .before .before .before .before .before .before .before .pre) (c .before .before .before .before .before .before .before .before .before .before .before .before .before .before .before .before .before .before .input-ranks .ensures) (c .before .before .before .before .before .before .before .before .before .before .before .before .before .before .measure-all .ensures) (c .before .before .before .before .before .before .before .before .before .before .before .before .levels .given .1) (F .last .1 .1 .0) (F .ensures) (F .kept .1 .1 .0 ∙ length-replicate {A = ℕ} 2050 0) (c .before .before .before .before .before .before .before .number .result) (c .before .before .before .before .before .before .before .number .ensures) (c .before .before .before .emit .ensures) (omega (arith, c .if1 .left))
 
 returns-3 : tie.Need-returns-3
-returns-3 c = not-tree (c .before .before .before .before .before .before .before .before .before .before .before .before .before .before .pre) (c .before .before .before .before .before .before .before .before .input-ranks .ensures) (c .before .before .before .measure-all .ensures) (c .enum-told2 .given .1)
+returns-3 c = not-tree (c .before .before .before .before .before .before .before .before .before .before .before .before .pre) (c .before .before .before .before .before .before .input-ranks .ensures) (c .before .before .measure-all .ensures) (c .enum-told .given .1)
 
 pub translate-by-spec : {M : Type 1} → statement M
 translate-by-spec =
@@ -77,15 +78,16 @@ translate-by-spec =
     add-fill-starts
     slice-aggregate-fill-starts
     fill-starts-requires
-    slice-aggregate-measure-all
     measure-all-requires
-    enum-told
+    enum-known-levels
+    slice-aggregate-fill-ends
+    fill-ends-requires
     array-read-number
     number-requires
     emit-requires
     same-length
     returns
-    enum-told-2
+    enum-told
     same-length-2
     returns-2
     returns-3)

@@ -7,8 +7,8 @@ use lib.ListN.{length}
 use denote.Ref.{now}
 use Rattle.transducer.specs.Inner.Written.{hop}
 use Rattle.transducer.proofs.Walks.{hop-next, hop-more}
-use Rattle.transducer.proofs.translate.skip.Statement.{statement}
-use Rattle.transducer.proofs.translate.skip.Tie as tie
+use Rattle.transducer.proofs.children.skip.Statement.{statement}
+use Rattle.transducer.proofs.children.skip.Tie as tie
 
 abbrev Inv-loop : tie.InvT-loop
 Inv-loop ends from n p₀ left₀ p left = (left ≤ n) × (hop ends n from ≡ hop ends left p) × ((k : ℕ) → k < left → hop ends k p < length ends)
