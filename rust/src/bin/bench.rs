@@ -172,6 +172,7 @@ fn translating(cases: &[Case]) {
             &mut || case.independent(&mut area.borrow_mut()),
         );
     }
+    erasing();
     for case in cases {
         let Case { name, stock, file, tree } = case;
         let address = last_address(case);
@@ -182,6 +183,33 @@ fn translating(cases: &[Case]) {
             &mut || discard(black_box(independent::symbol_at(stock, file, tree, black_box(&address)))),
         );
     }
+}
+
+/// Twenty levels that double the output over 490 that write nothing, against the same output without those;
+/// and that against a plain copy of as many bytes. The independent version would take seconds for the first.
+fn erasing() {
+    // q(a(x)) = f(q(x), q(x)), q(b(x)) = q(x), q(e) = e
+    let doubling = |erased: usize| Case {
+        name: "20 doubling levels",
+        stock: vec![3, 1, 1, 0, 2, 2, 0],
+        file: file(1, &[&[1, 0], &[0, 0, 1, 0, 1, 0], &[1, 0], &[0, 1]]),
+        tree: [vec![0; 20], vec![1; erased], vec![2]].concat(),
+    };
+    let (long, short) = (doubling(490), doubling(0));
+    let plan = output(&short);
+    let area = RefCell::new(vec![1; plan.len()]);
+    line(
+        "translate, 20 doubling over 490 erasing / without them",
+        plan.len(),
+        &mut || long.proved(&mut area.borrow_mut()),
+        &mut || short.proved(&mut area.borrow_mut()),
+    );
+    line(
+        "translate, 20 doubling levels / plain copy",
+        plan.len(),
+        &mut || short.proved(&mut area.borrow_mut()),
+        &mut || area.borrow_mut().copy_from_slice(black_box(&plan)),
+    );
 }
 
 /// One transducer to minimize.
