@@ -143,8 +143,8 @@ module _ {M : Type 1} (𝓤 : URA M) (H : Heap 𝓤) (A : Atoms 𝓤) (W : Given
         assigns ! (of-opd ! (load ! (from ! (fld ! refl (stop !))) (look-in ! 12 (sub ! 1 refl (whole !))))) (from ! (stop !)) (init ! 8 refl (tt, record { fits = gn .0 })) $
         assigns ! (bin ! (load ! (from ! (stop !)) (look ! 10 refl)) (load ! (from ! (stop !)) (look ! 8 refl)) tt) (from ! (stop !)) (init ! 6 refl (tt, tt)) $
         elim (decLt i (length ys)) [
-          yes small ↦ rewrite ! 6 (λ (y : Bool). ‵ (fat fullShare tyBool l₄ 0 (vbool y))) (lt-ltb i (length ys) small) refl $ inside small
-        | no over ↦ rewrite ! 6 (λ (y : Bool). ‵ (fat fullShare tyBool l₄ 0 (vbool y))) (le-ltb i (length ys) (omega arith)) refl $ outside (omega arith)
+          | yes small ↦ rewrite ! 6 (λ (y : Bool). ‵ (fat fullShare tyBool l₄ 0 (vbool y))) (lt-ltb i (length ys) small) refl $ inside small
+          | no over ↦ rewrite ! 6 (λ (y : Bool). ‵ (fat fullShare tyBool l₄ 0 (vbool y))) (le-ltb i (length ys) (omega arith)) refl $ outside (omega arith)
         ]
 
   walk : (C : Calls 𝓤 H) (Λ : Loops 𝓤 H) → ent 𝓤 (onEntry 𝓤 H A this.signature (κ, tt) (q, tt) x at) (WpFn 𝓤 H C Λ code.function (s ∷ vint w64 i ∷ []) Post)
