@@ -11,9 +11,10 @@
 //!
 //! # Safety
 //!
-//! Every pointer with a length is to so many bytes, or numbers for `records`, initialised, none of
+//! Every pointer with a length is to so many bytes, or records for `records`, initialised, none of
 //! them null even where the length is 0; an area is lent to nobody else; the other pointers are to
-//! one number each, distinct and outside of the areas.
+//! one number each, or one head, distinct and outside of the areas.
+use crate::{Head, Record};
 
 extern "C" {
     /// Reads two alphabets: the numbers of input and of output symbols. Refuses by 2.
@@ -164,13 +165,11 @@ extern "C" {
         size: *mut usize,
     ) -> usize;
 
-    /// Makes a registry of alphabets, whatever stood in the head, the records and the area before. A
-    /// record is two numbers, start and size. Refuses by 9, 2 and 8.
+    /// Makes a registry of alphabets, whatever stood in the head, the records and the area before.
+    /// Refuses by 9, 2 and 8.
     pub fn caplune_make_registry(
-        held: *mut usize,
-        used: *mut usize,
-        answered: *mut u64,
-        records: *mut usize,
+        head: *mut Head,
+        records: *mut Record,
         records_length: usize,
         area: *mut u8,
         area_length: usize,
@@ -180,10 +179,8 @@ extern "C" {
 
     /// Enters a transducer into a registry: the number of its normal form. Refuses by 9, 4, 5, 7 and 8.
     pub fn caplune_enter(
-        held: *mut usize,
-        used: *mut usize,
-        answered: *mut u64,
-        records: *mut usize,
+        head: *mut Head,
+        records: *mut Record,
         records_length: usize,
         area: *mut u8,
         area_length: usize,
@@ -195,10 +192,8 @@ extern "C" {
     /// Finds the normal form of this number. Returns its length, with its start in the area; or 0 and 0
     /// for the number 0, for one that is not held, and where the call is refused.
     pub fn caplune_body(
-        held: usize,
-        used: usize,
-        answered: u64,
-        records: *const usize,
+        head: *const Head,
+        records: *const Record,
         records_length: usize,
         area: *const u8,
         area_length: usize,

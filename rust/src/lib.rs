@@ -456,15 +456,12 @@ pub fn shorter<'a>(stock: &[u8], first: &'a [u8], second: &'a [u8]) -> Option<&'
 /// area behind the stock, stay. Refuses by 9 fewer records, by 2 what is not a stock, and by 8 an area
 /// that is shorter than the stock; head, records and area then are as they were.
 pub fn make_registry(head: &mut Head, records: &mut [Record], area: &mut [u8], stock: &[u8]) -> Result<(), Refusal> {
-    // SAFETY: each pointer and length are those of a slice, and the others are to the fields of the
-    // head. A record is two numbers, so that the records are twice as many numbers.
+    // SAFETY: each pointer and length are those of a slice, and the first is to the head.
     let number = unsafe {
         ffi::caplune_make_registry(
-            &mut head.held,
-            &mut head.used,
-            &mut head.answered,
-            records.as_mut_ptr().cast(),
-            2 * records.len(),
+            head,
+            records.as_mut_ptr(),
+            records.len(),
             area.as_mut_ptr(),
             area.len(),
             stock.as_ptr(),
@@ -484,15 +481,12 @@ pub fn make_registry(head: &mut Head, records: &mut [Record], area: &mut [u8], s
 /// head, records and area then are as they were.
 pub fn enter(head: &mut Head, records: &mut [Record], area: &mut [u8], file: &[u8]) -> Result<usize, Refusal> {
     let mut entered = 0;
-    // SAFETY: each pointer and length are those of a slice, and the others are to the fields of the
-    // head and to a local. A record is two numbers, so that the records are twice as many numbers.
+    // SAFETY: each pointer and length are those of a slice, and the others are to the head and a local.
     let number = unsafe {
         ffi::caplune_enter(
-            &mut head.held,
-            &mut head.used,
-            &mut head.answered,
-            records.as_mut_ptr().cast(),
-            2 * records.len(),
+            head,
+            records.as_mut_ptr(),
+            records.len(),
             area.as_mut_ptr(),
             area.len(),
             file.as_ptr(),
@@ -509,20 +503,9 @@ pub fn enter(head: &mut Head, records: &mut [Record], area: &mut [u8], file: &[u
 /// [`enter`] would refuse by 9.
 pub fn body<'a>(head: &Head, records: &[Record], area: &'a [u8], number: usize) -> &'a [u8] {
     let mut start = 0;
-    // SAFETY: each pointer and length are those of a slice, and the last is to a local. A record is two
-    // numbers, so that the records are twice as many numbers.
+    // SAFETY: each pointer and length are those of a slice, and the others are to the head and a local.
     let size = unsafe {
-        ffi::caplune_body(
-            head.held,
-            head.used,
-            head.answered,
-            records.as_ptr().cast(),
-            2 * records.len(),
-            area.as_ptr(),
-            area.len(),
-            number,
-            &mut start,
-        )
+        ffi::caplune_body(head, records.as_ptr(), records.len(), area.as_ptr(), area.len(), number, &mut start)
     };
     &area[start..start + size]
 }

@@ -84,14 +84,12 @@ fn make(tally: &mut Tally, memory: &mut Memory, stock: &[u8]) -> Result<(), u32>
     let (head, records, area) = safe.lend();
     assert_eq!(number(caplune::make_registry(head, records, area, &stock_lent)), expected, "{stock:?}");
     let (head, records, area) = exported.lend();
-    // SAFETY: each pointer and length are those of a slice, and the others are to the fields of the head.
+    // SAFETY: each pointer and length are those of a slice, and the first is to the head.
     let refused = unsafe {
         ffi::caplune_make_registry(
-            &mut head.held,
-            &mut head.used,
-            &mut head.answered,
-            records.as_mut_ptr().cast(),
-            2 * records.len(),
+            head,
+            records.as_mut_ptr(),
+            records.len(),
             area.as_mut_ptr(),
             area.len(),
             stock_lent.as_ptr(),
@@ -114,15 +112,12 @@ fn enter(tally: &mut Tally, memory: &mut Memory, file: &[u8]) -> Result<usize, u
     assert_eq!(number(caplune::enter(head, records, area, &file_lent)), expected, "{}", told());
     let (head, records, area) = exported.lend();
     let mut entered = BEFORE[0];
-    // SAFETY: each pointer and length are those of a slice, and the others are to the fields of the head
-    // and to a local.
+    // SAFETY: each pointer and length are those of a slice, and the others are to the head and a local.
     let refused = unsafe {
         ffi::caplune_enter(
-            &mut head.held,
-            &mut head.used,
-            &mut head.answered,
-            records.as_mut_ptr().cast(),
-            2 * records.len(),
+            head,
+            records.as_mut_ptr(),
+            records.len(),
             area.as_mut_ptr(),
             area.len(),
             file_lent.as_ptr(),
@@ -151,19 +146,9 @@ fn body<'a>(tally: &mut Tally, memory: &'a mut Memory, number: usize) -> &'a [u8
     let part = caplune::body(head, records, area, number);
     assert_eq!(part.len(), length, "{head:?} {number}");
     let mut start = BEFORE[0];
-    // SAFETY: each pointer and length are those of a slice, and the last is to a local.
+    // SAFETY: each pointer and length are those of a slice, and the others are to the head and a local.
     let size = unsafe {
-        ffi::caplune_body(
-            head.held,
-            head.used,
-            head.answered,
-            records.as_ptr().cast(),
-            2 * records.len(),
-            area.as_ptr(),
-            area.len(),
-            number,
-            &mut start,
-        )
+        ffi::caplune_body(head, records.as_ptr(), records.len(), area.as_ptr(), area.len(), number, &mut start)
     };
     let expected_start = if length > 0 { from - area.as_ptr() as usize } else { 0 };
     assert_eq!((size, start), (length, expected_start), "{head:?} {number}");
@@ -257,35 +242,6 @@ fn numbers_of_records() {
         whole.count = count.min(RECORDS);
         assert_eq!(enter(&mut tally, &mut whole, T), if count < 33 { Err(9) } else { Ok(1) });
         bodies(&mut tally, &mut whole);
-    }
-}
-
-/// In the C functions, a last number without a partner is no record.
-#[test]
-fn odd_numbers() {
-    for (count, expected) in [(0, 9), (1, 9), (65, 9), (66, 0), (67, 0)] {
-        let (mut head, mut numbers, mut area) = (Head::default(), vec![5; count], [7; 60]);
-        // SAFETY: each pointer and length are those of a slice, and the others are to the fields of the head.
-        let refused = unsafe {
-            ffi::caplune_make_registry(
-                &mut head.held,
-                &mut head.used,
-                &mut head.answered,
-                numbers.as_mut_ptr(),
-                count,
-                area.as_mut_ptr(),
-                area.len(),
-                S.as_ptr(),
-                S.len(),
-            )
-        };
-        assert_eq!(refused, expected);
-        let mut left = vec![5; count];
-        if expected == 0 {
-            left[..66].fill(0);
-            left[1] = 6;
-        }
-        assert_eq!(numbers, left);
     }
 }
 

@@ -1,7 +1,6 @@
 -- Telling: from the library's answer to what is returned and left. Parts: how long the parts of an accepted file are. Parting: of which file a part is.
--- Pairing: records as numbers. Registering: the answers of the registry's functions.
+-- Registering: where a body that is handed out starts.
 pub mod Telling
 pub mod Parts
 pub mod Parting
-pub mod Pairing
 pub mod Registering

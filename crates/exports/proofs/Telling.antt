@@ -13,3 +13,7 @@ module _ {E A L : Type 0} {Promise : E → Type 0} {outcome : E → Outcome A} {
   pub tells-refused : (e : E) {k : ℕ} → Promise e → outcome e ≡ refused k → r ≡ k → after ≡ before → Exported Promise outcome Left before after r
   unfolding told
   tells-refused e p q z l = record { answer = e; promise = p; says = rw q (z, l) }
+
+  -- what is told of a known answer is told for each promise that it keeps
+  pub tells-known : {e : E} → Promise e → Exported (λ x. x ≡ e) outcome Left before after r → Exported Promise outcome Left before after r
+  tells-known p t = record { answer = t .answer; promise = rw (t .promise) p; says = t .says }

@@ -5,6 +5,7 @@ ghost use Rattle.registry.specs.Inner.Tables.{blankTable, withRecord, ta
 use formats::refusal::Refusal;
 
 // How many transducers are held, how many bytes of the area are used, how many entries were answered.
+#[repr(C)]
 pub struct Head {
     pub held: usize,
     pub used: usize,
@@ -12,6 +13,7 @@ pub struct Head {
 }
 
 // Where a body starts in the area, and how many bytes it has.
+#[repr(C)]
 pub struct Record {
     pub start: usize,
     pub size: usize,
