@@ -40,6 +40,12 @@ pub record AlikeExactly (stock s s′ tree tree′ address address′ : List ℕ
   pub exact : (verdict ≡ nothing) ↔ SewAlike stock s s′
   pub shown : (v : ℕ × ℕ × ℕ × ℕ) → verdict ≡ some v → Differ stock s s′ tree tree′ address address′ (v .0) (v .1) (v .2) (v .3)
 
+-- what the demand says of two cleanings and a comparison of two sheets under one stock, with areas long enough
+abbrev pub Judges : List ℕ → List ℕ → List ℕ → (List ℕ × List ℕ) → (List ℕ × List ℕ) → (List ℕ × List ℕ) → (List ℕ × List ℕ) → Formed → Formed → Comparison → Type 0
+Judges stock s s′ area area′ tree address r r′ verdict =
+    Accepted stock s → Accepted stock s′ → longest ≤ length (area .0) → longest ≤ length (area′ .0) → treeArea ≤ length (tree .0) → addressArea ≤ length (address .0)
+    → SameExactly stock s s′ (area .1) (area′ .1) r r′ × AlikeExactly stock s s′ (tree .0) (tree .1) (address .0) (address .1) verdict
+
 -- the clean sheet x of s is accepted again, sews as s on every design, and cleans to itself
 pub record Again (stock s x : List ℕ) : Type 0 where
   pub accepted-again : Accepted stock x
