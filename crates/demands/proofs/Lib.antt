@@ -1,2 +1,3 @@
--- Third: demand 3 is met.
+-- First, Third: demands 1 and 3 are met.
+pub mod First
 pub mod Third

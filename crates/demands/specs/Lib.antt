@@ -1,2 +1,3 @@
--- Third: demand 3 of the user, whole.
+-- The demands of the user, each as one record with a field for each part of its text. First: every file can be opened. Third: alike exactly if equal clean sheets.
+pub mod First
 pub mod Third
