@@ -1,3 +1,4 @@
--- First, Third: demands 1 and 3 are met.
+-- First, Second, Third: the demands are met.
 pub mod First
+pub mod Second
 pub mod Third

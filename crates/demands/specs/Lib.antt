@@ -1,3 +1,5 @@
--- The demands of the user, each as one record with a field for each part of its text. First: every file can be opened. Third: alike exactly if equal clean sheets.
+-- The demands of the user, each as one record with a field for each part of its text. First: every file can be opened. Second: a sheet sews the plan that 000 defines.
+-- Third: alike exactly if equal clean sheets.
 pub mod First
+pub mod Second
 pub mod Third

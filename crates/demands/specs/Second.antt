@@ -1,0 +1,54 @@
+-- Demand 2 of the user, whole, of whatever keeps the promises of the entry points: each field is a part of its text.
+use Prim.Native.Nat.{ℕ, _+_, _*_, _≤_, _<_}
+use mathlib.Core.List.{List}
+use mathlib.Core.Logic.{_↔_}
+use mathlib.Core.Path.{_≡_}
+use lib.ListN.{length, take}
+use lib.Seq.{sets}
+use Rattle.theory.specs.Size.{size}
+use Rattle.theory.specs.Term.{Tree, symbolAt}
+use Rattle.theory.specs.Transducer.{Transducer}
+use Rattle.formats.specs.Alphabets.{Alphabets, inputs, outputs, alphabetCheck}
+use Rattle.formats.specs.Answers.{fileRead, ReadsFile, HandsCounts, HandsMarks, fileWritten, WritesFile}
+use Rattle.formats.specs.Code.{code}
+use Rattle.formats.specs.Refusal.{accepted, refused, done, Holds}
+use Rattle.formats.specs.Sheet.{longest, file, Sheet, sheetCheck}
+use Rattle.formats.specs.Tree.{InputTree, treeCheck}
+use Rattle.formats.specs.declared.file.FileRead.{FileRead}
+use Rattle.formats.specs.declared.file.FileWritten.{FileWritten}
+use Rattle.transducer.specs.Answers.{translated, Translates, found, named, FindsSymbol}
+use Rattle.transducer.specs.Output.{Output}
+use Rattle.transducer.specs.declared.address.Found.{Found}
+use Rattle.transducer.specs.declared.translate.Translation.{Translation}
+
+-- two transducers with as many states n and the same initial term and right-hand sides, over P input symbols
+pub record SameTransducer (P n n′ : ℕ) (M M′ : Transducer ℕ) : Type 0 where
+  pub states : n ≡ n′
+  pub initial : M .initial ≡ M′ .initial
+  pub rhs : (q a : ℕ) → q < n → a < P → M .rhs q a ≡ M′ .rhs q a
+
+-- the parts that a reader hands out of the file s are these
+pub record ReadsParts (stock s : List ℕ) (n : ℕ) (counts bytes : List ℕ) : Type 0 where
+  pub states : (r : FileRead) → ReadsFile stock s r → fileRead r ≡ accepted n
+  pub counts-are : (part : List ℕ) → HandsCounts stock s part → part ≡ counts
+  pub marks-are : (part : List ℕ) → HandsMarks stock s part → part ≡ bytes
+
+pub record Demand2 : Type 0 where
+  -- every accepted sheet has one plan for every accepted design,
+  pub plan : (stock sheet design : List ℕ) → Holds (alphabetCheck stock (sheetCheck stock sheet (treeCheck stock design done))) → (t : Tree) × Output stock sheet design t
+  pub one-plan : (stock sheet design : List ℕ) (t t′ : Tree) → Output stock sheet design t → Output stock sheet design t′ → t ≡ t′
+  -- which sewing lays where it fits the area,
+  pub sews : (stock sheet design before after : List ℕ) (t : Tree) (r : Translation) → Alphabets stock → Output stock sheet design t → Translates stock sheet design before after r → size t ≤ length before → (translated r ≡ accepted (size t)) × (after ≡ sets before 0 (code t))
+  -- and refuses by 6 where it does not.
+  pub too-long : (stock sheet design before after : List ℕ) (t : Tree) (r : Translation) → Alphabets stock → Output stock sheet design t → Translates stock sheet design before after r → length before < size t → (translated r ≡ refused 6) × (after ≡ before)
+  -- A file means one design, and one sheet.
+  pub one-design : (ins s : List ℕ) (d d′ : Tree) → InputTree ins s d → InputTree ins s d′ → d ≡ d′
+  pub one-sheet : (ins outs s : List ℕ) (n n′ : ℕ) (M M′ : Transducer ℕ) → Sheet ins outs s n M → Sheet ins outs s n′ M′ → SameTransducer (length ins) n n′ M M′
+  -- The place reader answers the block of that plan, of any size.
+  pub place : (stock sheet design address : List ℕ) (t : Tree) (r : Found) → Alphabets stock → Output stock sheet design t → FindsSymbol stock sheet design address r → found r ≡ accepted (named (symbolAt t address))
+  -- The sheet file's reader and writer undo each other: what was read and written is the file,
+  pub read-written : (stock s counts bytes before after : List ℕ) (n : ℕ) (r : FileRead) (w : FileWritten) → ReadsFile stock s r → fileRead r ≡ accepted n → HandsCounts stock s counts → HandsMarks stock s bytes → longest ≤ length before → WritesFile stock n counts bytes before after w → (fileWritten w ≡ accepted (length s)) × (after ≡ sets before 0 s)
+  -- and what was written and read are the parts.
+  pub written-read : (stock counts bytes before after : List ℕ) (n k : ℕ) (w : FileWritten) → WritesFile stock n counts bytes before after w → fileWritten w ≡ accepted k → ReadsParts stock (take k after) n counts bytes
+  -- The writer refuses just what the reader would, of counts that are two bytes for the opening and for every line.
+  pub same-refusals : (stock counts bytes before after : List ℕ) (n : ℕ) (r : FileRead) (w : FileWritten) → length counts ≡ 2 * (1 + n * length (inputs stock)) → longest ≤ length before → ReadsFile stock (file n counts bytes) r → WritesFile stock n counts bytes before after w → (k : ℕ) → (fileRead r ≡ refused k) ↔ (fileWritten w ≡ refused k)
