@@ -21,9 +21,9 @@ use Rattle.earliest.specs.declared.earliest.Formed.{Formed}
 use Rattle.earliest.specs.declared.earliest.Formed.the-variants as formed
 use Rattle.canonical.specs.Answers.{NormalFile, Cleans}
 use Rattle.canonical.proofs.Laws.{clean-exact, sheets-alike, cleaned}
-use Rattle.registry.specs.Answers.{Kept, CleanFile, Lowest, NotHeld, Room, HasPlace, Gives, numberOf}
+use Rattle.registry.specs.Answers.{Kept, CleanFile, NotHeld, Room, HasPlace, Gives, numberOf}
 use Rattle.registry.specs.Book.{recordAt, body, Chained}
-use Rattle.registry.specs.Inner.Steps.{clean, Placed, Finds, Ready, Adds, Counts, refusedBy, refusedAsk, unchanged, Cleaned, TurnedDown, Asks, StepsWith, Places}
+use Rattle.registry.specs.Inner.Steps.{clean, Placed, Finds, Ready, Adds, Counts, refusedBy, refusedAsk, unchanged, Asks, StepsWith, Places}
 use Rattle.registry.specs.Inner.Writes.{added}
 use Rattle.registry.specs.declared.book.Asked.{Asked}
 use Rattle.registry.specs.declared.book.Entered.{Entered}
@@ -39,10 +39,10 @@ module _ {h : Head} {rs : List Record} {area : List ℕ} (C : Chained h rs area)
   pub chained-end : (i : ℕ) → i ≤ h .held → recordAt rs i .start + recordAt rs i .size ≤ length area
   chained-end i g = omega (arith, body-end (C .follow) i g, C .inside)
 
-  pub chained-placed : Placed (h .held) rs area
+  chained-placed : Placed (h .held) rs area
   chained-placed = record { few = C .few; there = λ i g k. omega (arith, C .few, C .many); ends = λ i g k. chained-end i k }
 
-  pub chained-ready : Ready h area
+  chained-ready : Ready h area
   chained-ready = record { few = C .few; inside = C .inside; countable = C .countable }
 
 -- ---- the search, body after body

@@ -1,28 +1,25 @@
 -- What the records tell, record after record, and that it makes a registry.
 -- Assumes nothing.
-use Prim.Native.Nat.{ℕ, zero, suc, _+_, _-_, _≤_, _<_, min}
+use Prim.Native.Nat.{ℕ, suc, _+_, _-_, _≤_, _<_, min}
 use native.Mathlib.Decide.{decLt}
 use native.Mathlib.Nat.{min-eq-left, min-eq-right}
-use native.Mathlib.Numerals.{add-one}
 use native.Mathlib.Omega.{arith}
 use mathlib.Core.Bool.{Bool, true, false}
 use mathlib.Core.List.{List}
-use mathlib.Core.Logic.{_⊎_, inl, inr, ⊎-elim}
-use mathlib.Core.Path.{_≡_, refl, sym, ap, ap₂, _∙_}
+use mathlib.Core.Path.{_≡_, refl, sym, ap, _∙_}
 use lib.Dec.{eqb}
-use lib.ListN.{length, take, drop}
+use lib.ListN.{length}
 use borrow.Author.Count.{below-more}
 use borrow.Author.Tests.{eqb-true, eq-eqb}
 use Rattle.theory.proofs.Terms.{conflict}
-use Rattle.formats.specs.Alphabets.{Alphabets}
 use Rattle.formats.specs.Refusal.{Decides}
 use Rattle.formats.proofs.Deciding.{decides-no, decides-yes, decides-same}
-use Rattle.registry.specs.Book.{noRecord, recordAt, body, total, Follow, Unused, Chained}
+use Rattle.registry.specs.Book.{noRecord, recordAt, total, Follow, Unused, Chained}
 use Rattle.registry.specs.Inner.Surveys.{Right, Surveyed, keptAt}
 use Rattle.registry.specs.declared.book.Head.{Head}
 use Rattle.registry.specs.declared.book.Record.{Record}
 use Rattle.registry.specs.declared.book.Survey.{Survey}
-use Rattle.registry.proofs.Chains.{total-mono, total-next}
+use Rattle.registry.proofs.Chains.{total-next}
 
 -- ---- the records passed
 -- how far the bodies reach, while they are held and behind
@@ -40,7 +37,7 @@ behind-next g = min-eq-right (omega arith)
 
 reach-more : (rs : List Record) (held i : ℕ) → total rs (min i (suc held)) ≤ total rs (min (i + 1) (suc held))
 reach-more rs held i = elim (decLt held i) [
-  yes g ↦ omega (arith, ap (total rs) (behind g), ap (total rs) (behind-next g))
+  | yes g ↦ omega (arith, ap (total rs) (behind g), ap (total rs) (behind-next g))
   | no g ↦ let g′ : i ≤ held = omega arith in omega (arith, ap (total rs) (up-to g′), ap (total rs) (up-to-next g′), total-next rs i)
 ]
 
@@ -91,7 +88,7 @@ module _ {h : Head} {number : ℕ} {rs : List Record} where
 
   module _ {i : ℕ} {s : Survey} {r first wanted : Record} (q : r ≡ recordAt rs i) (S : Surveyed h number rs i s) (f : first ≡ keptAt (s .first) i 0 r) (w : wanted ≡ keptAt (s .wanted) i number r) where
     -- these records are not a registry's
-    pub surveyed-wrong : (Right (h .held) (h .used) rs (i + 1) → ⊥) → Surveyed h number rs (i + 1) (record { right = false; end = s .end; first = first; wanted = wanted })
+    surveyed-wrong : (Right (h .held) (h .used) rs (i + 1) → ⊥) → Surveyed h number rs (i + 1) (record { right = false; end = s .end; first = first; wanted = wanted })
     surveyed-wrong g = record {
       right = decides-no g;
       end = λ e. conflict (cc);

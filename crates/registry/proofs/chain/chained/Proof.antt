@@ -1,7 +1,7 @@
 -- `chained` meets its contract: each test that fails rules a registry out, and the tests together make one. Assumes nothing.
 use Prim.Native.Nat.{_≤_}
 use native.Mathlib.Omega.{arith}
-use mathlib.Core.Path.{ap, sym}
+use mathlib.Core.Path.{ap}
 use denote.Ref.{now}
 use borrow.Author.Tests.{not-true, not-false}
 use Rattle.formats.proofs.Deciding.{decides-no, decides-same}

@@ -1,5 +1,4 @@
 -- `look` meets its contract: what each test says of record i. Assumes nothing.
-use native.Mathlib.Omega.{arith}
 use borrow.Author.Tests.{not-true, not-false}
 use Rattle.registry.proofs.Surveys.{wrong-before, surveyed-behind, wrong-start, wrong-size, surveyed-body}
 use borrow.Author.Needs.{needs}

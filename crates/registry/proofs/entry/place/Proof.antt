@@ -1,5 +1,4 @@
 -- `place` meets its contract: the refusal from before the search, or the number of the clean file. Assumes nothing.
-use mathlib.Core.Path.{sym}
 use Rattle.registry.proofs.Entering.{numbered, turned-down}
 use borrow.Author.Needs.{needs}
 use Rattle.registry.proofs.entry.place.Statement.{statement}
