@@ -5,36 +5,16 @@ use native.Mathlib.Omega.{arith}
 use mathlib.Core.List.{List, [], _∷_, List·Memᴰ, List·Memᴰ·head, List·Memᴰ·tail, List·Memᴰ·not-nil, List·Memᴰ·cases-cons}
 use mathlib.Core.Logic.{_↔_, ⊎-elim}
 use mathlib.Core.Option.{some, Option, none as nothing}
-use mathlib.Core.Path.{_≡_, refl, sym, ap, ap₂, subst, _∙_}
-use lib.ListN.{length}
+use mathlib.Core.Path.{_≡_, refl, sym, ap, subst, _∙_}
 use Rattle.theory.specs.Registry.{Entry, accepted, refused, History, begun, entered, Keeps}
 use Rattle.theory.proofs.Registry.{numbers-exact}
 use Rattle.theory.proofs.Terms.{conflict}
-use Rattle.formats.specs.Refusal.{Holds}
-use Rattle.formats.proofs.Judging.{accepted-holds}
 use Rattle.canonical.specs.Answers.{SewAlike}
 use Rattle.canonical.proofs.Laws.{clean-exact, sheets-alike}
 use Rattle.registry.specs.Answers.{CleanFile}
-use Rattle.registry.specs.Book.{body}
 use Rattle.registry.specs.Calls.{Book, MadeWith, EntersFile, Entries, acceptances, Orderly, Stays}
-use Rattle.registry.specs.declared.book.Record.{Record}
-use Rattle.registry.proofs.Keeping.{answered-by, bodyOf, stays-refl, stays-trans, unchanged-stays, accepted-stays, accepted-there, accepted-counted, items, itemsOf, same-items, accepted-enters, put-there}
-
--- ---- an accepted making
-module _ {stock : List ℕ} {b : Book} (M : MadeWith stock b) where
-  pub made-head : b .head ≡ record { held = 0; used = length stock; answered = 0 }
-  made-head = accepted-holds (M .call) .1 .head
-
-  made-stock : bodyOf b 0 ≡ stock
-  unfolding Holds
-  made-stock =
-      let w = accepted-holds (M .call) in
-      ap₂ (λ (r : List Record) (l : List ℕ). body r l 0) (w .1 .records) (w .1 .bodies) ∙ put-there (M .before .area) stock 0 (omega (arith, w .0 .1 .1 .0))
-
--- ---- one entry
-module _ {b : Book} {s : List ℕ} {a : Option ℕ} {b′ : Book} (E : EntersFile b s a b′) where
-  entry-stays : Stays b b′
-  entry-stays = ⊎-elim unchanged-stays accepted-stays (answered-by E)
+use Rattle.registry.proofs.Keeping.{answered-by, bodyOf, stays-refl, stays-trans, unchanged-stays, accepted-there, accepted-counted, items, itemsOf, same-items, accepted-enters}
+use Rattle.registry.proofs.Standing.{made-head, entry-stays, stock-stays, still-chained}
 
 -- Bodies stay: whatever list of entries follows on b₀, each body that was held is held at its number, and there are never fewer.
 pub bodies-stay : {b₀ : Book} {log : List (List ℕ × Option ℕ)} {b : Book} → History (λ c. c ≡ b₀) EntersFile log b → Stays b₀ b
@@ -48,11 +28,6 @@ record Numbered (stock : List ℕ) (b : Book) (s : List ℕ) (n : ℕ) : Type 0 
   clean : CleanFile stock s (bodyOf b n)
 
 module _ {stock : List ℕ} where
-  -- the alphabets stay
-  pub stock-stays : {log : List (List ℕ × Option ℕ)} {b : Book} → Entries stock log b → bodyOf b 0 ≡ stock
-  stock-stays (begun M) = made-stock M
-  stock-stays (entered h E) = entry-stays E .bodies 0 (omega arith) ∙ stock-stays h
-
   -- the count is that of the entries accepted
   pub counted : {log : List (List ℕ × Option ℕ)} {b : Book} → Entries stock log b → b .head .answered ≡ acceptances log
   unfolding acceptances
@@ -175,4 +150,5 @@ registry-laws h = record {
   there = λ s n m. let N = numbered h m in (N .low, N .high, N .clean);
   answered = counted h;
   alphabets = stock-stays h;
+  stands = still-chained h;
 }

@@ -5,7 +5,7 @@ use native.Mathlib.Omega.{arith, by-contra}
 use mathlib.Core.List.{List, _∷_, _++_}
 use mathlib.Core.Logic.{inl, inr, ⊎-elim}
 use mathlib.Core.Option.{some, Option}
-use mathlib.Core.Path.{_≡_, refl, sym, ap, subst, _∙_}
+use mathlib.Core.Path.{_≡_, refl, sym, ap, ap₂, subst, _∙_}
 use lib.ListN.{length, set, drop, replicate, length-append, length-replicate, length-set, getD-replicate, List·getD-append}
 use lib.Seq.{sets, length-sets}
 use Rattle.theory.specs.Registry.{begun, entered}
@@ -19,15 +19,35 @@ use Rattle.earliest.specs.Answers.{EarliestFile, formCheck}
 use Rattle.canonical.specs.Answers.{NormalFile}
 use Rattle.registry.specs.Answers.{CleanFile, Lowest, NotHeld, Room, HasPlace, Known, Added, Gives, numberOf}
 use Rattle.registry.specs.Book.{noRecord, recordAt, body, Follow, Unused, Chained}
-use Rattle.registry.specs.Calls.{Book, MadeWith, EntersFile, Entries, answerOf}
+use Rattle.registry.specs.Calls.{Book, MadeWith, EntersFile, Entries, answerOf, Stays}
 use Rattle.registry.specs.declared.book.Entered.{Entered}
 use Rattle.registry.specs.declared.book.Entered.the-variants.{Number, Refused}
 use Rattle.registry.specs.declared.book.Head.{Head}
 use Rattle.registry.specs.declared.book.Record.{Record}
 use Rattle.registry.proofs.Chains.{Passed, passed-none, passed-more, passed-same, all-passed, follow-passed}
 use Rattle.registry.proofs.Entering.{clean-unique}
-use Rattle.registry.proofs.Keeping.{Accepted, answered-by, bodyOf, added-other, added-record, added-stays}
-use Rattle.registry.proofs.Laws.{stock-stays}
+use Rattle.registry.proofs.Keeping.{Accepted, answered-by, bodyOf, unchanged-stays, accepted-stays, added-other, added-record, added-stays, put-there}
+
+-- ---- an accepted making
+module _ {stock : List ℕ} {b : Book} (M : MadeWith stock b) where
+  pub made-head : b .head ≡ record { held = 0; used = length stock; answered = 0 }
+  made-head = accepted-holds (M .call) .1 .head
+
+  pub made-stock : bodyOf b 0 ≡ stock
+  unfolding Holds
+  made-stock =
+      let w = accepted-holds (M .call) in
+      ap₂ (λ (r : List Record) (l : List ℕ). body r l 0) (w .1 .records) (w .1 .bodies) ∙ put-there (M .before .area) stock 0 (omega (arith, w .0 .1 .1 .0))
+
+-- ---- one entry
+module _ {b : Book} {s : List ℕ} {a : Option ℕ} {b′ : Book} (E : EntersFile b s a b′) where
+  pub entry-stays : Stays b b′
+  entry-stays = ⊎-elim unchanged-stays accepted-stays (answered-by E)
+
+-- the alphabets stay
+pub stock-stays : {stock : List ℕ} {log : List (List ℕ × Option ℕ)} {b : Book} → Entries stock log b → bodyOf b 0 ≡ stock
+stock-stays (begun M) = made-stock M
+stock-stays (entered h E) = entry-stays E .bodies 0 (omega arith) ∙ stock-stays h
 
 -- ---- a making
 -- the records that it leaves: one, and 32 that are unused

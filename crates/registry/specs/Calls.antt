@@ -1,5 +1,5 @@
 -- Lists of calls: an accepted making, then entries, each lent head, records and area as the call before it left them.
-use Prim.Native.Nat.{ℕ, suc, _≤_}
+use Prim.Native.Nat.{ℕ, suc, _≤_, _<_}
 use mathlib.Core.List.{List, [], _∷_, List·Memᴰ}
 use mathlib.Core.Logic.{_↔_}
 use mathlib.Core.Option.{some, Option, none as nothing}
@@ -7,7 +7,7 @@ use mathlib.Core.Path.{_≡_}
 use Rattle.theory.specs.Registry.{History}
 use Rattle.canonical.specs.Answers.{SewAlike}
 use Rattle.registry.specs.Answers.{Makes, CleanFile, Enters}
-use Rattle.registry.specs.Book.{body}
+use Rattle.registry.specs.Book.{body, Chained}
 use Rattle.registry.specs.declared.book.Head.{Head}
 use Rattle.registry.specs.declared.book.Record.{Record}
 use Rattle.registry.specs.declared.book.Entered.{Entered}
@@ -56,6 +56,8 @@ pub record Orderly (stock : List ℕ) (log : List (List ℕ × Option ℕ)) (b :
   pub answered : b .head .answered ≡ acceptances log
   -- the alphabets are those of the making
   pub alphabets : body (b .records) (b .area) 0 ≡ stock
+  -- what is left is a registry: no entry is refused by 9 before as many entries are answered as can be counted
+  pub stands : b .head .answered < 18446744073709551615 → Chained (b .head) (b .records) (b .area)
 
 -- what stays of b₀ in b, which other entries led to: each body at its number
 pub record Stays (b₀ b : Book) : Type 0 where

@@ -18,8 +18,7 @@ use Rattle.registry.specs.Book.{body, Chained}
 use Rattle.registry.specs.declared.book.Record.{Record}
 use Rattle.registry.specs.Calls.{Book, MadeWith, EntersFile, Entries}
 use Rattle.registry.proofs.Keeping.{bodyOf, added-there}
-use Rattle.registry.proofs.Laws.{made-head, stock-stays}
-use Rattle.registry.proofs.Standing.{CleansTo, cleans-to, still-chained, entered-known, entered-new, area-kept, makes, enters-known, enters-new}
+use Rattle.registry.proofs.Standing.{made-head, stock-stays, CleansTo, cleans-to, still-chained, entered-known, entered-new, area-kept, makes, enters-known, enters-new}
 use Rattle.table.specs.Table.{Registered}
 
 T-trims : (k : ℕ) × ((counts : List ℕ) × ((bytes : List ℕ) × EarliestFile S T k counts bytes))
