@@ -30,11 +30,10 @@ module _ {callers callers′ : List ℕ} {i x w : ℕ} (e : w ≡ at callers i) 
   pub reach-kept : x ≤ w → callers′ ≡ callers → Reached callers i x callers′
   reach-kept h z = rw z (record { long = refl; more = λ k. omega arith; here = omega arith })
 
-pub flags-call : {callers second third : List ℕ} {r p : ℕ} → length callers ≡ 16640 → r < 128 → p < 128 → Reached (set callers (130 * r + p) 1) (130 * r + 128) (128 - p) second → Reached second (130 * r + 128 + 1) (p + 1) third → StillFlagged callers third × Flagged third r p
+pub flags-call : {callers second third : List ℕ} {r p : ℕ} → length callers ≡ 16640 → r < 128 → p < 128 → Reached (set callers (130 * r + p) 1) (130 * r + 128) (128 - p) second → Reached second (130 * r + 129) (p + 1) third → StillFlagged callers third × Flagged third r p
 flags-call {callers} {second} {third} {r} {p} l h g S T =
     let here = getD-set-same callers (130 * r + p) 1 0 (omega arith) in
-    let flag : (k : ℕ) → 0 < at callers k → 0 < at (set callers (130 * r + p) 1) k = λ k f. by-cases (ℕ-discrete k (130 * r + p)) (λ z. rw (z, here) (omega arith)) (λ z. rw (getD-set-other callers (130 * r + p) k 1 0 z) f) in
-    let e : 130 * r + 128 + 1 ≡ 130 * r + 129 = omega arith in (
+    let flag : (k : ℕ) → 0 < at callers k → 0 < at (set callers (130 * r + p) 1) k = λ k f. by-cases (ℕ-discrete k (130 * r + p)) (λ z. rw (z, here) (omega arith)) (λ z. rw (getD-set-other callers (130 * r + p) k 1 0 z) f) in (
       record {
         room = T .long ∙ S .long ∙ length-set callers (130 * r + p) 1 ∙ l;
         still = λ s q F. record {
@@ -46,7 +45,7 @@ flags-call {callers} {second} {third} {r} {p} l h g S T =
       record {
         flag = omega (arith, here, S .more (130 * r + p), T .more (130 * r + p));
         low = omega (arith, S .here, T .more (130 * r + 128));
-        high = omega (arith, T .here, ap (at third) e);
+        high = omega (arith, T .here);
       },
     )
 

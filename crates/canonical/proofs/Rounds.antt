@@ -13,8 +13,8 @@ use lib.Seq.{getD-set-same, getD-set-other, set-getD}
 use Rattle.theory.proofs.Pigeon.{pigeon}
 use Rattle.theory.proofs.Terms.{conflict}
 use Rattle.formats.specs.Refusal.{Decides}
-use Rattle.canonical.specs.Inner.Classes.{SameStates, at}
-use Rattle.canonical.specs.Inner.Parting.{Clean, NoneClean, CleanMember, Member, Represents, FindsClass, Partable, Round, Places, Listed, Moved, Rounded}
+use Rattle.canonical.specs.Inner.Classes.{SameStates, at, Classed}
+use Rattle.canonical.specs.Inner.Parting.{Clean, NoneClean, CleanMember, Member, Represents, FindsClass, Round, Places, Listed, Moved, Rounded}
 
 -- ---- the state that stands for a class
 module _ {classes dirty reps : List ℕ} {c start r : ℕ} (C : CleanMember classes dirty c start r) {dirty′ reps′ : List ℕ} {q : ℕ} (named : reps′ ≡ set reps c q) where
@@ -64,7 +64,8 @@ elsewhere P p x f q = by-cases (ℕ-discrete q p) (λ z. rw z x) (λ z. f q z)
 record Fits (ins starts bytes old new dirty reps : List ℕ) (base count p : ℕ) (new′ dirty′ reps′ : List ℕ) (k count′ : ℕ) : Type 0 where
   moved : new′ ≡ set new p k
   flagged : dirty′ ≡ set dirty p 0
-  flags : p < length dirty
+  few : length old ≤ 128
+  names-long : length reps′ ≡ 128
   fine : (r : ℕ) → r < length old → Clean dirty r → at new r ≡ k → (at old r ≡ at old p) × SameStates ins starts bytes old r p
   coarse : (r : ℕ) → r < length old → Clean dirty r → at old r ≡ at old p → SameStates ins starts bytes old r p → at new r ≡ k
   stays : k < base → k ≡ at old p
@@ -84,9 +85,9 @@ module _ {ins starts bytes old new dirty reps : List ℕ} {base count : ℕ} (R 
   round-few = omega (arith, every-few new count (R .every), R .long)
 
   -- a state comes to stand for an old class
-  round-named : {c q : ℕ} → length reps ≡ 128 → length old ≤ 128 → c < base → q < length old → Round ins starts bytes old new dirty (set reps c q) base count
-  round-named {c} {q} n few l h =
-      let here : at (set reps c q) c ≡ q = getD-set-same reps c q 0 (omega (arith, round-few, R .grown)) in
+  round-named : {c q : ℕ} → length old ≤ 128 → c < base → q < length old → Round ins starts bytes old new dirty (set reps c q) base count
+  round-named {c} {q} few l h =
+      let here : at (set reps c q) c ≡ q = getD-set-same reps c q 0 (omega (arith, round-few, R .grown, R .names)) in
       let there : (k : ℕ) → (k ≡ c → ⊥) → at (set reps c q) k ≡ at reps k = λ k z. getD-set-other reps c k q 0 z in
       record {
         waits = R .waits;
@@ -101,6 +102,8 @@ module _ {ins starts bytes old new dirty reps : List ℕ} {base count : ℕ} (R 
         every = R .every;
         unnamed = λ k b m. by-cases (ℕ-discrete k c) (λ z. absurd (omega (arith, here, ap (at (set reps c q)) z))) (λ z. R .unnamed k b (rw (there k z) at m));
         grown = R .grown;
+        flags = R .flags;
+        names = length-set reps c q ∙ R .names;
       }
 
   module _ {p : ℕ} (h : p < length old) (dirt : Clean dirty p → ⊥) {new′ dirty′ reps′ : List ℕ} {k count′ : ℕ} (F : Fits ins starts bytes old new dirty reps base count p new′ dirty′ reps′ k count′) where
@@ -111,7 +114,7 @@ module _ {ins starts bytes old new dirty reps : List ℕ} {base count : ℕ} (R 
     there q z = ap (λ l. at l q) (F .moved) ∙ getD-set-other new p q k 0 z
 
     clean-here : Clean dirty′ p
-    clean-here = ap (λ l. at l p) (F .flagged) ∙ getD-set-same dirty p 0 0 (F .flags)
+    clean-here = ap (λ l. at l p) (F .flagged) ∙ getD-set-same dirty p 0 0 (omega (arith, F .few, R .flags))
 
     clean-there : (q : ℕ) → (q ≡ p → ⊥) → at dirty′ q ≡ at dirty q
     clean-there q z = ap (λ l. at l q) (F .flagged) ∙ getD-set-other dirty p q 0 0 z
@@ -178,9 +181,14 @@ module _ {ins starts bytes old new dirty reps : List ℕ} {base count : ℕ} (R 
           (λ l e d. let w : k ≡ c = sym here ∙ e in omega (arith, F .named (omega arith), ap (at reps′) w))
           (λ q z l e d. R .unnamed c b (rw (← F .names c (omega (arith, R .grown))) m) q (omega (arith, long′, R .long)) (sym (there q z) ∙ e) (clean-was q z d));
       grown = omega (arith, R .grown, F .grown);
+      flags = ap length (F .flagged) ∙ simp length-set (R .flags);
+      names = F .names-long;
     }
 
-module _ {ins starts bytes old new dirty reps : List ℕ} {base count : ℕ} (R : Round ins starts bytes old new dirty reps base count) {p : ℕ} (h : p < length old) (flags : p < length dirty) where
+module _ {ins starts bytes old new dirty reps : List ℕ} {base count : ℕ} (R : Round ins starts bytes old new dirty reps base count) {p : ℕ} (few : length old ≤ 128) (h : p < length old) where
+  flags : p < length dirty
+  flags = omega (arith, R .flags)
+
   -- the first clean state of an old class keeps the class
   round-first : NoneClean new dirty (at new p) → at reps (at new p) < length old → Round ins starts bytes old new (set dirty p 0) reps base count
   round-first none named =
@@ -189,7 +197,8 @@ module _ {ins starts bytes old new dirty reps : List ℕ} {base count : ℕ} (R 
       placed R h dirt {count′ = count} (record {
         moved = sym (set-getD new p 0);
         flagged = refl;
-        flags = flags;
+        few = few;
+        names-long = R .names;
         fine = λ r l d e. absurd (none r (omega (arith, R .long)) e d);
         coarse = λ r l d e S. let k = R .keeps r l d in absurd (none (k .0) (k .1 .0 .there) (k .1 .0 .class ∙ e ∙ sym w) (k .1 .1));
         stays = λ b. w;
@@ -213,7 +222,8 @@ module _ {ins starts bytes old new dirty reps : List ℕ} {base count : ℕ} (R 
     round-joined {s} {new′} l c x S named e = placed R h dirt {count′ = count} (record {
       moved = e;
       flagged = refl;
-      flags = flags;
+      few = few;
+      names-long = R .names;
       fine = λ r i z y. let f = R .fine r s i l z c y in (f .0 ∙ x, same-trans (f .1) S);
       coarse = λ r i z y T. R .coarse r s i l z c (y ∙ sym x) (same-trans T (same-sym S));
       stays = λ b. R .stays s l b ∙ x;
@@ -241,7 +251,8 @@ module _ {ins starts bytes old new dirty reps : List ℕ} {base count : ℕ} (R 
     round-fresh room F differs = placed R h dirt {count′ = suc count} (record {
       moved = refl;
       flagged = refl;
-      flags = flags;
+      few = few;
+      names-long = length-set reps count p ∙ R .names;
       fine = λ r l z y. absurd (omega (arith, R .below r l));
       coarse = λ r l z y T. absurd (apart r l z y T);
       stays = λ b. absurd (omega (arith, R .grown));
@@ -268,25 +279,21 @@ pub record Stands (ins starts bytes old new dirty : List ℕ) (base count p : �
   pub clean : Clean dirty′ q
   pub cleaned : (r : ℕ) → Clean dirty r → Clean dirty′ r
   pub named : at reps′ (at old p) < length old
-  pub flags : length dirty′ ≡ 128
-  pub names : length reps′ ≡ 128
 
-module _ {ins starts bytes old new dirty reps : List ℕ} {base count p : ℕ} (P : Partable ins starts bytes old dirty reps) (R : Round ins starts bytes old new dirty reps base count) (h : p < length old) (dirt : Clean dirty p → ⊥) where
+module _ {ins starts bytes old new dirty reps : List ℕ} {base count p : ℕ} (C : Classed ins starts bytes old) (R : Round ins starts bytes old new dirty reps base count) (h : p < length old) (dirt : Clean dirty p → ⊥) where
   -- what standing for the class of p asks
   pub can-stand : Member new (at old p) p × (length new ≤ 128) × (length dirty ≡ 128) × (length reps ≡ 128) × (at old p < 128)
-  can-stand = (record { there = omega (arith, R .long); class = R .waits p h dirt }, omega (arith, R .long, P .classed .layout .few-states), P .flags, P .names, omega (arith, R .known p h, R .grown, round-few R, P .classed .layout .few-states))
+  can-stand = (record { there = omega (arith, R .long); class = R .waits p h dirt }, omega (arith, R .long, C .layout .few-states), R .flags, R .names, omega (arith, R .known p h, R .grown, round-few R, C .layout .few-states))
 
   pub stands : {dirty′ reps′ : List ℕ} {q : ℕ} → Represents new dirty reps (at old p) dirty′ reps′ q → Stands ins starts bytes old new dirty base count p dirty′ reps′ q
   stands {dirty′} {reps′} {q} E = ⊎-elim
-      (λ w. rw (E .named, w .0) (record { round = S; member = E .member; clean = w .1; cleaned = λ r d. d; named = rw here l; flags = P .flags; names = length-set reps (at old p) q ∙ P .names }))
+      (λ w. rw (E .named, w .0) (record { round = S; member = E .member; clean = w .1; cleaned = λ r d. d; named = rw here l }))
       (λ w. rw (E .named, w .0) (record {
-        round = round-first S l fits (rw (E .member .class) (none (w .1))) (rw (E .member .class, here) l);
+        round = round-first S (C .layout .few-states) l (rw (E .member .class) (none (w .1))) (rw (E .member .class, here) l);
         member = E .member;
         clean = getD-set-same dirty q 0 0 fits;
         cleaned = elsewhere (λ r. Clean dirty r → Clean (set dirty q 0) r) q (λ d. getD-set-same dirty q 0 0 fits) (λ r z d. getD-set-other dirty q r 0 0 z ∙ d);
         named = rw here l;
-        flags = length-set dirty q 0 ∙ P .flags;
-        names = length-set reps (at old p) q ∙ P .names;
       }))
       (E .kept)
     where
@@ -294,13 +301,13 @@ module _ {ins starts bytes old new dirty reps : List ℕ} {base count p : ℕ} (
       l = omega (arith, E .member .there, R .long)
 
       fits : q < length dirty
-      fits = omega (arith, l, P .flags, P .classed .layout .few-states)
+      fits = omega (arith, l, R .flags, C .layout .few-states)
 
       here : at (set reps (at old p) q) (at old p) ≡ q
-      here = getD-set-same reps (at old p) q 0 (omega (arith, P .names, can-stand .4))
+      here = getD-set-same reps (at old p) q 0 (omega (arith, R .names, can-stand .4))
 
       S : Round ins starts bytes old new dirty (set reps (at old p) q) base count
-      S = round-named R (P .names) (P .classed .layout .few-states) (R .known p h) l
+      S = round-named R (C .layout .few-states) (R .known p h) l
 
       none : (at reps (at old p) < length new → NoneClean new dirty (at old p)) → NoneClean new dirty (at old p)
       none f = by-cases (decLt (at reps (at old p)) (length new)) f (λ z. R .unnamed (at old p) (R .known p h) (omega (arith, R .long)))
@@ -312,7 +319,7 @@ module _ {ins starts bytes old new dirty : List ℕ} {base count p : ℕ} {dirty
 
   module _ (dirt : Clean dirty′ p → ⊥) where
     fits : p < length dirty′
-    fits = omega (arith, S .flags)
+    fits = omega (arith, S .round .flags)
 
     both : (r : ℕ) → Clean dirty r → Clean (set dirty′ p 0) r
     both r d = elsewhere (λ r. Clean dirty′ r → Clean (set dirty′ p 0) r) p (λ d. getD-set-same dirty′ p 0 0 fits) (λ r z d. getD-set-other dirty′ p r 0 0 z ∙ d) r (S .cleaned r d)
@@ -326,25 +333,25 @@ module _ {ins starts bytes old new dirty : List ℕ} {base count p : ℕ} {dirty
 
     pub places-with : SameStates ins starts bytes old q p → Places ins starts bytes old new dirty base count p new (set dirty′ p 0) reps′ count
     places-with T = record {
-      round = round-joined (S .round) h fits dirt (S .member) (S .clean) q-less (S .clean) q-class T (S .named) (sym (set-getD new p 0) ∙ ap (set new p) (S .round .waits p h dirt ∙ sym (S .member .class)));
+      round = round-joined (S .round) few h dirt (S .member) (S .clean) q-less (S .clean) q-class T (S .named) (sym (set-getD new p 0) ∙ ap (set new p) (S .round .waits p h dirt ∙ sym (S .member .class)));
       here = getD-set-same dirty′ p 0 0 fits;
       cleaned = both;
       others = λ q z. refl;
       grown = omega arith;
     }
 
-    pub find-asks : (base ≤ count) × (count ≤ length reps′) × ((k : ℕ) → base ≤ k → k < count → at reps′ k < length old)
-    find-asks = (S .round .grown, omega (arith, round-few (S .round), S .names), λ k b l. omega (arith, S .round .made k b l .0 .there, S .round .long))
+    pub find-asks : (base ≤ count) × (count ≤ 128) × ((k : ℕ) → base ≤ k → k < count → at reps′ k < length old)
+    find-asks = (S .round .grown, omega (arith, round-few (S .round)), λ k b l. omega (arith, S .round .made k b l .0 .there, S .round .long))
 
     pub room : count < length old
-    room = round-room (S .round) h fits dirt (S .member) (S .clean)
+    room = round-room (S .round) few h dirt (S .member) (S .clean)
 
     module _ {k : ℕ} (F : FindsClass ins starts bytes old reps′ base count p k) where
       pub places-made : k < count → Places ins starts bytes old new dirty base count p (set new p k) (set dirty′ p 0) reps′ count
       places-made l =
           let m = S .round .made k (F .low) l in
           record {
-            round = round-joined (S .round) h fits dirt (S .member) (S .clean) (omega (arith, m .0 .there, S .round .long)) (m .1) (F .found l .0) (F .found l .1) (S .named) (ap (set new p) (sym (m .0 .class)));
+            round = round-joined (S .round) few h dirt (S .member) (S .clean) (omega (arith, m .0 .there, S .round .long)) (m .1) (F .found l .0) (F .found l .1) (S .named) (ap (set new p) (sym (m .0 .class)));
             here = getD-set-same dirty′ p 0 0 fits;
             cleaned = both;
             others = λ q z. getD-set-other new p q k 0 z;
@@ -355,7 +362,7 @@ module _ {ins starts bytes old new dirty : List ℕ} {base count p : ℕ} {dirty
       places-fresh l differs =
           let z : k ≡ count = omega (arith, F .small) in
           record {
-            round = rw (z, add-one count) (round-fresh (S .round) h fits dirt (S .member) (S .clean) (omega (arith, room, S .names)) (rw z at F) differs);
+            round = rw (z, add-one count) (round-fresh (S .round) few h dirt (S .member) (S .clean) (omega (arith, room, S .round .names)) (rw z at F) differs);
             here = getD-set-same dirty′ p 0 0 fits;
             cleaned = both;
             others = λ q z. getD-set-other new p q k 0 z;
@@ -368,19 +375,15 @@ pub record RoundLoop (ins starts bytes old list : List ℕ) (base len : ℕ) (ne
   pub bound : i ≤ len
   pub less : m ≤ i
   pub round : Round ins starts bytes old new dirty reps base count
-  pub flags : length dirty ≡ 128
-  pub names : length reps ≡ 128
   pub left : (q : ℕ) → q < length old → (Clean dirty q → ⊥) → (j : ℕ) × ((i ≤ j) × (j < len) × (at list j ≡ q))
   pub listed : Moved old new moved m
   pub grew : 0 < m → base < count
 
-pub round-start : {ins starts bytes old new dirty reps list moved : List ℕ} {base len : ℕ} → Partable ins starts bytes old dirty reps → Round ins starts bytes old new dirty reps base base → Listed dirty list (length old) len → length moved ≡ 128 → ((q : ℕ) → q < length old → at new q ≡ at old q) → RoundLoop ins starts bytes old list base len new dirty reps moved base 0 0
-round-start P R L m e = record {
+pub round-start : {ins starts bytes old new dirty reps list moved : List ℕ} {base len : ℕ} → Round ins starts bytes old new dirty reps base base → Listed dirty list (length old) len → length moved ≡ 128 → ((q : ℕ) → q < length old → at new q ≡ at old q) → RoundLoop ins starts bytes old list base len new dirty reps moved base 0 0
+round-start R L m e = record {
   bound = omega arith;
   less = omega arith;
   round = R;
-  flags = P .flags;
-  names = P .names;
   left = λ q h d. let w = L .all q h d in (w .0, (omega arith, w .1 .0, w .1 .1));
   listed = record { room = m; few = omega arith; states = λ j h. absurd (omega arith); all = λ q h. inl (e q h) };
   grew = λ h. absurd (omega arith);
@@ -402,14 +405,12 @@ module _ {ins starts bytes old dirty₀ list : List ℕ} {base len : ℕ} {new d
     bound = omega arith;
     less = omega (arith, L .less);
     round = L .round;
-    flags = L .flags;
-    names = L .names;
     left = λ q l f. later dirty d q f (L .left q l f);
     listed = L .listed;
     grew = L .grew;
   }
 
-  module _ {new′ dirty′ reps′ : List ℕ} {count′ : ℕ} (P : Places ins starts bytes old new dirty base count p new′ dirty′ reps′ count′) (flags : length dirty′ ≡ length dirty) (names : length reps′ ≡ length reps) where
+  module _ {new′ dirty′ reps′ : List ℕ} {count′ : ℕ} (P : Places ins starts bytes old new dirty base count p new′ dirty′ reps′ count′) where
     left′ : (q : ℕ) → q < length old → (Clean dirty′ q → ⊥) → (j : ℕ) × ((i + 1 ≤ j) × (j < len) × (at list j ≡ q))
     left′ q l f = later dirty′ (P .here) q f (L .left q l (λ d. f (P .cleaned q d)))
 
@@ -419,8 +420,6 @@ module _ {ins starts bytes old dirty₀ list : List ℕ} {base len : ℕ} {new d
       bound = omega arith;
       less = omega (arith, L .less);
       round = P .round;
-      flags = flags ∙ L .flags;
-      names = names ∙ L .names;
       left = left′;
       listed = record {
         room = L .listed .room;
@@ -441,8 +440,6 @@ module _ {ins starts bytes old dirty₀ list : List ℕ} {base len : ℕ} {new d
           bound = omega arith;
           less = omega (arith, L .less);
           round = P .round;
-          flags = flags ∙ L .flags;
-          names = names ∙ L .names;
           left = left′;
           listed = record {
             room = length-set moved m p ∙ L .listed .room;

@@ -16,12 +16,12 @@ use Rattle.formats.specs.Inner.Marked.{part}
 use Rattle.formats.proofs.Laws.{written-take}
 use Rattle.formats.proofs.Pairs.{number-less}
 use Rattle.canonical.specs.Inner.Classes.{keyed, bodyMarks, SameStates, at, Keyable, Classed, Patterned, Numbers, Settles}
-use Rattle.canonical.specs.Inner.Parting.{Clean, NoneClean, Member, Round, Rounded, Callers, Listed, Spreads, AllDirty, Continues, Respecting, Stable, Parted, Startable, Partable, Parts, sign}
+use Rattle.canonical.specs.Inner.Parting.{Clean, NoneClean, Member, Round, Rounded, Callers, Listed, FlagsMoved, AllDirty, Continues, Respecting, Stable, Parted, Startable, Parts, sign}
 use Rattle.canonical.proofs.Keys.{keyAt, key-symbol, key-call, keyed-length, keyed-at, body-ordered, body-keyable, first-there, same-simulates, simulates-same}
 use Rattle.canonical.proofs.Numbering.{classes-agree, class-below, least-below}
 use Rattle.canonical.proofs.Patterns.{laid-le, pattern-respects}
 use Rattle.canonical.proofs.Rounds.{round-few}
-use Rattle.canonical.proofs.Spreading.{no-sign, some-sign, one-sign}
+use Rattle.canonical.proofs.Worklist.{no-sign, some-sign, one-sign}
 
 -- ---- keys up to new classes
 -- a part whose calls are of states that keep their class has the same keys
@@ -64,8 +64,8 @@ module _ {ins starts bytes old : List ℕ} (C : Classed ins starts bytes old) (n
 
 -- ---- the start of a round
 module _ {ins starts bytes old new dirty reps : List ℕ} {count : ℕ} (long : length new ≡ length old) (same : (q : ℕ) → q < length old → at new q ≡ at old q) (below : (q : ℕ) → q < length old → at new q < count) (every : (k : ℕ) → k < count → (s : ℕ) × Member new k s) where
-  start-round : ((p q : ℕ) → p < length old → q < length old → Clean dirty p → Clean dirty q → at new p ≡ at new q → SameStates ins starts bytes old p q) → ((c : ℕ) → c < count → length old ≤ at reps c → NoneClean new dirty c) → Round ins starts bytes old new dirty reps count count
-  start-round fine unnamed = record {
+  start-round : length dirty ≡ 128 → length reps ≡ 128 → ((p q : ℕ) → p < length old → q < length old → Clean dirty p → Clean dirty q → at new p ≡ at new q → SameStates ins starts bytes old p q) → ((c : ℕ) → c < count → length old ≤ at reps c → NoneClean new dirty c) → Round ins starts bytes old new dirty reps count count
+  start-round flags names fine unnamed = record {
     waits = λ q h d. same q h;
     fine = λ p q h g d e x. (sym (same p h) ∙ x ∙ same q g, fine p q h g d e x);
     coarse = λ p q h g d e x S. same p h ∙ x ∙ sym (same q g);
@@ -78,11 +78,13 @@ module _ {ins starts bytes old new dirty reps : List ℕ} {count : ℕ} (long : 
     every = every;
     unnamed = unnamed;
     grown = omega arith;
+    flags = flags;
+    names = names;
   }
 
   -- where all states are dirty
   pub dirty-round : {list : List ℕ} → AllDirty dirty reps list (length old) → Round ins starts bytes old new dirty reps count count
-  dirty-round A = start-round (λ p q h g d e x. absurd (A .dirt p h d)) (λ c h l q k e d. A .dirt q (omega arith) d)
+  dirty-round A = start-round (A .flags) (A .names) (λ p q h g d e x. absurd (A .dirt p h d)) (λ c h l q k e d. A .dirt q (omega arith) d)
 
 -- ---- the next round
 module _ {ins starts bytes old new dirty reps moved : List ℕ} {base count m : ℕ} (C : Classed ins starts bytes old) (R : Rounded ins starts bytes old new dirty reps moved base count m) where
@@ -122,14 +124,14 @@ module _ {ins starts bytes old new dirty reps moved : List ℕ} {base count m : 
     long′ = R .round .long ∙ sym long
 
     -- a state that calls no moved state
-    undisturbed : Spreads callers old new old′ dirty′ list′ len → (p : ℕ) → p < length old → Clean dirty′ p → (j : ℕ) → at starts (bodyCount ins p) ≤ j → j < at starts (bodyCount ins p + length ins) → 0 < at bytes (2 * j) → at bytes (2 * j + 1) < length old → at old′ (at bytes (2 * j + 1)) ≡ at old (at bytes (2 * j + 1))
+    undisturbed : FlagsMoved callers old new old′ dirty′ list′ len → (p : ℕ) → p < length old → Clean dirty′ p → (j : ℕ) → at starts (bodyCount ins p) ≤ j → j < at starts (bodyCount ins p + length ins) → 0 < at bytes (2 * j) → at bytes (2 * j + 1) < length old → at old′ (at bytes (2 * j + 1)) ≡ at old (at bytes (2 * j + 1))
     undisturbed S p h d j b l c r =
         let x = at bytes (2 * j + 1) in
         sym (N .same x r) ∙ by-cases (ℕ-discrete (at new x) (at old x)) (λ z. z) (λ z. absurd (S .flagged x p r h z (T .each p h .each j b l c (omega (arith, C .layout .few-states))) d))
 
     pub next-round : Round ins starts bytes old′ new dirty′ reps′ count count
     next-round = ⊎-elim
-        (λ w. start-round long′ same′ below′ (R .round .every)
+        (λ w. start-round long′ same′ below′ (R .round .every) (N .flags) (N .names)
         (λ p q h g d e x. let i : p < length old = omega arith in let j : q < length old = omega arith in states-kept C old′ i (undisturbed (w .0) p i d) (body-kept C old′ j (undisturbed (w .0) q j e)) (R .round .fine p q i j (R .clean p i) (R .clean q j) x .1))
         (λ c h l. absurd (omega (arith, named c h, ap (λ r. at r c) (w .1)))))
         (λ A. dirty-round long′ same′ below′ (R .round .every) {list = list′} (rw long A))
@@ -156,9 +158,9 @@ module _ {ins starts bytes old new dirty reps list moved : List ℕ} {count m : 
     next-classed = record { outs = P .classed .outs; layout = rw long (P .classed .layout) }
 
     -- what the next round asks
-    pub next-asks : length dirty′ ≡ length dirty → length reps′ ≡ length reps → Partable ins starts bytes old′ dirty′ reps′ × Round ins starts bytes old′ new dirty′ reps′ count count × Listed dirty′ list′ (length old′) len × (length moved ≡ 128) × ((q : ℕ) → q < length old′ → at new q ≡ at old′ q)
-    next-asks f n = (
-      record { classed = next-classed; flags = f ∙ P .flags; names = n ∙ P .names },
+    pub next-asks : Classed ins starts bytes old′ × Round ins starts bytes old′ new dirty′ reps′ count count × Listed dirty′ list′ (length old′) len × (length moved ≡ 128) × ((q : ℕ) → q < length old′ → at new q ≡ at old′ q)
+    next-asks = (
+      next-classed,
       next-round (P .classed) (P .rounded) T N long,
       rw long (N .listed),
       P .rounded .listed .room,
@@ -166,15 +168,13 @@ module _ {ins starts bytes old new dirty reps list moved : List ℕ} {count m : 
     )
 
     module _ {new′ dirty″ reps″ moved′ : List ℕ} {count′ m′ : ℕ} (R : Rounded ins starts bytes old′ new′ dirty″ reps″ moved′ count count′ m′) where
-      pub next-parted : length dirty″ ≡ 128 → length reps″ ≡ 128 → length list′ ≡ 128 → Parted ins starts bytes old′ new′ dirty″ reps″ list′ moved′ count′ m′
-      next-parted f n l = record {
+      pub next-parted : Parted ins starts bytes old′ new′ dirty″ reps″ list′ moved′ count′ m′
+      next-parted = record {
         base = count;
         classed = next-classed;
         respects = rw long (new-respects (P .classed) (P .rounded) (P .respects) (N .same));
         rounded = R;
-        flags = f;
-        names = n;
-        room = l;
+        room = N .listed .room;
       }
 
       -- each round but the last makes more classes
@@ -184,34 +184,21 @@ module _ {ins starts bytes old new dirty reps list moved : List ℕ} {count m : 
           (λ z. omega (arith, R .grew z, round-few (R .round), long, one-sign m′, some-sign m h))
           (λ z. omega (arith, R .round .grown, no-sign m′ (omega arith), some-sign m h))
 
-module _ {ins starts bytes old new dirty reps list : List ℕ} {count : ℕ} (S : Startable ins starts bytes old new count) (A : AllDirty dirty reps list (length old)) (flags : length dirty ≡ 128) (names : length reps ≡ 128) where
+module _ {ins starts bytes old new dirty reps list : List ℕ} {count : ℕ} (S : Startable ins starts bytes old new count) (A : AllDirty dirty reps list (length old)) where
   -- what the first round asks
-  pub first-asks : Partable ins starts bytes old dirty reps × Round ins starts bytes old new dirty reps count count × Listed dirty list (length old) (length old)
+  pub first-asks : Classed ins starts bytes old × Round ins starts bytes old new dirty reps count count × Listed dirty list (length old) (length old)
   first-asks = (
-    record { classed = S .classed; flags = flags; names = names },
+    S .classed,
     dirty-round (S .long) (S .same) (λ q h. rw (S .same q h) (S .below q h)) (S .every) A,
     A .listed,
   )
 
-  pub first-parted : {new′ dirty′ reps′ moved : List ℕ} {count′ m : ℕ} → Rounded ins starts bytes old new′ dirty′ reps′ moved count count′ m → length dirty′ ≡ length dirty → length reps′ ≡ length reps → Parted ins starts bytes old new′ dirty′ reps′ list moved count′ m
-  first-parted R f n = record { base = count; classed = S .classed; respects = S .respects; rounded = R; flags = f ∙ flags; names = n ∙ names; room = A .listed .room }
+  pub first-parted : {new′ dirty′ reps′ moved : List ℕ} {count′ m : ℕ} → Rounded ins starts bytes old new′ dirty′ reps′ moved count count′ m → Parted ins starts bytes old new′ dirty′ reps′ list moved count′ m
+  first-parted R = record { base = count; classed = S .classed; respects = S .respects; rounded = R; room = A .listed .room }
 
 -- ---- from the bytes to the end
 copied : (from area area′ : List ℕ) → length from ≡ length area → area′ ≡ sets area 0 from → area′ ≡ from
 copied from area area′ l e = sym (take-all (length from) area′ (omega (arith, ap length e, length-sets area 0 from))) ∙ written-take from area area′ (length from) refl (omega arith) e
-
--- the new classes of a round are classes to start from
-pub parted-start : {ins starts bytes old new dirty reps list moved old′ : List ℕ} {count m : ℕ} → Parted ins starts bytes old new dirty reps list moved count m → old′ ≡ sets old 0 new → Startable ins starts bytes old′ new count
-parted-start {new = new} {old′ = old′} P e =
-    let l = P .rounded .round .long in
-    rw (copied new _ old′ l e) (record {
-      classed = record { outs = P .classed .outs; layout = rw l (P .classed .layout) };
-      respects = rw l (new-respects (P .classed) (P .rounded) (P .respects) (λ q h. refl));
-      long = refl;
-      same = λ q h. refl;
-      below = λ q h. P .rounded .round .below q (omega arith);
-      every = P .rounded .round .every;
-    })
 
 -- where no state is moved, the classes are as they were
 pub parts-none : {ins starts bytes old new dirty reps list moved : List ℕ} {count m : ℕ} → Parted ins starts bytes old new dirty reps list moved count m → m ≡ 0 → Parts ins starts bytes old old new false

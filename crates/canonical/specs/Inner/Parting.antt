@@ -53,12 +53,6 @@ pub record FindsClass (ins starts bytes old reps : List ℕ) (base count p k : �
   pub none : (j : ℕ) → base ≤ j → j < k → at old (at reps j) ≡ at old p → SameStates ins starts bytes old (at reps j) p → ⊥
 
 -- ---- one round
--- a transducer whose states have classes, with flags and states that stand for classes
-pub record Partable (ins starts bytes old dirty reps : List ℕ) : Type 0 where
-  pub classed : Classed ins starts bytes old
-  pub flags : length dirty ≡ 128
-  pub names : length reps ≡ 128
-
 -- The states that are clean have their new classes, `count` in number, and those from `base` on are new; the dirty ones have their old classes.
 pub record Round (ins starts bytes old new dirty reps : List ℕ) (base count : ℕ) : Type 0 where
   -- clean states of one new class were in one class and have the same right-hand sides up to old classes; such states are in one new class
@@ -78,6 +72,8 @@ pub record Round (ins starts bytes old new dirty reps : List ℕ) (base count : 
   -- where no state stands for an old class, none is clean
   pub unnamed : (c : ℕ) → c < base → length old ≤ at reps c → NoneClean new dirty c
   pub grown : base ≤ count
+  pub flags : length dirty ≡ 128
+  pub names : length reps ≡ 128
 
 -- what placing the dirty state p does: it is clean, and so are the states that were; no other state has another class
 pub record Places (ins starts bytes old new dirty : List ℕ) (base count p : ℕ) (new′ dirty′ reps′ : List ℕ) (count′ : ℕ) : Type 0 where
@@ -152,27 +148,33 @@ pub record Queue (dirty list : List ℕ) (n len : ℕ) : Type 0 where
 
 -- what flagging the callers of state r does
 pub record FlagsCallers (callers : List ℕ) (r n : ℕ) (dirty dirty′ list′ : List ℕ) (len : ℕ) : Type 0 where
+  pub flags : length dirty′ ≡ 128
   pub queue : Queue dirty′ list′ n len
   pub still : (q : ℕ) → Clean dirty′ q → Clean dirty q
   pub flagged : (q : ℕ) → q < n → Flagged callers r q → Clean dirty′ q → ⊥
 
 -- the moved states have their new classes, and their callers are dirty
-pub record Spreads (callers old new old′ dirty′ list′ : List ℕ) (len : ℕ) : Type 0 where
+pub record FlagsMoved (callers old new old′ dirty′ list′ : List ℕ) (len : ℕ) : Type 0 where
+  pub flags : length dirty′ ≡ 128
   pub same : (q : ℕ) → q < length old → at new q ≡ at old′ q
   pub listed : Listed dirty′ list′ (length old) len
   pub flagged : (r q : ℕ) → r < length old → q < length old → (at new r ≡ at old r → ⊥) → Flagged callers r q → Clean dirty′ q → ⊥
 
 -- all of n states are dirty, and no state stands for a class
 pub record AllDirty (dirty reps list : List ℕ) (n : ℕ) : Type 0 where
+  pub flags : length dirty ≡ 128
+  pub names : length reps ≡ 128
   pub listed : Listed dirty list n n
   pub dirt : (q : ℕ) → q < n → Clean dirty q → ⊥
   pub unnamed : (c : ℕ) → c < n → n ≤ at reps c
 
 -- what is known when the next round begins: where states were moved, only their callers are dirty, or all states are
 pub record Continues (callers old new reps old′ dirty′ reps′ list′ : List ℕ) (len : ℕ) : Type 0 where
+  pub flags : length dirty′ ≡ 128
+  pub names : length reps′ ≡ 128
   pub same : (q : ℕ) → q < length old → at new q ≡ at old′ q
   pub listed : Listed dirty′ list′ (length old) len
-  pub either : (Spreads callers old new old′ dirty′ list′ len × (reps′ ≡ reps)) ⊎ AllDirty dirty′ reps′ list′ (length old)
+  pub either : (FlagsMoved callers old new old′ dirty′ list′ len × (reps′ ≡ reps)) ⊎ AllDirty dirty′ reps′ list′ (length old)
 
 -- ---- all rounds
 -- equivalent states are in one class, if the transducer is well-formed and earliest
@@ -190,8 +192,6 @@ pub record Parted (ins starts bytes old new dirty reps list moved : List ℕ) (c
   pub classed : Classed ins starts bytes old
   pub respects : Respecting ins starts bytes (length old) old
   pub rounded : Rounded ins starts bytes old new dirty reps moved base count m
-  pub flags : length dirty ≡ 128
-  pub names : length reps ≡ 128
   pub room : length list ≡ 128
 
 -- the classes from which rounds start: each of `count` classes has a state

@@ -6,30 +6,24 @@ use borrow.Author.Needs.{needs}
 use Rattle.canonical.proofs.parting.clean_member.Statement.{statement}
 use Rattle.canonical.proofs.parting.clean_member.Tie as tie
 
--- src/parting.rt:33:9
 returns : tie.Need-returns
 returns c = search needs
 
--- src/parting.rt:35:9
 find-clean-requires : tie.Need-find-clean-requires
 find-clean-requires c κs = search needs
 
--- src/parting.rt:37:9
 returns-2 : tie.Need-returns-2
 returns-2 c = search needs
 
--- src/parting.rt:39:9
 find-clean-requires-2 : tie.Need-find-clean-requires-2
 find-clean-requires-2 c κs = search needs
 
--- src/parting.rt:41:9
 returns-3 : tie.Need-returns-3
 returns-3 c = record { found = λ h. c .before .find-clean2 .ensures .found (c .if3 .taken); none = λ l s. absurd (omega arith) }
 
--- src/parting.rt:27:1
 returns-4 : tie.Need-returns-4
 returns-4 c =
-    let a = c .before .before .before .before .before .before .before .args in
+    let a = c .before .before .before .before .before .before .args in
     record {
       found = λ h. absurd (omega arith);
       none = λ l s q h e z. by-cases (decLt q (a .start)) (λ b. c .before .find-clean2 .ensures .none q (omega arith) (omega arith) e z) (λ b. c .before .before .before .find-clean .ensures .none q (omega arith) (omega arith) e z);

@@ -14,67 +14,48 @@ Inv-loop ins starts marks n callers₀ p₀ callers p = StatesLoop ins starts ma
 abbrev μ-loop : tie.MeasureT-loop
 μ-loop ins starts marks n callers₀ p₀ callers p = n - p
 
--- src/parting.rt:235:5
 loop-holds : tie.Need-loop-holds Inv-loop μ-loop
-loop-holds c = no-states (c .before .before .before .before .pre .1)
+loop-holds c = no-states (c .before .before .before .pre .1)
 
--- src/parting.rt:236:21
 mul-b : tie.Need-mul-b Inv-loop μ-loop
-mul-b c = omega (arith, row-fits (c .before .before .before .before .before .before .pre .0) (c .loop-test .taken))
+mul-b c = omega (arith, row-fits (c .before .before .before .before .before .pre .0) (c .loop-test .taken))
 
--- src/parting.rt:236:17
 add-b : tie.Need-add-b Inv-loop μ-loop
-add-b c = omega (arith, row-fits (c .before .before .before .before .before .before .pre .0) (c .loop-test .taken))
+add-b c = omega (arith, row-fits (c .before .before .before .before .before .pre .0) (c .loop-test .taken))
 
--- src/parting.rt:237:27
 mul-number : tie.Need-mul-number Inv-loop μ-loop
-mul-number c = omega (arith, row-fits (c .before .before .before .before .before .before .pre .0) (c .loop-test .taken))
+mul-number c = omega (arith, row-fits (c .before .before .before .before .before .pre .0) (c .loop-test .taken))
 
--- src/parting.rt:237:27
 shared-slice-read-number : tie.Need-shared-slice-read-number Inv-loop μ-loop
-shared-slice-read-number c = omega (arith, row-fits (c .before .before .before .before .before .before .before .pre .0) (c .before .loop-test .taken), c .before .before .before .before .before .before .before .pre .0 .laid .long)
+shared-slice-read-number c = omega (arith, row-fits (c .before .before .before .before .before .before .pre .0) (c .before .loop-test .taken), c .before .before .before .before .before .before .pre .0 .laid .long)
 
--- src/parting.rt:237:13
 number-requires : tie.Need-number-requires Inv-loop μ-loop
 number-requires c κs = search needs
 
--- src/parting.rt:238:32
 add-number : tie.Need-add-number Inv-loop μ-loop
-add-number c = omega (arith, row-fits (c .before .before .before .before .before .before .before .before .pre .0) (c .before .before .loop-test .taken))
+add-number c = omega (arith, row-fits (c .before .before .before .before .before .before .before .pre .0) (c .before .before .loop-test .taken))
 
--- src/parting.rt:238:25
 mul-number-2 : tie.Need-mul-number-2 Inv-loop μ-loop
-mul-number-2 c = omega (arith, row-fits (c .before .before .before .before .before .before .before .before .pre .0) (c .before .before .loop-test .taken))
+mul-number-2 c = omega (arith, row-fits (c .before .before .before .before .before .before .before .pre .0) (c .before .before .loop-test .taken))
 
--- src/parting.rt:238:25
 shared-slice-read-number-2 : tie.Need-shared-slice-read-number-2 Inv-loop μ-loop
-shared-slice-read-number-2 c = omega (arith, row-fits (c .before .before .before .before .before .before .before .before .before .pre .0) (c .before .before .before .loop-test .taken), c .before .before .before .before .before .before .before .before .before .pre .0 .laid .long)
+shared-slice-read-number-2 c = omega (arith, row-fits (c .before .before .before .before .before .before .before .before .pre .0) (c .before .before .before .loop-test .taken), c .before .before .before .before .before .before .before .before .pre .0 .laid .long)
 
--- src/parting.rt:238:13
 number-requires-2 : tie.Need-number-requires-2 Inv-loop μ-loop
 number-requires-2 c κs = search needs
 
--- src/parting.rt:239:9
 flag-calls-requires : tie.Need-flag-calls-requires Inv-loop μ-loop
-flag-calls-requires c κs = (c .before .before .before .before .before .before .loop .inv .still .room, omega (arith, c .before .before .before .before .before .before .before .before .before .before .before .pre .0 .laid .inside _ (row-fits (c .before .before .before .before .before .before .before .before .before .before .before .pre .0) (c .before .before .before .before .before .loop-test .taken) .1), c .before .number2 .ensures), omega (arith, c .before .before .before .before .before .before .before .before .before .before .before .pre .0 .few-states, c .before .before .before .before .before .loop-test .taken))
+flag-calls-requires c κs = (c .before .before .before .before .before .before .loop .inv .still .room, omega (arith, c .before .before .before .before .before .before .before .before .before .before .pre .0 .laid .inside _ (row-fits (c .before .before .before .before .before .before .before .before .before .before .pre .0) (c .before .before .before .before .before .loop-test .taken) .1), c .before .number2 .ensures), omega (arith, c .before .before .before .before .before .before .before .before .before .before .pre .0 .few-states, c .before .before .before .before .before .loop-test .taken))
 
--- src/parting.rt:240:9
 add-p : tie.Need-add-p Inv-loop μ-loop
 add-p c = omega arith
 
--- src/parting.rt:235:5
 loop-less : tie.Need-loop-less Inv-loop μ-loop
 loop-less c = omega arith
 
--- src/parting.rt:235:5
 loop-again : tie.Need-loop-again Inv-loop μ-loop
-loop-again c = next-state (c .before .before .before .before .before .before .before .before .before .loop .inv) (c .before .before .flag-calls .ensures) (c .before .before .before .before .before .before .number .ensures) (c .before .before .before .before .number2 .ensures)
+loop-again c = next-state (c .before .before .before .before .before .before .before .loop .inv) (c .flag-calls .ensures) (c .before .before .before .before .number .ensures) (c .before .before .number2 .ensures)
 
--- src/parting.rt:224:1
-same-length : tie.Need-same-length Inv-loop μ-loop
-same-length c = c .before .loop .inv .still .room ∙ sym (c .before .before .before .before .before .before .pre .1)
-
--- src/parting.rt:224:1
 returns : tie.Need-returns Inv-loop μ-loop
 returns c = (c .before .loop .inv .still .room, all-states (c .before .loop .inv) (c .loop-test .left))
 
@@ -98,5 +79,4 @@ find-callers-spec =
     add-p
     loop-less
     loop-again
-    same-length
     returns)

@@ -15,55 +15,44 @@ Inv-loop ins starts marks old reps base count p k₀ k = (base ≤ k) × (k ≤ 
 abbrev μ-loop : tie.MeasureT-loop
 μ-loop ins starts marks old reps base count p k₀ k = count - k
 
--- src/parting.rt:93:5
 loop-holds : tie.Need-loop-holds Inv-loop μ-loop
 loop-holds c = (omega arith, omega arith, λ j h b. absurd (omega arith))
 
--- src/parting.rt:94:22
-shared-slice-read-wide : tie.Need-shared-slice-read-wide Inv-loop μ-loop
-shared-slice-read-wide c = search needs
+element-copy-out-wide : tie.Need-element-copy-out-wide Inv-loop μ-loop
+element-copy-out-wide c = search needs
 
--- src/parting.rt:94:13
 wide-requires : tie.Need-wide-requires Inv-loop μ-loop
 wide-requires c κs = search needs
 
--- src/parting.rt:95:12
 shared-slice-read-if1 : tie.Need-shared-slice-read-if1 Inv-loop μ-loop
-shared-slice-read-if1 c = omega (arith, c .before .wide .ensures, c .before .before .before .before .before .before .before .before .before .before .pre .4 (c .before .before .before .before .loop .k) (c .before .before .before .before .loop .inv .0) (c .before .before .before .loop-test .taken))
+shared-slice-read-if1 c = omega (arith, c .before .wide .ensures, c .before .before .before .before .before .before .before .before .before .pre .4 (c .before .before .before .before .loop .k) (c .before .before .before .before .loop .inv .0) (c .before .before .before .loop-test .taken))
 
--- src/parting.rt:95:22
 shared-slice-read-if1-2 : tie.Need-shared-slice-read-if1-2 Inv-loop μ-loop
 shared-slice-read-if1-2 c = search needs
 
--- src/parting.rt:96:16
 same-states-requires : tie.Need-same-states-requires Inv-loop μ-loop
-same-states-requires c κs = (c .before .before .before .before .before .before .before .before .before .before .before .before .pre .0, omega (arith, c .before .before .before .wide .ensures, c .before .before .before .before .before .before .before .before .before .before .before .before .pre .4 (c .before .before .before .before .before .before .loop .k) (c .before .before .before .before .before .before .loop .inv .0) (c .before .before .before .before .before .loop-test .taken)), c .before .before .before .before .before .before .before .before .before .before .before .before .pre .1)
+same-states-requires c κs = (c .before .before .before .before .before .before .before .before .before .before .before .pre .0, omega (arith, c .before .before .before .wide .ensures, c .before .before .before .before .before .before .before .before .before .before .before .pre .4 (c .before .before .before .before .before .before .loop .k) (c .before .before .before .before .before .before .loop .inv .0) (c .before .before .before .before .before .loop-test .taken)), c .before .before .before .before .before .before .before .before .before .before .before .pre .1)
 
--- src/parting.rt:97:17
 returns : tie.Need-returns Inv-loop μ-loop
 returns c =
-    let a = c .before .before .before .before .before .before .before .before .before .before .before .before .before .before .args in
+    let a = c .before .before .before .before .before .before .before .before .before .before .before .before .before .args in
     let i = c .before .before .before .before .before .before .before .before .loop in
     this-class (now (a .ins)) (now (a .starts)) (now (a .marks)) (now (a .old)) (now (a .reps)) (a .p) (i .k) (c .before .before .before .before .before .wide .ensures) (i .inv .0) (c .before .before .before .before .before .before .before .loop-test .taken) (i .inv .2) (c .before .before .if1 .taken) (c .before .same-states .ensures) (c .if2 .taken)
 
--- src/parting.rt:100:9
 add-k : tie.Need-add-k Inv-loop μ-loop
 add-k c = search needs
 
--- src/parting.rt:93:5
 loop-less : tie.Need-loop-less Inv-loop μ-loop
 loop-less c = search needs
 
--- src/parting.rt:93:5
 loop-again : tie.Need-loop-again Inv-loop μ-loop
 loop-again c =
-    let a = c .before .before .before .before .before .before .before .before .before .before .before .before .args in
+    let a = c .before .before .before .before .before .before .before .before .before .before .before .args in
     let i = c .before .before .before .before .before .before .loop in
     let e = c .before .before .before .wide .ensures in
     let miss : Misses (now (a .ins)) (now (a .starts)) (now (a .marks)) (now (a .old)) (now (a .reps)) (a .p) (i .k) = ⊎-elim (λ w. other-rhs (now (a .ins)) (now (a .starts)) (now (a .marks)) (now (a .old)) (now (a .reps)) (a .p) (i .k) e (w .1 .ensures) (w .2 .left)) (λ w. other-class (now (a .ins)) (now (a .starts)) (now (a .marks)) (now (a .old)) (now (a .reps)) (a .p) (i .k) e (w .left)) (c .if1 .came) in
     (omega arith, omega arith, below-more (λ j. a .base ≤ j → Misses (now (a .ins)) (now (a .starts)) (now (a .marks)) (now (a .old)) (now (a .reps)) (a .p) j) (i .k) (i .inv .2) (λ b. miss))
 
--- src/parting.rt:79:1
 returns-2 : tie.Need-returns-2 Inv-loop μ-loop
 returns-2 c = record { low = omega arith; small = omega arith; found = λ h. absurd (omega arith); none = λ j b h. c .before .loop .inv .2 j (omega arith) b }
 
@@ -74,7 +63,7 @@ find-class-spec =
     Inv-loop
     μ-loop
     loop-holds
-    shared-slice-read-wide
+    element-copy-out-wide
     wide-requires
     shared-slice-read-if1
     shared-slice-read-if1-2

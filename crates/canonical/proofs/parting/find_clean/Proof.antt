@@ -17,38 +17,30 @@ Inv-loop classes dirty c from to q₀ q = (j : ℕ) → j < q → from ≤ j →
 abbrev μ-loop : tie.MeasureT-loop
 μ-loop classes dirty c from to q₀ q = to - q
 
--- src/parting.rt:15:5
 loop-holds : tie.Need-loop-holds Inv-loop μ-loop
 loop-holds c = search needs
 
--- src/parting.rt:16:12
 shared-slice-read-if1 : tie.Need-shared-slice-read-if1 Inv-loop μ-loop
 shared-slice-read-if1 c = search needs
 
--- src/parting.rt:17:16
-shared-slice-read-if2 : tie.Need-shared-slice-read-if2 Inv-loop μ-loop
-shared-slice-read-if2 c = search needs
+element-copy-out-if2 : tie.Need-element-copy-out-if2 Inv-loop μ-loop
+element-copy-out-if2 c = search needs
 
--- src/parting.rt:18:17
 returns : tie.Need-returns Inv-loop μ-loop
 returns c = record { small = omega arith; found = λ h. (c .before .before .if1 .taken, c .if2 .taken); none = λ q l h e z. c .before .before .before .before .before .loop .inv q h l e z }
 
--- src/parting.rt:21:9
 add-q : tie.Need-add-q Inv-loop μ-loop
 add-q c = search needs
 
--- src/parting.rt:15:5
 loop-less : tie.Need-loop-less Inv-loop μ-loop
 loop-less c = search needs
 
--- src/parting.rt:15:5
 loop-again : tie.Need-loop-again Inv-loop μ-loop
 loop-again c =
     let a = c .before .before .before .before .args in
     let q = c .before .before .before .loop .q in
     below-more (λ j. a .from ≤ j → at (now (a .classes)) j ≡ a .c → Clean (now (a .dirty)) j → ⊥) q (c .before .before .before .loop .inv) (λ l e z. ⊎-elim (λ w. w .2 .left z) (λ w. w .left e) (c .if1 .came))
 
--- src/parting.rt:10:1
 returns-2 : tie.Need-returns-2 Inv-loop μ-loop
 returns-2 c = record { small = omega arith; found = λ h. absurd (omega arith); none = λ q l h e z. c .before .loop .inv q (omega arith) l e z }
 
@@ -60,7 +52,7 @@ find-clean-spec =
     μ-loop
     loop-holds
     shared-slice-read-if1
-    shared-slice-read-if2
+    element-copy-out-if2
     returns
     add-q
     loop-less

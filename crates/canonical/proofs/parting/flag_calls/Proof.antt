@@ -14,58 +14,42 @@ Inv-loop marks from to p callers₀ j₀ callers j = CallsLoop marks from p call
 abbrev μ-loop : tie.MeasureT-loop
 μ-loop marks from to p callers₀ j₀ callers j = to - j
 
--- src/parting.rt:212:5
 loop-holds : tie.Need-loop-holds Inv-loop μ-loop
-loop-holds c = no-calls (c .before .before .pre .0)
+loop-holds c = no-calls (c .before .pre .0)
 
--- src/parting.rt:213:28
 mul-wide : tie.Need-mul-wide Inv-loop μ-loop
 mul-wide c = search needs
 
--- src/parting.rt:213:28
 add-wide : tie.Need-add-wide Inv-loop μ-loop
 add-wide c = search needs
 
--- src/parting.rt:213:22
 shared-slice-read-wide : tie.Need-shared-slice-read-wide Inv-loop μ-loop
 shared-slice-read-wide c = search needs
 
--- src/parting.rt:213:13
 wide-requires : tie.Need-wide-requires Inv-loop μ-loop
 wide-requires c κs = search needs
 
--- src/parting.rt:214:18
 mul-if1 : tie.Need-mul-if1 Inv-loop μ-loop
 mul-if1 c = search needs
 
--- src/parting.rt:214:12
 shared-slice-read-if1 : tie.Need-shared-slice-read-if1 Inv-loop μ-loop
 shared-slice-read-if1 c = search needs
 
--- src/parting.rt:216:17
 flag-call-requires : tie.Need-flag-call-requires Inv-loop μ-loop
-flag-call-requires c κs = (c .before .before .before .before .before .before .before .loop .inv .still .room, c .before .if2 .taken, c .before .before .before .before .before .before .before .before .before .before .pre .2)
+flag-call-requires c κs = (c .before .before .before .before .before .before .before .loop .inv .still .room, c .before .if2 .taken, c .before .before .before .before .before .before .before .before .before .pre .2)
 
--- src/parting.rt:219:9
 add-j : tie.Need-add-j Inv-loop μ-loop
 add-j c = search needs
 
--- src/parting.rt:212:5
 loop-less : tie.Need-loop-less Inv-loop μ-loop
 loop-less c = search needs
 
--- src/parting.rt:212:5
 loop-again : tie.Need-loop-again Inv-loop μ-loop
 loop-again c =
     let L = c .before .before .before .before .before .loop .inv in
     let e = c .before .before .wide .ensures in
-    ⊎-elim (λ w. rw (w .6) (next-flagged L e (w .3 .ensures))) (⊎-elim (λ w. rw (w .2) (next-other L (λ z x. omega (arith, w .1 .left)))) (λ w. rw (w .1) (next-other L (λ z x. omega (arith, w .0 .left))))) (c .if1 .came)
+    ⊎-elim (λ w. rw (w .4) (next-flagged L e (w .3 .ensures))) (⊎-elim (λ w. rw (w .2) (next-other L (λ z x. omega (arith, w .1 .left)))) (λ w. rw (w .1) (next-other L (λ z x. omega (arith, w .0 .left))))) (c .if1 .came)
 
--- src/parting.rt:201:1
-same-length : tie.Need-same-length Inv-loop μ-loop
-same-length c = c .before .loop .inv .still .room ∙ sym (c .before .before .before .before .pre .0)
-
--- src/parting.rt:201:1
 returns : tie.Need-returns Inv-loop μ-loop
 returns c = all-calls (c .before .loop .inv) (c .loop-test .left)
 
@@ -86,5 +70,4 @@ flag-calls-spec =
     add-j
     loop-less
     loop-again
-    same-length
     returns)

@@ -16,81 +16,47 @@ Inv-loop ins starts marks old₀ new₀ dirty₀ reps₀ list₀ moved₀ count 
 abbrev μ-loop : tie.MeasureT-loop
 μ-loop ins starts marks old₀ new₀ dirty₀ reps₀ list₀ moved₀ count m callers base₀ k₀ old new dirty reps list moved base k = left (length old₀) base k
 
--- src/parting.rt:358:49
-slice-aggregate-find-callers : tie.Need-slice-aggregate-find-callers Inv-loop μ-loop
-slice-aggregate-find-callers c = search needs
-
--- src/parting.rt:358:5
 find-callers-requires : tie.Need-find-callers-requires Inv-loop μ-loop
-find-callers-requires c κs = (can-flag (c .before .before .before .before .before .before .before .before .before .before .pre .classed), length-replicate {A = ℕ} 16640 0)
+find-callers-requires c κs = (can-flag (c .before .before .before .before .before .before .pre .classed), length-replicate {A = ℕ} 16640 0)
 
--- src/parting.rt:361:5
 loop-holds : tie.Need-loop-holds Inv-loop μ-loop
-loop-holds c = record { room = c .before .find-callers .ensures .0; calls = c .before .find-callers .ensures .1; long = refl; parted = c .before .before .before .before .before .before .before .before .before .before .before .before .pre }
+loop-holds c = record { room = c .find-callers .ensures .0; calls = c .find-callers .ensures .1; long = refl; parted = c .before .before .before .before .before .before .before .pre }
 
--- src/parting.rt:363:13
-slice-aggregate-next-round : tie.Need-slice-aggregate-next-round Inv-loop μ-loop
-slice-aggregate-next-round c = search needs
-
--- src/parting.rt:362:13
 next-round-requires : tie.Need-next-round-requires Inv-loop μ-loop
 next-round-requires c κs =
     let L = c .before .before .before .before .before .before .before .before .loop .inv in
-    (L .room, L .parted .rounded .listed, L .parted .rounded .round .long, L .parted .classed .layout .few-states, L .parted .rounded .clean, L .parted .flags, L .parted .names, L .parted .room)
+    (L .room, L .parted .rounded .listed, L .parted .rounded .round .long, L .parted .classed .layout .few-states, L .parted .rounded .clean, L .parted .rounded .round .flags, L .parted .rounded .round .names, L .parted .room)
 
--- src/parting.rt:372:13
 part-round-requires : tie.Need-part-round-requires Inv-loop μ-loop
 part-round-requires c κs =
-    let L = c .before .before .before .before .before .before .before .before .before .before .before .before .before .before .before .before .before .before .before .before .before .before .before .loop .inv in
-    let N = c .before .before .before .before .before .before .before .before .before .before .before .before .before .before .next-round in
-    next-asks (L .parted) (rw (L .long) (L .calls)) (N .ensures) (N .kept .1 .0) (N .kept .1 .1 .1 .0) (N .kept .1 .1 .1 .1 .0)
+    let L = c .before .before .before .before .before .before .before .before .before .before .before .before .before .before .before .before .before .loop .inv in
+    let N = c .before .before .before .before .before .before .before .before .next-round in
+    next-asks (L .parted) (rw (L .long) (L .calls)) (N .ensures) (N .kept .1 .0)
 
--- src/parting.rt:361:5
 loop-less : tie.Need-loop-less Inv-loop μ-loop
 loop-less c =
-    let L = c .before .before .before .before .before .before .before .before .before .before .before .before .before .before .before .before .before .before .before .before .before .before .before .before .before .before .before .before .before .before .before .before .loop .inv in
-    let N = c .before .before .before .before .before .before .before .before .before .before .before .before .before .before .before .before .before .before .before .before .before .before .before .next-round in
-    let R = c .before .before .before .before .before .before .before .before .part-round in
-    next-less (L .parted) (rw (L .long) (L .calls)) (N .ensures) (N .kept .1 .0) (R .ensures) (length (now (c .before .before .before .before .before .before .before .before .before .before .before .before .before .before .before .before .before .before .before .before .before .before .before .before .before .before .before .before .before .before .before .before .before .before .before .before .before .before .before .before .before .before .before .before .before .args .old))) (sym (L .long)) (c .before .before .before .before .before .before .before .before .before .before .before .before .before .before .before .before .before .before .before .before .before .before .before .before .before .before .before .before .before .before .before .loop-test .taken)
+    let L = c .before .before .before .before .before .before .before .before .before .before .before .before .before .before .before .before .before .before .before .before .loop .inv in
+    let N = c .before .before .before .before .before .before .before .before .before .before .before .next-round in
+    let R = c .before .before .part-round in
+    next-less (L .parted) (rw (L .long) (L .calls)) (N .ensures) (N .kept .1 .0) (R .ensures) (length (now (c .before .before .before .before .before .before .before .before .before .before .before .before .before .before .before .before .before .before .before .before .before .before .before .before .before .before .before .before .args .old))) (sym (L .long)) (c .before .before .before .before .before .before .before .before .before .before .before .before .before .before .before .before .before .before .before .loop-test .taken)
 
--- src/parting.rt:361:5
 loop-again : tie.Need-loop-again Inv-loop μ-loop
 loop-again c =
-    let L = c .before .before .before .before .before .before .before .before .before .before .before .before .before .before .before .before .before .before .before .before .before .before .before .before .before .before .before .before .before .before .before .before .loop .inv in
-    let N = c .before .before .before .before .before .before .before .before .before .before .before .before .before .before .before .before .before .before .before .before .before .before .before .next-round in
-    let R = c .before .before .before .before .before .before .before .before .part-round in
+    let L = c .before .before .before .before .before .before .before .before .before .before .before .before .before .before .before .before .before .before .before .before .loop .inv in
+    let N = c .before .before .before .before .before .before .before .before .before .before .before .next-round in
     record {
       room = L .room;
       calls = L .calls;
       long = N .kept .1 .0 ∙ L .long;
-      parted = next-parted (L .parted) (rw (L .long) (L .calls)) (N .ensures) (N .kept .1 .0) (R .ensures) (R .kept .1 .1 .1 .1 .1 .0 ∙ N .kept .1 .1 .1 .0 ∙ L .parted .flags) (R .kept .1 .1 .1 .1 .1 .1 .0 ∙ N .kept .1 .1 .1 .1 .0 ∙ L .parted .names) (N .kept .1 .1 .1 .1 .1 .0 ∙ L .parted .room);
+      parted = next-parted (L .parted) (rw (L .long) (L .calls)) (N .ensures) (N .kept .1 .0) (c .before .before .part-round .ensures);
     }
 
--- src/parting.rt:341:1
 same-length : tie.Need-same-length Inv-loop μ-loop
 same-length c = c .before .loop .inv .long
 
--- src/parting.rt:341:1
 same-length-2 : tie.Need-same-length-2 Inv-loop μ-loop
-same-length-2 c = c .before .loop .inv .parted .rounded .round .long ∙ c .before .loop .inv .long ∙ sym (c .before .before .before .before .before .before .before .before .before .before .before .before .before .before .pre .rounded .round .long)
+same-length-2 c = c .before .loop .inv .parted .rounded .round .long ∙ c .before .loop .inv .long ∙ sym (c .before .before .before .before .before .before .before .before .before .pre .rounded .round .long)
 
--- src/parting.rt:341:1
-same-length-3 : tie.Need-same-length-3 Inv-loop μ-loop
-same-length-3 c = c .before .loop .inv .parted .flags ∙ sym (c .before .before .before .before .before .before .before .before .before .before .before .before .before .before .pre .flags)
-
--- src/parting.rt:341:1
-same-length-4 : tie.Need-same-length-4 Inv-loop μ-loop
-same-length-4 c = c .before .loop .inv .parted .names ∙ sym (c .before .before .before .before .before .before .before .before .before .before .before .before .before .before .pre .names)
-
--- src/parting.rt:341:1
-same-length-5 : tie.Need-same-length-5 Inv-loop μ-loop
-same-length-5 c = c .before .loop .inv .parted .room ∙ sym (c .before .before .before .before .before .before .before .before .before .before .before .before .before .before .pre .room)
-
--- src/parting.rt:341:1
-same-length-6 : tie.Need-same-length-6 Inv-loop μ-loop
-same-length-6 c = c .before .loop .inv .parted .rounded .listed .room ∙ sym (c .before .before .before .before .before .before .before .before .before .before .before .before .before .before .pre .rounded .listed .room)
-
--- src/parting.rt:341:1
 returns : tie.Need-returns Inv-loop μ-loop
 returns c = rw (c .before .loop .inv .long) at (parted-stable (c .before .loop .inv .parted) (omega arith))
 
@@ -100,18 +66,12 @@ part-more-spec =
     (tie.spec
     Inv-loop
     μ-loop
-    slice-aggregate-find-callers
     find-callers-requires
     loop-holds
-    slice-aggregate-next-round
     next-round-requires
     part-round-requires
     loop-less
     loop-again
     same-length
     same-length-2
-    same-length-3
-    same-length-4
-    same-length-5
-    same-length-6
     returns)

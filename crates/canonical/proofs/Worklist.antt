@@ -9,7 +9,7 @@ use mathlib.Core.Path.{_≡_, refl, sym, ap, _∙_}
 use lib.ListN.{length, set, length-set}
 use lib.Seq.{getD-set-same, getD-set-other}
 use Rattle.canonical.specs.Inner.Classes.{at}
-use Rattle.canonical.specs.Inner.Parting.{Clean, Moved, Flagged, sign, dirtyCount, Queue, FlagsCallers, Spreads, AllDirty}
+use Rattle.canonical.specs.Inner.Parting.{Clean, Moved, Flagged, sign, dirtyCount, Queue, FlagsCallers, FlagsMoved, AllDirty}
 
 -- ---- how many states are dirty
 pub one-sign : (x : ℕ) → sign x ≤ 1
@@ -114,7 +114,7 @@ module _ {callers : List ℕ} {r n : ℕ} {dirty₀ : List ℕ} {to : ℕ} {dirt
     flag-new = flag-next (length-set dirty q 1 ∙ L .flags) (queue-more (L .queue) (L .flags) few less d) (still-dirty (L .queue) (L .flags) few less d) (λ k e. now-dirty (L .queue) (L .flags) few less d e)
 
   pub flag-end : to ≤ q → FlagsCallers callers r n dirty₀ dirty list len
-  flag-end h = record { queue = L .queue; still = L .still; flagged = λ p l F d. L .passed p (omega (arith, L .reaches p l (F .high))) (F .low) (F .flag) d }
+  flag-end h = record { flags = L .flags; queue = L .queue; still = L .still; flagged = λ p l F d. L .passed p (omega (arith, L .reaches p l (F .high))) (F .low) (F .flag) d }
 
 -- ---- all states
 -- those before state q are dirty and listed, and no state stands for a class before q
@@ -138,6 +138,8 @@ all-next {dirty} {reps} {list} {q} L h = record {
 
 pub all-end : {dirty reps list : List ℕ} {n q : ℕ} → AllLoop dirty reps list q → n ≤ 128 → n ≤ q → AllDirty dirty reps list n
 all-end {list = list} L few h = record {
+  flags = L .flags;
+  names = L .names;
   listed = record {
     room = L .room;
     few = few;
@@ -150,15 +152,15 @@ all-end {list = list} L few h = record {
 
 -- ---- the callers of the moved states
 -- the moved states before number j have their new classes, and their callers are dirty
-pub record SpreadLoop (callers old₀ new moved : List ℕ) (m : ℕ) (old dirty list : List ℕ) (len j : ℕ) : Type 0 where
+pub record MovedLoop (callers old₀ new moved : List ℕ) (m : ℕ) (old dirty list : List ℕ) (len j : ℕ) : Type 0 where
   pub long : length old ≡ length old₀
   pub flags : length dirty ≡ 128
   pub queue : Queue dirty list (length old₀) len
   pub left : (q : ℕ) → q < length old₀ → (at new q ≡ at old q) ⊎ ((i : ℕ) × ((j ≤ i) × (i < m) × (at moved i ≡ q)))
   pub passed : (i : ℕ) → i < j → (q : ℕ) → q < length old₀ → Flagged callers (at moved i) q → Clean dirty q → ⊥
 
-pub spread-start : {callers old new moved dirty list : List ℕ} {m : ℕ} → Moved old new moved m → ((q : ℕ) → q < length old → Clean dirty q) → length dirty ≡ 128 → length list ≡ 128 → SpreadLoop callers old new moved m old dirty list 0 0
-spread-start M z f l = record {
+pub moved-start : {callers old new moved dirty list : List ℕ} {m : ℕ} → Moved old new moved m → ((q : ℕ) → q < length old → Clean dirty q) → length dirty ≡ 128 → length list ≡ 128 → MovedLoop callers old new moved m old dirty list 0 0
+moved-start M z f l = record {
   long = refl;
   flags = f;
   queue = record { listed = record { room = l; few = omega arith; states = λ j h. absurd (omega arith); all = λ q h d. absurd (d (z q h)) }; counted = omega arith };
@@ -166,23 +168,24 @@ spread-start M z f l = record {
   passed = λ i h. absurd (omega arith);
 }
 
-module _ {callers old₀ new moved : List ℕ} {m : ℕ} {old dirty list : List ℕ} {len j p : ℕ} (L : SpreadLoop callers old₀ new moved m old dirty list len j) (M : Moved old₀ new moved m) (h : j < m) (e : p ≡ at moved j) where
-  pub spread-state : p < length old₀
-  spread-state = rw e (M .states j h)
+module _ {callers old₀ new moved : List ℕ} {m : ℕ} {old dirty list : List ℕ} {len j p : ℕ} (L : MovedLoop callers old₀ new moved m old dirty list len j) (M : Moved old₀ new moved m) (h : j < m) (e : p ≡ at moved j) where
+  pub moved-state : p < length old₀
+  moved-state = rw e (M .states j h)
 
-  pub spread-next : {n : ℕ} {dirty′ list′ : List ℕ} {len′ : ℕ} → n ≡ length old₀ → FlagsCallers callers p n dirty dirty′ list′ len′ → length dirty′ ≡ length dirty → SpreadLoop callers old₀ new moved m (set old p (at new p)) dirty′ list′ len′ (j + 1)
-  spread-next {dirty′ = dirty′} z F f = record {
+  pub moved-next : {n : ℕ} {dirty′ list′ : List ℕ} {len′ : ℕ} → n ≡ length old₀ → FlagsCallers callers p n dirty dirty′ list′ len′ → MovedLoop callers old₀ new moved m (set old p (at new p)) dirty′ list′ len′ (j + 1)
+  moved-next z F = record {
     long = length-set old p (at new p) ∙ L .long;
-    flags = f ∙ L .flags;
+    flags = F .flags;
     queue = rw z at (F .queue);
     left = λ q l. by-cases (ℕ-discrete q p)
-        (λ x. inl (rw x (sym (getD-set-same old p (at new p) 0 (omega (arith, L .long, spread-state))))))
+        (λ x. inl (rw x (sym (getD-set-same old p (at new p) 0 (omega (arith, L .long, moved-state))))))
         (λ x. ⊎-elim (λ w. inl (w ∙ sym (getD-set-other old p q (at new p) 0 x))) (λ w. let y : w .0 ≡ j → ⊥ = λ y. x (sym (w .1 .2) ∙ ap (at moved) y ∙ sym e) in inr (w .0, (omega arith, w .1 .1, w .1 .2))) (L .left q l));
     passed = λ i l. by-cases (ℕ-discrete i j) (λ x q k G d. F .flagged q (omega arith) (rw (x, ← e) at G) d) (λ x q k G d. L .passed i (omega arith) q k G (F .still q d));
   }
 
-pub spread-end : {callers old₀ new moved : List ℕ} {m : ℕ} {old dirty list : List ℕ} {len j : ℕ} → SpreadLoop callers old₀ new moved m old dirty list len j → Moved old₀ new moved m → m ≤ j → Spreads callers old₀ new old dirty list len
-spread-end L M h = record {
+pub moved-end : {callers old₀ new moved : List ℕ} {m : ℕ} {old dirty list : List ℕ} {len j : ℕ} → MovedLoop callers old₀ new moved m old dirty list len j → Moved old₀ new moved m → m ≤ j → FlagsMoved callers old₀ new old dirty list len
+moved-end L M h = record {
+  flags = L .flags;
   same = λ q l. ⊎-elim (λ w. w) (λ w. absurd (omega arith)) (L .left q l);
   listed = L .queue .listed;
   flagged = λ r q k l f F d. ⊎-elim (λ w. f w) (λ w. L .passed (w .0) (omega arith) q l (rw (w .1 .1) F) d) (M .all r k);
