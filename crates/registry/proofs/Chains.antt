@@ -1,4 +1,4 @@
--- Bodies that follow one another, body after body; and records that are unused, record after record.
+-- Bodies that follow one another, body after body; and a record that is unused.
 -- Assumes nothing.
 use Prim.Native.Nat.{ℕ, zero, suc, _+_, _-_, _≤_, _<_}
 use native.Mathlib.Nat.{zero-add, suc-add}
@@ -8,16 +8,16 @@ use mathlib.Core.List.{List}
 use lib.ListN.{take, drop}
 use mathlib.Core.Path.{_≡_, refl, sym, ap, ap₂, _∙_}
 use borrow.Author.Count.{below-more}
-use Rattle.registry.specs.Book.{noRecord, recordAt, body, total, Follow, Unused}
+use Rattle.registry.specs.Book.{noRecord, recordAt, body, total, Follow}
 use Rattle.registry.specs.declared.book.Record.{Record}
 
 -- the sum up to a body is at most that up to a later one
-pub total-more : (rs : List Record) (m k : ℕ) → total rs m ≤ total rs (k + m)
+total-more : (rs : List Record) (m k : ℕ) → total rs m ≤ total rs (k + m)
 unfolding total
 total-more rs m zero = rw zero-add (omega arith)
 total-more rs m (suc k) = rw suc-add (omega (arith, total-more rs m k))
 
-pub total-mono : (rs : List Record) (m n : ℕ) → m ≤ n → total rs m ≤ total rs n
+total-mono : (rs : List Record) (m n : ℕ) → m ≤ n → total rs m ≤ total rs n
 total-mono rs m n h = let e : (n - m) + m ≡ n = omega arith in rw e at (total-more rs m (n - m))
 
 pub total-next : (rs : List Record) (n : ℕ) → total rs (suc n) ≡ total rs n + recordAt rs n .size
@@ -39,16 +39,6 @@ module _ {rs : List Record} {i at : ℕ} (P : Passed rs i at) where
     starts = below-more (λ k. recordAt rs k .start ≡ total rs k) i (P .starts) (sym (ap (λ w. w .start) q) ∙ s ∙ P .sum);
     sum = rw add-one (ap₂ _+_ (P .sum) (ap (λ w. w .size) q) ∙ sym (total-next rs i));
   }
-
-  module _ {held used : ℕ} (F : Follow held used rs) where
-    pub starts-here : {e : Record} → i ≤ held → e ≡ recordAt rs i → e .start ≡ at
-    starts-here h q = ap (λ w. w .start) q ∙ F .starts i h ∙ sym (P .sum)
-
-    pub ends-inside : {e : Record} → i ≤ held → e ≡ recordAt rs i → at + e .size ≤ used
-    ends-inside {e} h q = omega (arith, P .sum, F .sum, ap (λ w. w .size) q, total-next rs i, total-mono rs (suc i) (suc held) (omega arith))
-
-    pub sum-is : i ≡ suc held → used ≡ at
-    sum-is h = F .sum ∙ ap (total rs) (sym h) ∙ sym (P .sum)
 
   pub all-passed : {held used : ℕ} → i ≡ suc held → used ≡ at → Follow held used rs
   all-passed {held} h u = record { starts = λ k g. P .starts k (omega arith); sum = u ∙ P .sum ∙ ap (total rs) h }
@@ -74,7 +64,7 @@ module _ {held used : ℕ} {rs : List Record} (F : Follow held used rs) where
   pub body-end : (i : ℕ) → i ≤ held → recordAt rs i .start + recordAt rs i .size ≤ used
   body-end i h = omega (arith, F .starts i h, F .sum, total-next rs i, total-mono rs (suc i) (suc held) (omega arith))
 
-  pub first-start : recordAt rs 0 .start ≡ 0
+  first-start : recordAt rs 0 .start ≡ 0
   unfolding total
   first-start = F .starts 0 (omega arith)
 
@@ -82,23 +72,6 @@ module _ {held used : ℕ} {rs : List Record} (F : Follow held used rs) where
 pub unused-one : {e : Record} → e .start ≡ 0 → e .size ≡ 0 → e ≡ noRecord
 unused-one {e} s z = ap₂ (λ (a b : ℕ). record { start = a; size = b }) s z
 
--- of the records behind `held` those below i are unused
-abbrev pub Empty : List Record → ℕ → ℕ → Type 0
-Empty rs held i = (k : ℕ) → k < i → held < k → recordAt rs k ≡ noRecord
-
-pub empty-none : (rs : List Record) (held : ℕ) → Empty rs held (held + 1)
-empty-none rs held k h g = absurd (omega arith)
-
-pub empty-more : (rs : List Record) (held i : ℕ) → Empty rs held i → recordAt rs i ≡ noRecord → Empty rs held (i + 1)
-empty-more rs held i E e = below-more (λ k. held < k → recordAt rs k ≡ noRecord) i E (λ g. e)
-
-pub all-empty : {rs : List Record} {held i : ℕ} → Empty rs held i → 33 ≤ i → Unused held rs
-all-empty E h = record { none = λ k g l. E k (omega arith) g }
-
 -- the bytes from 0 to the end of body 0 are body 0
 pub stock-part : {held used : ℕ} {rs : List Record} (area : List ℕ) {e : Record} → Follow held used rs → e ≡ recordAt rs 0 → take (e .size - 0) (drop 0 area) ≡ body rs area 0
 stock-part area {e} F q = ap₂ (λ (n k : ℕ). take n (drop k area)) (let z : e .size - 0 ≡ e .size = omega arith in z ∙ ap (λ w. w .size) q) (sym (first-start F))
-
--- the bytes that a record tells are the body
-pub body-part : (rs : List Record) (i : ℕ) (area : List ℕ) {e : Record} → e ≡ recordAt rs i → take (e .start + e .size - e .start) (drop (e .start) area) ≡ body rs area i
-body-part rs i area {e} q = ap₂ (λ (n k : ℕ). take n (drop k area)) (let z : e .start + e .size - e .start ≡ e .size = omega arith in z ∙ ap (λ w. w .size) q) (ap (λ w. w .start) q)

@@ -1,3 +1,4 @@
 -- What only inner functions and their proofs speak of.
-pub mod Tables
+pub mod Surveys
+pub mod Writes
 pub mod Steps

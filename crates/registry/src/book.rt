@@ -1,10 +1,8 @@
-// The head, the records and the table of all records by value.
-ghost use mathlib.Core.Path.{_≡_};
-ghost use Prim.Native.Nat.{_<_};
-ghost use Rattle.registry.specs.Inner.Tables.{blankTable, withRecord, tableAt};
+// The head and the records of a registry, what its calls answer, and what their steps hand on.
 use formats::refusal::Refusal;
 
 // How many transducers are held, how many bytes of the area are used, how many entries were answered.
+#[repr(C)]
 pub struct Head {
     pub held: usize,
     pub used: usize,
@@ -12,14 +10,10 @@ pub struct Head {
 }
 
 // Where a body starts in the area, and how many bytes it has.
+#[repr(C)]
 pub struct Record {
     pub start: usize,
     pub size: usize,
-}
-
-// The first 33 records, by value.
-pub struct Table {
-    pub records: [Record; 33],
 }
 
 // The number that an entry gets, or the refusal.
@@ -34,42 +28,38 @@ pub enum Made {
     Refused(Refusal),
 }
 
-// The head and the table as a step leaves them, and what it answers.
-pub struct Stepped {
+// What the records passed tell: whether they are as a registry's, where the next body starts, the first record and the wanted one.
+pub struct Survey {
+    pub right: bool,
+    pub end: usize,
+    pub first: Record,
+    pub wanted: Record,
+}
+
+// That an entry has a clean file, or the refusal.
+pub enum Verdict {
+    Clean,
+    Refused(Refusal),
+}
+
+// What is known of an entry before the search: the verdict, how many bodies are to be searched and how long the clean file is, both 0 on a refusal.
+pub struct Asked {
+    pub verdict: Verdict,
+    pub held: usize,
+    pub size: usize,
+}
+
+// What an entry leaves and answers: the head, and the record that is added with its number, which is 0 where none is.
+pub struct Entry {
     pub head: Head,
-    pub table: Table,
+    pub number: usize,
+    pub new: Record,
     pub answer: Entered,
 }
 
-// The head and the table as making leaves them, and what it answers.
+// What making leaves and answers: the head, and how many records are made new.
 pub struct Started {
     pub head: Head,
-    pub table: Table,
+    pub fresh: usize,
     pub answer: Made,
-}
-
-// A table of unused records.
-pub fn blank() -> Table
-    ensures { λ r. ⌜ r ≡ blankTable ⌝ }
-{
-    let n = Record { start: 0, size: 0 };
-    Table { records: [n; 33] }
-}
-
-// The table with another record at i.
-pub fn put(t: Table, i: usize, r: Record) -> Table
-    requires { ⌜ i < 33 ⌝ }
-    ensures { λ s. ⌜ s ≡ withRecord t i r ⌝ }
-{
-    let mut u = t;
-    u.records[i] = r;
-    u
-}
-
-// The record at i.
-pub fn pick(t: Table, i: usize) -> Record
-    requires { ⌜ i < 33 ⌝ }
-    ensures { λ r. ⌜ r ≡ tableAt t i ⌝ }
-{
-    t.records[i]
 }

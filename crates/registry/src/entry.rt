@@ -1,53 +1,93 @@
 // Entry: the normal form of a transducer is found or added.
-ghost use Prim.Native.Nat.{_≤_, _<_};
+ghost use Prim.Native.Nat.{ℕ, _≤_, _<_, min};
+ghost use mathlib.Core.List.{List};
 ghost use mathlib.Core.Path.{_≡_};
-ghost use lib.ListN.{length};
+ghost use lib.ListN.{length, take};
+ghost use Rattle.formats.specs.Sheet.{longest};
 ghost use Rattle.registry.specs.Answers.{Room};
-ghost use Rattle.registry.specs.Book.{Chained};
-ghost use Rattle.registry.specs.Inner.Steps.{Adds, Counts, refusedBy, StepsWith, Steps};
+ghost use Rattle.registry.specs.Inner.Steps.{clean, Finds, Ready, Adds, Counts, refusedBy, refusedAsk, unchanged, Asks, StepsWith, Places};
+ghost use Rattle.registry.specs.Inner.Surveys.{Surveyed, Told};
+ghost use Rattle.registry.specs.declared.book.Record.{Record as Records};
+use crate::book::Asked;
 use crate::book::Entered;
+use crate::book::Entry;
 use crate::book::Head;
 use crate::book::Record;
-use crate::book::Stepped;
-use crate::book::Table;
-use crate::book::put;
+use crate::book::Survey;
+use crate::book::Verdict;
 use crate::chain::chained;
-use crate::search::body_at;
-use crate::search::find;
+use crate::search::body_of;
 use canonical::normal::clean;
 use earliest::earliest::Formed;
 use formats::file::copy_at;
 use formats::refusal::Refusal;
 
+// An entry that is refused before the search.
+fn refuse_early(r: Refusal) -> Asked
+    ensures { λ a. ⌜ a ≡ refusedAsk r ⌝ }
+{
+    Asked {
+        verdict: Verdict::Refused(r),
+        held: 0,
+        size: 0,
+    }
+}
+
+// Cleans the file `sheet` into `file` under the alphabets of the registry; n records told s.
+pub(crate) fn ask(h: Head, n: usize, s: Survey, area: &[u8], sheet: &[u8], file: &mut [u8]) -> Asked
+    requires { ⌜ Told h 0 n s × (longest ≤ length (now file)) ⌝ }
+    ensures { λ a. ⌜ (a .size ≤ length (now (file .exit))) × ((rs : List Records) → length rs ≡ n → Surveyed h 0 rs (min n 33) s → Asks (now (sheet .entry)) h rs (now (area .entry)) (take (a .size) (now (file .exit))) a) ⌝ }
+{
+    if !chained(h, n, s, area) {
+        return refuse_early(Refusal::BadRegistry);
+    }
+    match clean(body_of(s.first, area), sheet, file) {
+        Formed::Form(_, _, size) => Asked {
+            verdict: Verdict::Clean,
+            held: h.held,
+            size: size,
+        },
+        Formed::Refused(r) => refuse_early(r),
+    }
+}
+
+// The first bytes of a file.
+pub(crate) fn part(file: &[u8], size: usize) -> &[u8]
+    requires { ⌜ size ≤ length (now file) ⌝ }
+    ensures { λ r. ⌜ now r ≡ take size (now (file .entry)) ⌝ }
+{
+    &file[0..size]
+}
+
 // The commit: these bytes are put behind what is held, and get the next number.
-pub(crate) fn add(h: Head, t: Table, area: &mut [u8], bytes: &[u8]) -> Stepped
+fn append(h: Head, area: &mut [u8], bytes: &[u8]) -> Entry
     requires { ⌜ Room h (now area) (now bytes) × (h .answered < 18446744073709551615) ⌝ }
-    ensures { λ r. ⌜ Adds h (t .records) (now (area .entry)) (now (bytes .entry)) r (now (area .exit)) ⌝ }
+    ensures { λ r. ⌜ Adds h (now (area .entry)) (now (bytes .entry)) r (now (area .exit)) ⌝ }
 {
     let used = h.used;
     copy_at(bytes, area, used);
     let n = h.held + 1;
-    let e = Record {
+    let new = Record {
         start: used,
         size: bytes.len(),
     };
-    let table = put(t, n, e);
     let head = Head {
         held: n,
         used: used + bytes.len(),
         answered: h.answered + 1,
     };
-    Stepped {
+    Entry {
         head: head,
-        table: table,
+        number: n,
+        new: new,
         answer: Entered::Number(n),
     }
 }
 
 // The answer n is counted.
-pub(crate) fn count(h: Head, t: Table, n: usize) -> Stepped
+fn count(h: Head, n: usize) -> Entry
     requires { ⌜ h .answered < 18446744073709551615 ⌝ }
-    ensures { λ r. ⌜ Counts h t n r ⌝ }
+    ensures { λ r. ⌜ Counts h n r ⌝ }
 {
     let answered = h.answered + 1;
     let head = Head {
@@ -55,54 +95,51 @@ pub(crate) fn count(h: Head, t: Table, n: usize) -> Stepped
         used: h.used,
         answered: answered,
     };
-    Stepped {
+    Entry {
         head: head,
-        table: t,
+        number: 0,
+        new: Record { start: 0, size: 0 },
         answer: Entered::Number(n),
     }
 }
 
 // Nothing changes, and this refusal is answered.
-pub fn refuse(h: Head, t: Table, r: Refusal) -> Stepped
-    ensures { λ s. ⌜ s ≡ record { head = h; table = t; answer = refusedBy r } ⌝ }
+fn refuse(h: Head, r: Refusal) -> Entry
+    ensures { λ e. ⌜ e ≡ unchanged h (refusedBy r) ⌝ }
 {
-    Stepped {
+    Entry {
         head: h,
-        table: t,
+        number: 0,
+        new: Record { start: 0, size: 0 },
         answer: Entered::Refused(r),
     }
 }
 
-// Gives these bytes a number: the one that they have, or the next where there is room.
-pub(crate) fn number_bytes(h: Head, t: Table, area: &mut [u8], bytes: &[u8]) -> Stepped
-    requires { ⌜ Chained h (t .records) (now area) ⌝ }
-    ensures { λ r. ⌜ StepsWith (now (bytes .entry)) h (t .records) (now (area .entry)) r (now (area .exit)) ⌝ }
+// Gives these bytes a number: n where that is not 0, else the next where there is room.
+fn number_bytes(h: Head, n: usize, area: &mut [u8], bytes: &[u8]) -> Entry
+    requires { ⌜ Ready h (now area) ⌝ }
+    ensures { λ r. ⌜ (r .number ≤ 32) × ((rs : List Records) → Finds (h .held) rs (now (area .entry)) (now (bytes .entry)) n → StepsWith (now (bytes .entry)) h rs (now (area .entry)) r (now (area .exit))) ⌝ }
 {
-    let held = h.held;
-    let n = find(held, t, area, bytes);
-    if n <= held {
-        return count(h, t, n);
+    if n != 0 {
+        return count(h, n);
     }
-    if held == 32 {
-        return refuse(h, t, Refusal::FullRegistry);
+    if h.held == 32 {
+        return refuse(h, Refusal::FullRegistry);
     }
     if bytes.len() > area.len() - h.used {
-        return refuse(h, t, Refusal::FullRegistry);
+        return refuse(h, Refusal::FullRegistry);
     }
-    add(h, t, area, bytes)
+    append(h, area, bytes)
 }
 
-// Cleans the file `sheet` under the alphabets of the registry, and gives the normal form a number; n is how many records there are.
-pub fn step(h: Head, n: usize, t: Table, area: &mut [u8], sheet: &[u8]) -> Stepped
-    requires { ⌜ (33 ≤ n → length (t .records) ≡ 33) ⌝ }
-    ensures { λ r. ⌜ Steps (now (sheet .entry)) h n (t .records) (now (area .entry)) r (now (area .exit)) ⌝ }
+// The end of an entry: the refusal, or a number for the clean file `bytes`, which the search found at n, 0 for not at all.
+pub(crate) fn place(h: Head, a: Asked, n: usize, area: &mut [u8], bytes: &[u8]) -> Entry
+    requires { ⌜ (a .verdict ≡ clean → Ready h (now area)) ⌝ }
+    ensures { λ r. ⌜ ((s : List ℕ) (rs : List Records) → Asks s h rs (now (area .entry)) (now (bytes .entry)) a → Finds (a .held) rs (now (area .entry)) (now (bytes .entry)) n → Places s h rs (now (area .entry)) r (now (area .exit))) ⌝ }
 {
-    if !chained(h, n, t, area) {
-        return refuse(h, t, Refusal::BadRegistry);
-    }
-    let mut file = [0u8; 20483];
-    match clean(body_at(t, 0, area), sheet, &mut file) {
-        Formed::Form(_, _, size) => number_bytes(h, t, area, &file[0..size]),
-        Formed::Refused(r) => refuse(h, t, r),
+    let verdict = a.verdict;
+    match verdict {
+        Verdict::Clean => number_bytes(h, n, area, bytes),
+        Verdict::Refused(r) => refuse(h, r),
     }
 }

@@ -1,20 +1,25 @@
 // The registry as lent: the head behind a reference, the records as a run of structs. Thin functions over the steps by value.
-ghost use Prim.Native.Nat.{_≤_, min};
+ghost use Prim.Native.Nat.{_≤_, _<_, min};
 ghost use mathlib.Core.Path.{_≡_};
 ghost use lib.ListN.{length};
 ghost use Rattle.registry.specs.Answers.{Makes, Enters, HandsBody};
-ghost use Rattle.registry.specs.Inner.Tables.{copied, written};
+ghost use Rattle.registry.specs.Inner.Steps.{Placed, Finds};
+ghost use Rattle.registry.specs.Inner.Surveys.{Surveyed};
+ghost use Rattle.registry.specs.Inner.Writes.{freshRecords, written, added};
 use crate::book::Entered;
 use crate::book::Head;
 use crate::book::Made;
 use crate::book::Record;
-use crate::book::Table;
-use crate::book::blank;
-use crate::book::pick;
-use crate::book::put;
-use crate::entry::step;
+use crate::book::Survey;
+use crate::chain::begin;
+use crate::chain::look;
+use crate::entry::ask;
+use crate::entry::part;
+use crate::entry::place;
+use crate::making::fresh;
 use crate::making::held_body;
 use crate::making::start;
+use crate::search::first_of;
 
 // How many of n records a registry has to do with.
 fn at_most_33(n: usize) -> usize
@@ -23,69 +28,79 @@ fn at_most_33(n: usize) -> usize
     if n < 33 { n } else { 33 }
 }
 
-// Copies the first n records out.
-fn load(rs: &mut [Record], n: usize) -> Table
-    requires { ⌜ (n ≤ 33) × (n ≤ length (now rs)) ⌝ }
-    ensures { λ r. ⌜ (r ≡ copied (now (rs .entry)) n) × (now (rs .exit) ≡ now (rs .entry)) ⌝ }
+// Goes through the records up to the 33rd, and keeps the one with this number.
+fn survey(rs: &[Record], h: Head, number: usize) -> Survey
+    ensures { λ s. ⌜ Surveyed h number (now (rs .entry)) (min (length (now (rs .entry))) 33) s ⌝ }
 {
-    let mut t = blank();
+    let n = at_most_33(rs.len());
+    let mut s = begin();
     let mut i: usize = 0;
     while i < n {
-        t = put(t, i, rs[i]);
+        s = look(s, i, h, number, rs[i]);
         i += 1;
     }
-    t
+    s
 }
 
-// Writes the first n records of the table back.
-fn store(rs: &mut [Record], t: Table, n: usize)
-    requires { ⌜ (n ≤ 33) × (n ≤ length (now rs)) ⌝ }
-    ensures { λ _. ⌜ now (rs .exit) ≡ written (now (rs .entry)) t n ⌝ }
+// The lowest number, from 1 on, whose body is these bytes; 0 where none is.
+fn find(rs: &[Record], held: usize, area: &[u8], bytes: &[u8]) -> usize
+    requires { ⌜ Placed held (now rs) (now area) ⌝ }
+    ensures { λ n. ⌜ Finds held (now (rs .entry)) (now (area .entry)) (now (bytes .entry)) n ⌝ }
 {
-    let mut i: usize = 0;
-    while i < n {
-        rs[i] = pick(t, i);
+    let mut n: usize = 0;
+    let mut i: usize = 1;
+    while i <= held {
+        n = first_of(n, i, rs[i], area, bytes);
         i += 1;
+    }
+    n
+}
+
+// Writes the record with number n; nothing where that is 0, the number of the alphabets.
+fn add(rs: &mut [Record], n: usize, r: Record)
+    requires { ⌜ (0 < n → n < length (now rs)) ⌝ }
+    ensures { λ _. ⌜ now (rs .exit) ≡ added (now (rs .entry)) n r ⌝ }
+{
+    if n > 0 {
+        rs[n] = r;
     }
 }
 
-// Copies the first n records out, where they are lent for reading.
-fn read(rs: &[Record], n: usize) -> Table
+// Makes the first n records those of a registry that holds nothing but alphabets of this size.
+fn renew(rs: &mut [Record], size: usize, n: usize)
     requires { ⌜ (n ≤ 33) × (n ≤ length (now rs)) ⌝ }
-    ensures { λ r. ⌜ r ≡ copied (now (rs .entry)) n ⌝ }
+    ensures { λ _. ⌜ now (rs .exit) ≡ written (now (rs .entry)) (freshRecords size) n ⌝ }
 {
-    let mut t = blank();
     let mut i: usize = 0;
     while i < n {
-        t = put(t, i, rs[i]);
+        rs[i] = fresh(size, i);
         i += 1;
     }
-    t
 }
 
 // Enters the transducer of the file `sheet`: its normal form is found or added.
 pub fn enter(head: &mut Head, records: &mut [Record], area: &mut [u8], sheet: &[u8]) -> Entered
     ensures { λ r. ⌜ Enters (now (sheet .entry)) (now (head .entry)) (now (records .entry)) (now (area .entry)) (now (head .exit)) (now (records .exit)) (now (area .exit)) r ⌝ }
 {
-    let n = records.len();
-    let m = at_most_33(n);
-    let t = load(&mut *records, m);
-    let s = step(*head, n, t, area, sheet);
-    *head = s.head;
-    store(records, s.table, m);
-    s.answer
+    let h = *head;
+    let s = survey(records, h, 0);
+    let mut file = [0u8; 20483];
+    let a = ask(h, records.len(), s, area, sheet, &mut file);
+    let bytes = part(&file, a.size);
+    let n = find(records, a.held, area, bytes);
+    let e = place(h, a, n, area, bytes);
+    *head = e.head;
+    add(records, e.number, e.new);
+    e.answer
 }
 
 // Makes a registry with the alphabets `stock`.
 pub fn make(head: &mut Head, records: &mut [Record], area: &mut [u8], stock: &[u8]) -> Made
     ensures { λ r. ⌜ Makes (now (stock .entry)) (now (head .entry)) (now (records .entry)) (now (area .entry)) (now (head .exit)) (now (records .exit)) (now (area .exit)) r ⌝ }
 {
-    let n = records.len();
-    let m = at_most_33(n);
-    let t = load(&mut *records, m);
-    let s = start(*head, n, t, area, stock);
+    let s = start(*head, records.len(), area, stock);
     *head = s.head;
-    store(records, s.table, m);
+    renew(records, stock.len(), s.fresh);
     s.answer
 }
 
@@ -93,8 +108,6 @@ pub fn make(head: &mut Head, records: &mut [Record], area: &mut [u8], stock: &[u
 pub fn body<'r, 'a>(head: Head, records: &'r [Record], area: &'a [u8], number: usize) -> &'a [u8]
     ensures { λ r. ⌜ HandsBody head (now (records .entry)) (now (area .entry)) number (now r) ⌝ }
 {
-    let n = records.len();
-    let m = at_most_33(n);
-    let t = read(records, m);
-    held_body(head, n, t, area, number)
+    let s = survey(records, head, number);
+    held_body(head, records.len(), s, area, number)
 }

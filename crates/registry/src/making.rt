@@ -1,70 +1,83 @@
 // Making a registry, and a body by its number.
-ghost use Prim.Native.Nat.{_≤_};
+ghost use Prim.Native.Nat.{ℕ, _≤_, _<_, min};
+ghost use mathlib.Core.List.{List};
 ghost use mathlib.Core.Path.{_≡_};
 ghost use lib.ListN.{length};
-ghost use Rattle.registry.specs.Inner.Steps.{refusedMade, Starts, HandsHeld};
+ghost use Rattle.registry.specs.Answers.{Makes, HandsBody};
+ghost use Rattle.registry.specs.Book.{recordAt};
+ghost use Rattle.registry.specs.Inner.Steps.{refusedMade, notStarted};
+ghost use Rattle.registry.specs.Inner.Surveys.{Surveyed, Told};
+ghost use Rattle.registry.specs.Inner.Writes.{freshRecords, written};
+ghost use Rattle.registry.specs.declared.book.Record.{Record as Records};
 use crate::book::Head;
 use crate::book::Made;
 use crate::book::Record;
 use crate::book::Started;
-use crate::book::Table;
-use crate::book::blank;
-use crate::book::put;
+use crate::book::Survey;
 use crate::chain::chained;
-use crate::search::body_at;
+use crate::search::body_of;
 use formats::alphabet::alphabets_right;
 use formats::file::copy_at;
 use formats::refusal::Refusal;
 
 // Nothing changes, and this refusal is answered.
-fn refuse(h: Head, t: Table, r: Refusal) -> Started
-    ensures { λ s. ⌜ s ≡ record { head = h; table = t; answer = refusedMade r } ⌝ }
+fn refuse(h: Head, r: Refusal) -> Started
+    ensures { λ s. ⌜ s ≡ notStarted h (refusedMade r) ⌝ }
 {
     Started {
         head: h,
-        table: t,
+        fresh: 0,
         answer: Made::Refused(r),
     }
 }
 
+// Record i of a new registry, whose alphabets have this size.
+pub(crate) fn fresh(size: usize, i: usize) -> Record
+    requires { ⌜ i < 33 ⌝ }
+    ensures { λ r. ⌜ r ≡ recordAt (freshRecords size) i ⌝ }
+{
+    if i == 0 {
+        return Record {
+            start: 0,
+            size: size,
+        };
+    }
+    Record { start: 0, size: 0 }
+}
+
 // Begins a registry with the alphabets `stock`; n is how many records there are.
-pub fn start(h: Head, n: usize, t: Table, area: &mut [u8], stock: &[u8]) -> Started
-    ensures { λ r. ⌜ Starts (now (stock .entry)) h n (t .records) (now (area .entry)) r (now (area .exit)) ⌝ }
+pub(crate) fn start(h: Head, n: usize, area: &mut [u8], stock: &[u8]) -> Started
+    ensures { λ r. ⌜ ((r .fresh ≤ n) × (r .fresh ≤ 33)) × ((rs : List Records) → length rs ≡ n → Makes (now (stock .entry)) h rs (now (area .entry)) (r .head) (written rs (freshRecords (length (now (stock .entry)))) (r .fresh)) (now (area .exit)) (r .answer)) ⌝ }
 {
     if n < 33 {
-        return refuse(h, t, Refusal::BadRegistry);
+        return refuse(h, Refusal::BadRegistry);
     }
     if !alphabets_right(stock) {
-        return refuse(h, t, Refusal::BadAlphabets);
+        return refuse(h, Refusal::BadAlphabets);
     }
     let size = stock.len();
     if size > area.len() {
-        return refuse(h, t, Refusal::FullRegistry);
+        return refuse(h, Refusal::FullRegistry);
     }
     copy_at(stock, area, 0);
-    let first = Record {
-        start: 0,
-        size: size,
-    };
     let head = Head {
         held: 0,
         used: size,
         answered: 0,
     };
-    let table = put(blank(), 0, first);
     Started {
         head: head,
-        table: table,
+        fresh: 33,
         answer: Made::Empty,
     }
 }
 
-// The body with this number, as a part of the area; n is how many records there are.
-pub fn held_body(h: Head, n: usize, t: Table, area: &[u8], number: usize) -> &[u8]
-    requires { ⌜ (33 ≤ n → length (t .records) ≡ 33) ⌝ }
-    ensures { λ r. ⌜ HandsHeld h n (t .records) (now (area .entry)) number (now r) ⌝ }
+// The body with this number, whose record is the wanted one of s, as a part of the area; n records told s.
+pub(crate) fn held_body(h: Head, n: usize, s: Survey, area: &[u8], number: usize) -> &[u8]
+    requires { ⌜ Told h number n s ⌝ }
+    ensures { λ r. ⌜ ((rs : List Records) → length rs ≡ n → Surveyed h number rs (min n 33) s → HandsBody h rs (now (area .entry)) number (now r)) ⌝ }
 {
-    if !chained(h, n, t, area) {
+    if !chained(h, n, s, area) {
         return &area[0..0];
     }
     if number == 0 {
@@ -73,5 +86,5 @@ pub fn held_body(h: Head, n: usize, t: Table, area: &[u8], number: usize) -> &[u
     if number > h.held {
         return &area[0..0];
     }
-    body_at(t, number, area)
+    body_of(s.wanted, area)
 }

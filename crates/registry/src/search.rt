@@ -1,12 +1,13 @@
-// The question and the commit: which number some bytes have, and giving them the next one.
-ghost use Prim.Native.Nat.{_+_, _≤_, _<_};
+// The search for some bytes among the bodies.
+ghost use Prim.Native.Nat.{_+_, _-_, _≤_};
+ghost use mathlib.Core.List.{List};
 ghost use mathlib.Core.Path.{_≡_};
-ghost use lib.ListN.{length};
+ghost use lib.ListN.{length, take, drop};
 ghost use Rattle.formats.specs.Refusal.{Decides};
-ghost use Rattle.registry.specs.Book.{recordAt, body};
-ghost use Rattle.registry.specs.Inner.Steps.{Placed, Finds};
-use crate::book::Table;
-use crate::book::pick;
+ghost use Rattle.registry.specs.Book.{recordAt};
+ghost use Rattle.registry.specs.Inner.Steps.{Finds};
+ghost use Rattle.registry.specs.declared.book.Record.{Record as Records};
+use crate::book::Record;
 
 // Whether two runs of bytes are equal.
 fn same_bytes(a: &[u8], b: &[u8]) -> bool
@@ -25,28 +26,26 @@ fn same_bytes(a: &[u8], b: &[u8]) -> bool
     true
 }
 
-// Body i, as a part of the area.
-pub(crate) fn body_at(t: Table, i: usize, area: &[u8]) -> &[u8]
-    requires { ⌜ (i < 33) × (recordAt (t .records) i .start + recordAt (t .records) i .size ≤ length (now area)) ⌝ }
-    ensures { λ r. ⌜ now r ≡ body (t .records) (now (area .entry)) i ⌝ }
+// The body that a record tells, as a part of the area.
+pub(crate) fn body_of(r: Record, area: &[u8]) -> &[u8]
+    requires { ⌜ r .start + r .size ≤ length (now area) ⌝ }
+    ensures { λ p. ⌜ now p ≡ take (r .size) (drop (r .start) (now (area .entry))) ⌝ }
 {
-    let e = pick(t, i);
-    let from = e.start;
-    let end = from + e.size;
+    let from = r.start;
+    let end = from + r.size;
     &area[from..end]
 }
 
-// The lowest number, from 1 on, whose body is these bytes; the next number where there is none.
-pub(crate) fn find(held: usize, t: Table, area: &[u8], bytes: &[u8]) -> usize
-    requires { ⌜ Placed held (t .records) (now area) ⌝ }
-    ensures { λ n. ⌜ Finds held (t .records) (now (area .entry)) (now (bytes .entry)) n ⌝ }
+// The number n found among the bodies before i, and i where there was none and body i, that of r, is these bytes; 0 for none.
+pub(crate) fn first_of(n: usize, i: usize, r: Record, area: &[u8], bytes: &[u8]) -> usize
+    requires { ⌜ (1 ≤ i) × (r .start + r .size ≤ length (now area)) ⌝ }
+    ensures { λ m. ⌜ ((rs : List Records) → r ≡ recordAt rs i → Finds (i - 1) rs (now (area .entry)) (now (bytes .entry)) n → Finds i rs (now (area .entry)) (now (bytes .entry)) m) ⌝ }
 {
-    let mut n: usize = 1;
-    while n <= held {
-        if same_bytes(body_at(t, n, area), bytes) {
-            return n;
-        }
-        n += 1;
+    if n != 0 {
+        return n;
     }
-    n
+    if same_bytes(body_of(r, area), bytes) {
+        return i;
+    }
+    0
 }

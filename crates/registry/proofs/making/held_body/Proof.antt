@@ -1,9 +1,13 @@
 -- `held_body` meets its contract: an empty part unless a registry holds the number. Assumes nothing.
 use native.Mathlib.Omega.{arith}
 use mathlib.Core.Logic.{inl, inr}
-use mathlib.Core.Path.{refl}
+use mathlib.Core.Path.{refl, ap, _∙_}
+use denote.Ref.{now}
+use lib.ListN.{take, drop}
 use Rattle.formats.proofs.Deciding.{refuted, held}
-use Rattle.registry.proofs.Entering.{chained-placed}
+use Rattle.registry.specs.declared.book.Record.{Record}
+use Rattle.registry.proofs.Surveys.{wanted-is}
+use Rattle.registry.proofs.Entering.{chained-end}
 use borrow.Author.Needs.{needs}
 use Rattle.registry.proofs.making.held_body.Statement.{statement}
 use Rattle.registry.proofs.making.held_body.Tie as tie
@@ -21,7 +25,7 @@ part-result-end : tie.Need-part-result-end
 part-result-end c = search needs
 
 returns : tie.Need-returns
-returns c = inr ((λ w. refuted (c .before .before .chained .ensures) (c .before .if1 .taken) (w .0)), refl)
+returns c = λ rs l S. inr ((λ w. refuted (c .before .before .chained .ensures _ rs l S) (c .before .if1 .taken) (w .0)), refl)
 
 sub-result-2 : tie.Need-sub-result-2
 sub-result-2 c = search needs
@@ -33,7 +37,7 @@ part-result-end-2 : tie.Need-part-result-end-2
 part-result-end-2 c = search needs
 
 returns-2 : tie.Need-returns-2
-returns-2 c = inr ((λ w. omega (arith, w .1, c .before .if2 .taken)), refl)
+returns-2 c = λ rs l S. inr ((λ w. omega (arith, w .1, c .before .if2 .taken)), refl)
 
 sub-result-3 : tie.Need-sub-result-3
 sub-result-3 c = search needs
@@ -45,15 +49,13 @@ part-result-end-3 : tie.Need-part-result-end-3
 part-result-end-3 c = search needs
 
 returns-3 : tie.Need-returns-3
-returns-3 c = inr ((λ w. omega (arith, w .2, c .before .if3 .taken)), refl)
+returns-3 c = λ rs l S. inr ((λ w. omega (arith, w .2, c .before .if3 .taken)), refl)
 
-body-at-requires : tie.Need-body-at-requires
-body-at-requires c κs =
-    let C = held (c .before .before .before .before .chained .ensures) (c .before .before .before .if1 .left) .1 in
-    (omega (arith, C .few, c .if3 .left), chained-placed C .ends (c .before .before .before .before .before .before .args .number) (omega (arith, c .if3 .left)))
+body-of-requires : tie.Need-body-of-requires
+body-of-requires c κs = let t = c .before .before .before .before .before .before .pre in let C = held (c .before .before .before .before .chained .ensures _ (t .records) (t .many) (t .told)) (c .before .before .before .if1 .left) in let e = wanted-is (t .told) (omega (arith, C .many, t .many)) (omega (arith, C .few, c .if3 .left)) in omega (arith, chained-end C (c .before .before .before .before .before .before .args .number) (c .if3 .left), ap (λ w. w .start) e, ap (λ w. w .size) e)
 
 returns-4 : tie.Need-returns-4
-returns-4 c = inl ((held (c .before .before .before .before .before .chained .ensures) (c .before .before .before .before .if1 .left), omega (arith, c .before .before .before .if2 .left), omega (arith, c .before .if3 .left)), c .body-at .ensures)
+returns-4 c = λ rs l S. let C = held (c .before .before .before .before .before .chained .ensures _ rs l S) (c .before .before .before .before .if1 .left) in inl ((C, omega (arith, c .before .before .before .if2 .left), c .before .if3 .left), c .body-of .ensures ∙ ap (λ (w : Record). take (w .size) (drop (w .start) (now (c .before .before .before .before .before .before .before .args .area)))) (wanted-is S (omega (arith, C .many, l)) (omega (arith, C .few, c .before .if3 .left))))
 
 pub held-body-spec : {M : Type 1} → statement M
 held-body-spec =
@@ -72,5 +74,5 @@ held-body-spec =
     part-result-start-3
     part-result-end-3
     returns-3
-    body-at-requires
+    body-of-requires
     returns-4)
