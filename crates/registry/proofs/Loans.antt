@@ -104,6 +104,10 @@ zeros-is n = (replicate n (vint w8 0), ((refl, length-replicate n 0), each-zeros
 pub zeros-typed : {M : Type 1} (𝓤 : URA M) (H : Heap 𝓤) (A : Atoms 𝓤) (W : Given 𝓤 H A) (n : ℕ) → T (hasTy (tyArray (tyInt w8) n) (zeros n)) × WT (zeros n)
 zeros-typed 𝓤 H A W n = array-lawful 𝓤 H A W u8 (uint-lawful 𝓤 H A W w8) n .typed (replicate n 0) (zeros n ∷ []) (zeros-is n) .0
 
+-- bytes as the machine value of an array
+abbrev pub bytesVal : List ℕ → Val
+bytesVal xs = only (array-vals (uint-vals w8) xs)
+
 -- ---- a local with an array of n bytes, at the start of the block b
 module _ {M : Type 1} (𝓤 : URA M) (H : Heap 𝓤) (A : Atoms 𝓤) (W : Given 𝓤 H A) (n b : ℕ) where
   abbrev local : Ty
@@ -119,12 +123,8 @@ module _ {M : Type 1} (𝓤 : URA M) (H : Heap 𝓤) (A : Atoms 𝓤) (W : Given
   pub zeros-row : ent 𝓤 (H .at fullShare local b 0 (zeros n)) (sem 𝓤 H A (row u8 fullShare (replicate n 0) b 0))
   zeros-row = qed W (‵ (fat fullShare local b 0 (zeros n)) ∷ []) ∵ owned ! (Array u8 n) (Is (Array u8 n)) (array-makes 𝓤 H A W u8 (uint-makes 𝓤 H A W w8) n) (replicate n 0) _ (zeros-is n) $ move ! (1 ∷ 0 ∷ []) $ by ! (array-row (replicate n 0) (zeros n))
 
-  -- what the local holds then
-  abbrev pub held : List ℕ → Val
-  held xs = only (array-vals (uint-vals w8) xs)
-
-  pub row-array : (xs : List ℕ) → length xs ≡ n → ent 𝓤 (sem 𝓤 H A (row u8 fullShare xs b 0)) (sem 𝓤 H A (fat fullShare local b 0 (held xs)))
+  pub row-array : (xs : List ℕ) → length xs ≡ n → ent 𝓤 (sem 𝓤 H A (row u8 fullShare xs b 0)) (sem 𝓤 H A (fat fullShare local b 0 (bytesVal xs)))
   unfolding partOf
   row-array xs e =
       qed W (‵ (row u8 fullShare xs b 0) ∷ []) ∵ feqI ! ℕ (length xs) n e $ fjoin ! $ use1 W (‵ (partAt (Array u8 n) fullShare xs b 0)) (array-whole 𝓤 H A W u8 fullShare n xs b 0) $ fpick ! (λ vs. fsplit ! $
-      spelt ! (Array u8 n) (Is (Array u8 n)) (shows 𝓤 H A (Array u8 n)) (array-vals (uint-vals w8)) (array-tells u8 (uint-vals w8) (uint-tells w8) n) fullShare xs vs b 0 $ move ! (1 ∷ []) $ drop ! $ by ! (W .laws .raw-at fullShare local b 0 (held xs)))
+      spelt ! (Array u8 n) (Is (Array u8 n)) (shows 𝓤 H A (Array u8 n)) (array-vals (uint-vals w8)) (array-tells u8 (uint-vals w8) (uint-tells w8) n) fullShare xs vs b 0 $ move ! (1 ∷ []) $ drop ! $ by ! (W .laws .raw-at fullShare local b 0 (bytesVal xs)))

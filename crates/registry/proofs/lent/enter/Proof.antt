@@ -58,7 +58,7 @@ use Rattle.registry.specs.declared.book.Head.{Head}
 use Rattle.registry.specs.declared.book.Record.{Record}
 use Rattle.registry.specs.declared.book.Survey.{Survey}
 use Rattle.registry.proofs.Entering.{asked-placed, asked-ready}
-use Rattle.registry.proofs.Loans.{Lent, LentShared, lends-row, row-back, lends-shared, shared-back, lends-mut, mut-back, zeros-typed, zeros-row, held, row-array, big-lit}
+use Rattle.registry.proofs.Loans.{Lent, LentShared, lends-row, row-back, lends-shared, shared-back, lends-mut, mut-back, zeros-typed, zeros-row, bytesVal, row-array, big-lit}
 use Rattle.registry.proofs.book.Entered as En′
 use Rattle.registry.proofs.book.Entered.Laws as En″
 use Rattle.registry.proofs.book.Head as Hd
@@ -384,6 +384,10 @@ module _ {M : Type 1} (𝓤 : URA M) (H : Heap 𝓤) (A : Atoms 𝓤) (W : Given
     abbrev free : Ty → ℕ → List (Item 𝓤) → List (Item 𝓤)
     free τ l Γ = ‵ (froom τ l 0) ∷ ‵ (fdies τ l) ∷ Γ
 
+    -- the head's cell and its borrow, which is open
+    abbrev opened : List (Item 𝓤) → List (Item 𝓤)
+    opened Γ = ‵ (cellAt fullShare (Hd.the-row .mir) (machH ∷ []) b₀ o₀) ∷ ‵ (fobor κ₀ q₀ (Body (mem Hd.the-row) b₀ o₀ γ₀)) ∷ ‵ (Obs₀ h) ∷ ‵ (fauth γ₀ (Hd.the-row .coded .code h)) ∷ Γ
+
     -- the parameters' locals do not change; then the locals with the arguments of each call, before and after they are set
     abbrev params : List (Item 𝓤) → List (Item 𝓤)
     params Γ = full sliceS l₄ s₃ (full sliceB l₃ s₂ (full sliceR l₂ s₁ (full refH l₁ (vptr b₀ o₀) (free En″.mir l₀ Γ))))
@@ -423,7 +427,7 @@ module _ {M : Type 1} (𝓤 : URA M) (H : Heap 𝓤) (A : Atoms 𝓤) (W : Given
 
     -- after `place`: the new head is stored, and the record is added
     abbrev Fifth : Val → Val → Asked → Val → ℕ → Entry → List ℕ → List (Item 𝓤)
-    Fifth v₆ v₇ a w₉ n e bs = ‵ (cellAt fullShare (Hd.the-row .mir) (machH ∷ []) b₀ o₀) ∷ ‵ (fobor κ₀ q₀ (Body (mem Hd.the-row) b₀ o₀ γ₀)) ∷ ‵ (Obs₀ h) ∷ ‵ (fauth γ₀ (Hd.the-row .coded .code h)) ∷ add-args₀ (place-args₁ (find-args₁ (part-args₁ (ask-args₁ (survey-args₁ (full Ey′.mir l₁₁ (LL.val Ey.the-type Ey′.the-laws e) (full word l₁₀ (vint w64 n) (full slBi l₉ w₉ (full As′.mir l₈ (LL.val As.the-type As′.the-laws a) (full fileTy l₇ v₇ (full S′.mir l₆ v₆ (full Hd′.mir l₅ machH (params (‵ O₁ ∷ ‵ (flft κ₁ q₁) ∷ ‵ O₃ ∷ ‵ (finally u8 γ₂ bs) ∷ (‵ (flft κ₂ q₂) ⊛ ‵ (flft κ₃ q₃) ⊛ ‵ ftrue) ∷ []))))))))))))))
+    Fifth v₆ v₇ a w₉ n e bs = opened (add-args₀ (place-args₁ (find-args₁ (part-args₁ (ask-args₁ (survey-args₁ (full Ey′.mir l₁₁ (LL.val Ey.the-type Ey′.the-laws e) (full word l₁₀ (vint w64 n) (full slBi l₉ w₉ (full As′.mir l₈ (LL.val As.the-type As′.the-laws a) (full fileTy l₇ v₇ (full S′.mir l₆ v₆ (full Hd′.mir l₅ machH (params (‵ O₁ ∷ ‵ (flft κ₁ q₁) ∷ ‵ O₃ ∷ ‵ (finally u8 γ₂ bs) ∷ (‵ (flft κ₂ q₂) ⊛ ‵ (flft κ₃ q₃) ⊛ ‵ ftrue) ∷ [])))))))))))))))
 
     fifth : (v₆ v₇ : Val) (a : Asked) (w₉ : Val) (n : ℕ) (e : Entry) (v : Val) (bs : List ℕ) → Is Ey.the-row e (v ∷ []) → length bs ≡ length ar → Places ss h ys ar e bs → Sq W (Fifth v₆ v₇ a w₉ n e bs) (runs C Λ En mir′.t-23 (atRet En Post))
     fifth v₆ v₇ a w₉ n e v bs is m₂ p =
@@ -445,7 +449,7 @@ module _ {M : Type 1} (𝓤 : URA M) (H : Heap 𝓤) (A : Atoms 𝓤) (W : Given
 
     -- after `find`: `place` is called
     abbrev Fourth : Val → Asked → Val → ℕ → ℕ → RefT (List ℕ) → List ℕ → List (Item 𝓤)
-    Fourth v₆ a w₉ n ν₄ r zs = ‵ (cellAt fullShare (Hd.the-row .mir) (machH ∷ []) b₀ o₀) ∷ ‵ (fobor κ₀ q₀ (Body (mem Hd.the-row) b₀ o₀ γ₀)) ∷ ‵ (Obs₀ h) ∷ ‵ (fauth γ₀ (Hd.the-row .coded .code h)) ∷ add-args₀ (place-args₀ (find-args₁ (part-args₁ (ask-args₁ (survey-args₁ (free Ey′.mir l₁₁ (full word l₁₀ (vint w64 n) (full slBi l₉ w₉ (full As′.mir l₈ (LL.val As.the-type As′.the-laws a) (‵ (fdies fileTy l₇) ∷ full S′.mir l₆ v₆ (full Hd′.mir l₅ machH (params (‵ O₁ ∷ ‵ (flft κ₁ q₁) ∷ ‵ O₂ ∷ ‵ (flft κ₂ q₂) ∷ ‵ O₃ ∷ ‵ (flft κ₃ q₃) ∷ ‵ (flft (ν₄ ∷ []) fullShare) ∷ ‵ (SB ν₄ r w₉) ∷ ‵ (Lent u8 (ν₄ ∷ []) l₇ 0 zs) ∷ [])))))))))))))
+    Fourth v₆ a w₉ n ν₄ r zs = opened (add-args₀ (place-args₀ (find-args₁ (part-args₁ (ask-args₁ (survey-args₁ (free Ey′.mir l₁₁ (full word l₁₀ (vint w64 n) (full slBi l₉ w₉ (full As′.mir l₈ (LL.val As.the-type As′.the-laws a) (‵ (fdies fileTy l₇) ∷ full S′.mir l₆ v₆ (full Hd′.mir l₅ machH (params (‵ O₁ ∷ ‵ (flft κ₁ q₁) ∷ ‵ O₂ ∷ ‵ (flft κ₂ q₂) ∷ ‵ O₃ ∷ ‵ (flft κ₃ q₃) ∷ ‵ (flft (ν₄ ∷ []) fullShare) ∷ ‵ (SB ν₄ r w₉) ∷ ‵ (Lent u8 (ν₄ ∷ []) l₇ 0 zs) ∷ []))))))))))))))
 
     fourth : (v₆ : Val) (a : Asked) (v : Val) (w₉ : Val) (n ν₄ : ℕ) (r : RefT (List ℕ)) (zs : List ℕ) → Is Hd.the-row h (machH ∷ []) → Is As.the-row a (v ∷ []) → n < 2 ^ 64 → length zs ≡ 20483 → Asks ss h ys ar (now r) a → Finds (a .held) ys ar (now r) n → Sq W (Fourth v₆ a w₉ n ν₄ r zs) (runs C Λ En mir′.t-20 (atRet En Post))
     fourth v₆ a v w₉ n ν₄ r zs gh ia fits long aa f =
@@ -459,13 +463,13 @@ module _ {M : Type 1} (𝓤 : URA M) (H : Heap 𝓤) (A : Atoms 𝓤) (W : Given
         move ! (2 ∷ []) $ split ! $ move ! (1 ∷ []) $ facts ! Ey.the-row (Is Ey.the-row) (shows 𝓤 H A Ey.the-row) e′ (w ∷ []) (λ is. split ! $ move ! (1 ∷ []) $ split ! $
         land ! (from ! (stop !)) (init ! 45 refl (LL.lawful Ey.the-type Ey′.the-laws 𝓤 H A W .typed e′ _ is .0)) $ rewrite ! 45 (λ (y : Val). ‵ (fat fullShare Ey′.mir l₁₁ 0 y)) (ap only (LL.tells Ey.the-type Ey′.the-laws e′ (w ∷ []) is)) refl $
         -- the file comes back
-        move ! (0 ∷ []) $ lft-end ! tt $ move ! (0 ∷ 72 ∷ []) $ use2 W (later (‵ (row u8 fullShare zs l₇ 0))) (row-back u8 (ν₄ ∷ []) l₇ 0 𝓤 H A W (named 0) zs) $ await ! tt $ use1 W (‵ (fat fullShare fileTy l₇ 0 (held 𝓤 H A W 20483 l₇ zs))) (row-array 𝓤 H A W 20483 l₇ zs long) $
+        lft-end ! tt $ move ! (0 ∷ 72 ∷ []) $ use2 W (later (‵ (row u8 fullShare zs l₇ 0))) (row-back u8 (ν₄ ∷ []) l₇ 0 𝓤 H A W (named 0) zs) $ await ! tt $ use1 W (‵ (fat fullShare fileTy l₇ 0 (bytesVal zs))) (row-array 𝓤 H A W 20483 l₇ zs long) $
         nothing ! $ move ! (72 ∷ 0 ∷ []) $ join ! $ move ! (3 ∷ 0 ∷ []) $ join ! $ keep ! (5 ∷ 6 ∷ 7 ∷ 8 ∷ 9 ∷ 10 ∷ 11 ∷ 12 ∷ 13 ∷ 14 ∷ 15 ∷ 16 ∷ 17 ∷ 18 ∷ 19 ∷ 20 ∷ 21 ∷ 22 ∷ 23 ∷ 24 ∷ 25 ∷ 26 ∷ 27 ∷ 28 ∷ 29 ∷ 30 ∷ 31 ∷ 32 ∷ 33 ∷ 34 ∷ 35 ∷ 36 ∷ 37 ∷ 38 ∷ 39 ∷ 40 ∷ 41 ∷ 42 ∷ 43 ∷ 44 ∷ 45 ∷ 46 ∷ 47 ∷ 48 ∷ 49 ∷ 50 ∷ 51 ∷ 52 ∷ 1 ∷ 53 ∷ 54 ∷ 55 ∷ 56 ∷ 57 ∷ 58 ∷ 59 ∷ 60 ∷ 61 ∷ 62 ∷ 63 ∷ 64 ∷ 65 ∷ 66 ∷ 67 ∷ 68 ∷ 69 ∷ 70 ∷ 3 ∷ 0 ∷ []) $
-        fifth v₆ (held 𝓤 H A W 20483 l₇ zs) a w₉ n e′ w (bs .1 .1 .1 .0) is len (e ss ys aa f)))))))
+        fifth v₆ (bytesVal zs) a w₉ n e′ w (bs .1 .1 .1 .0) is len (e ss ys aa f)))))))
 
     -- after `part`: `find` is called
     abbrev Third : Val → Asked → Val → ℕ → GName → ℕ → GName → ℕ → RefT (List ℕ) → List ℕ → List (Item 𝓤)
-    Third v₆ a w₉ ν₁ δ₁ ν₂ δ₂ ν₄ r zs = ‵ (cellAt fullShare (Hd.the-row .mir) (machH ∷ []) b₀ o₀) ∷ ‵ (fobor κ₀ q₀ (Body (mem Hd.the-row) b₀ o₀ γ₀)) ∷ ‵ (Obs₀ h) ∷ ‵ (fauth γ₀ (Hd.the-row .coded .code h)) ∷ add-args₀ (place-args₀ (find-args₀ (part-args₁ (ask-args₁ (survey-args₁ (free Ey′.mir l₁₁ (free word l₁₀ (full slBi l₉ w₉ (full As′.mir l₈ (LL.val As.the-type As′.the-laws a) (‵ (fdies fileTy l₇) ∷ full S′.mir l₆ v₆ (full Hd′.mir l₅ machH (params (‵ (flft (ν₁ ∷ []) fullShare) ∷ ‵ (S₁ ν₁ δ₁) ∷ ‵ (K₁ ν₁) ∷ ‵ (flft (ν₂ ∷ []) fullShare) ∷ ‵ (S₂ ν₂ δ₂) ∷ ‵ (K₂ ν₂) ∷ ‵ O₃ ∷ ‵ (flft κ₃ q₃) ∷ ‵ (flft (ν₄ ∷ []) fullShare) ∷ ‵ (SB ν₄ r w₉) ∷ ‵ (Lent u8 (ν₄ ∷ []) l₇ 0 zs) ∷ [])))))))))))))
+    Third v₆ a w₉ ν₁ δ₁ ν₂ δ₂ ν₄ r zs = opened (add-args₀ (place-args₀ (find-args₀ (part-args₁ (ask-args₁ (survey-args₁ (free Ey′.mir l₁₁ (free word l₁₀ (full slBi l₉ w₉ (full As′.mir l₈ (LL.val As.the-type As′.the-laws a) (‵ (fdies fileTy l₇) ∷ full S′.mir l₆ v₆ (full Hd′.mir l₅ machH (params (‵ (flft (ν₁ ∷ []) fullShare) ∷ ‵ (S₁ ν₁ δ₁) ∷ ‵ (K₁ ν₁) ∷ ‵ (flft (ν₂ ∷ []) fullShare) ∷ ‵ (S₂ ν₂ δ₂) ∷ ‵ (K₂ ν₂) ∷ ‵ O₃ ∷ ‵ (flft κ₃ q₃) ∷ ‵ (flft (ν₄ ∷ []) fullShare) ∷ ‵ (SB ν₄ r w₉) ∷ ‵ (Lent u8 (ν₄ ∷ []) l₇ 0 zs) ∷ []))))))))))))))
 
     third : (v₆ : Val) (a : Asked) (v w₉ : Val) (ν₁ : ℕ) (δ₁ : GName) (ν₂ : ℕ) (δ₂ : GName) (ν₄ : ℕ) (r : RefT (List ℕ)) (zs : List ℕ) → Is Hd.the-row h (machH ∷ []) → Is As.the-row a (v ∷ []) → length zs ≡ 20483 → Asks ss h ys ar (now r) a → Sq W (Third v₆ a w₉ ν₁ δ₁ ν₂ δ₂ ν₄ r zs) (runs C Λ En mir′.t-15 (atRet En Post))
     third v₆ a v w₉ ν₁ δ₁ ν₂ δ₂ ν₄ r zs gh ia long aa =
@@ -488,7 +492,7 @@ module _ {M : Type 1} (𝓤 : URA M) (H : Heap 𝓤) (A : Atoms 𝓤) (W : Given
 
     -- after `ask`: the file is lent for reading, and its first bytes are taken
     abbrev Second : Val → Asked → ℕ → GName → ℕ → GName → List ℕ → List (Item 𝓤)
-    Second v₆ a ν₁ δ₁ ν₂ δ₂ zs = ‵ (cellAt fullShare (Hd.the-row .mir) (machH ∷ []) b₀ o₀) ∷ ‵ (fobor κ₀ q₀ (Body (mem Hd.the-row) b₀ o₀ γ₀)) ∷ ‵ (Obs₀ h) ∷ ‵ (fauth γ₀ (Hd.the-row .coded .code h)) ∷ add-args₀ (place-args₀ (find-args₀ (part-args₀ (ask-args₁ (survey-args₁ (free Ey′.mir l₁₁ (free word l₁₀ (free slBi l₉ (full As′.mir l₈ (LL.val As.the-type As′.the-laws a) (‵ (fdies fileTy l₇) ∷ full S′.mir l₆ v₆ (full Hd′.mir l₅ machH (params (‵ (row u8 fullShare zs l₇ 0) ∷ ‵ (flft (ν₁ ∷ []) fullShare) ∷ ‵ (S₁ ν₁ δ₁) ∷ ‵ (K₁ ν₁) ∷ ‵ (flft (ν₂ ∷ []) fullShare) ∷ ‵ (S₂ ν₂ δ₂) ∷ ‵ (K₂ ν₂) ∷ ‵ O₃ ∷ ‵ (flft κ₃ q₃) ∷ [])))))))))))))
+    Second v₆ a ν₁ δ₁ ν₂ δ₂ zs = opened (add-args₀ (place-args₀ (find-args₀ (part-args₀ (ask-args₁ (survey-args₁ (free Ey′.mir l₁₁ (free word l₁₀ (free slBi l₉ (full As′.mir l₈ (LL.val As.the-type As′.the-laws a) (‵ (fdies fileTy l₇) ∷ full S′.mir l₆ v₆ (full Hd′.mir l₅ machH (params (‵ (row u8 fullShare zs l₇ 0) ∷ ‵ (flft (ν₁ ∷ []) fullShare) ∷ ‵ (S₁ ν₁ δ₁) ∷ ‵ (K₁ ν₁) ∷ ‵ (flft (ν₂ ∷ []) fullShare) ∷ ‵ (S₂ ν₂ δ₂) ∷ ‵ (K₂ ν₂) ∷ ‵ O₃ ∷ ‵ (flft κ₃ q₃) ∷ []))))))))))))))
 
     second : (v₆ : Val) (a : Asked) (v : Val) (ν₁ : ℕ) (δ₁ : GName) (ν₂ : ℕ) (δ₂ : GName) (zs : List ℕ) → Is Hd.the-row h (machH ∷ []) → Is As.the-row a (v ∷ []) → length zs ≡ 20483 → a .size ≤ length zs → Asks ss h ys ar (take (a .size) zs) a → Sq W (Second v₆ a ν₁ δ₁ ν₂ δ₂ zs) (runs C Λ En mir′.t-12 (atRet En Post))
     second v₆ a v ν₁ δ₁ ν₂ δ₂ zs gh ia long small aa =
@@ -506,7 +510,7 @@ module _ {M : Type 1} (𝓤 : URA M) (H : Heap 𝓤) (A : Atoms 𝓤) (W : Given
 
     -- once the file is there: the area is lent for reading, the file for writing, and `ask` is called
     abbrev First : Val → ℕ → GName → List ℕ → List (Item 𝓤)
-    First v₆ ν₁ δ₁ xs = ‵ (cellAt fullShare (Hd.the-row .mir) (machH ∷ []) b₀ o₀) ∷ ‵ (fobor κ₀ q₀ (Body (mem Hd.the-row) b₀ o₀ γ₀)) ∷ ‵ (Obs₀ h) ∷ ‵ (fauth γ₀ (Hd.the-row .coded .code h)) ∷ add-args₀ (place-args₀ (find-args₀ (part-args₀ (ask-args₀ (survey-args₁ (free Ey′.mir l₁₁ (free word l₁₀ (free slBi l₉ (free As′.mir l₈ (‵ (fdies fileTy l₇) ∷ full S′.mir l₆ v₆ (full Hd′.mir l₅ machH (params (‵ (row u8 fullShare xs l₇ 0) ∷ ‵ (flft (ν₁ ∷ []) fullShare) ∷ ‵ (S₁ ν₁ δ₁) ∷ ‵ (K₁ ν₁) ∷ ‵ O₂ ∷ ‵ (flft κ₂ q₂) ∷ ‵ O₃ ∷ ‵ (flft κ₃ q₃) ∷ [])))))))))))))
+    First v₆ ν₁ δ₁ xs = opened (add-args₀ (place-args₀ (find-args₀ (part-args₀ (ask-args₀ (survey-args₁ (free Ey′.mir l₁₁ (free word l₁₀ (free slBi l₉ (free As′.mir l₈ (‵ (fdies fileTy l₇) ∷ full S′.mir l₆ v₆ (full Hd′.mir l₅ machH (params (‵ (row u8 fullShare xs l₇ 0) ∷ ‵ (flft (ν₁ ∷ []) fullShare) ∷ ‵ (S₁ ν₁ δ₁) ∷ ‵ (K₁ ν₁) ∷ ‵ O₂ ∷ ‵ (flft κ₂ q₂) ∷ ‵ O₃ ∷ ‵ (flft κ₃ q₃) ∷ []))))))))))))))
 
     filled : (s : Survey) (v₆ : Val) (ν₁ : ℕ) (δ₁ : GName) (xs : List ℕ) → length xs ≡ 20483 → Is Hd.the-row h (machH ∷ []) → Is S.the-row s (v₆ ∷ []) → Surveyed h 0 ys (min (length ys) 33) s → Sq W (First v₆ ν₁ δ₁ xs) (runs C Λ En mir′.t-6 (atRet En Post))
     filled s v₆ ν₁ δ₁ xs long gh gs told =
@@ -529,13 +533,13 @@ module _ {M : Type 1} (𝓤 : URA M) (H : Heap 𝓤) (A : Atoms 𝓤) (W : Given
         move ! (2 ∷ []) $ split ! $ move ! (1 ∷ []) $ facts ! As.the-row (Is As.the-row) (shows 𝓤 H A As.the-row) a (w ∷ []) (λ is. split ! $ move ! (1 ∷ []) $ split ! $ move ! (1 ∷ []) $ split ! $
         land ! (from ! (stop !)) (init ! 56 refl (LL.lawful As.the-type As′.the-laws 𝓤 H A W .typed a _ is .0)) $ rewrite ! 56 (λ (y : Val). ‵ (fat fullShare As′.mir l₈ 0 y)) (ap only (LL.tells As.the-type As′.the-laws a (w ∷ []) is)) refl $
         -- the file comes back
-        move ! (0 ∷ []) $ lft-end ! tt $ move ! (0 ∷ 8 ∷ 4 ∷ []) $ use3 W (later (‵ (row u8 fullShare (zs .1 .1 .1 .1 .1 .0) l₇ 0))) (mut-back u8 (ν₃ ∷ []) l₇ 0 𝓤 H A W (named 2) δ₃ (length xs) (zs .1 .1 .1 .1 .1 .0)) $ await ! tt $
+        lft-end ! tt $ move ! (0 ∷ 8 ∷ 4 ∷ []) $ use3 W (later (‵ (row u8 fullShare (zs .1 .1 .1 .1 .1 .0) l₇ 0))) (mut-back u8 (ν₃ ∷ []) l₇ 0 𝓤 H A W (named 2) δ₃ (length xs) (zs .1 .1 .1 .1 .1 .0)) $ await ! tt $
         keep ! (8 ∷ 9 ∷ 10 ∷ 11 ∷ 12 ∷ 13 ∷ 14 ∷ 15 ∷ 16 ∷ 17 ∷ 18 ∷ 19 ∷ 20 ∷ 21 ∷ 22 ∷ 23 ∷ 24 ∷ 25 ∷ 26 ∷ 27 ∷ 28 ∷ 29 ∷ 30 ∷ 31 ∷ 32 ∷ 33 ∷ 34 ∷ 35 ∷ 36 ∷ 37 ∷ 38 ∷ 39 ∷ 40 ∷ 41 ∷ 42 ∷ 43 ∷ 44 ∷ 45 ∷ 46 ∷ 47 ∷ 48 ∷ 49 ∷ 50 ∷ 51 ∷ 52 ∷ 53 ∷ 54 ∷ 55 ∷ 56 ∷ 57 ∷ 58 ∷ 59 ∷ 60 ∷ 61 ∷ 62 ∷ 63 ∷ 64 ∷ 65 ∷ 66 ∷ 67 ∷ 68 ∷ 69 ∷ 70 ∷ 0 ∷ 71 ∷ 72 ∷ 73 ∷ 3 ∷ 6 ∷ 7 ∷ 5 ∷ 2 ∷ []) $
         second v₆ a w ν₁ δ₁ ν₂ δ₂ (zs .1 .1 .1 .1 .1 .0) gh is (len ∙ long) (e .0) (e .1 ys refl told)))))))))))
 
     -- after `survey`: the file is made
     abbrev Zeroth : Val → ℕ → GName → List (Item 𝓤)
-    Zeroth v₆ ν₁ δ₁ = ‵ (cellAt fullShare (Hd.the-row .mir) (machH ∷ []) b₀ o₀) ∷ ‵ (fobor κ₀ q₀ (Body (mem Hd.the-row) b₀ o₀ γ₀)) ∷ ‵ (Obs₀ h) ∷ ‵ (fauth γ₀ (Hd.the-row .coded .code h)) ∷ add-args₀ (place-args₀ (find-args₀ (part-args₀ (ask-args₀ (survey-args₁ (free Ey′.mir l₁₁ (free word l₁₀ (free slBi l₉ (free As′.mir l₈ (free fileTy l₇ (full S′.mir l₆ v₆ (full Hd′.mir l₅ machH (params (‵ (flft (ν₁ ∷ []) fullShare) ∷ ‵ (S₁ ν₁ δ₁) ∷ ‵ (K₁ ν₁) ∷ ‵ O₂ ∷ ‵ (flft κ₂ q₂) ∷ ‵ O₃ ∷ ‵ (flft κ₃ q₃) ∷ []))))))))))))))
+    Zeroth v₆ ν₁ δ₁ = opened (add-args₀ (place-args₀ (find-args₀ (part-args₀ (ask-args₀ (survey-args₁ (free Ey′.mir l₁₁ (free word l₁₀ (free slBi l₉ (free As′.mir l₈ (free fileTy l₇ (full S′.mir l₆ v₆ (full Hd′.mir l₅ machH (params (‵ (flft (ν₁ ∷ []) fullShare) ∷ ‵ (S₁ ν₁ δ₁) ∷ ‵ (K₁ ν₁) ∷ ‵ O₂ ∷ ‵ (flft κ₂ q₂) ∷ ‵ O₃ ∷ ‵ (flft κ₃ q₃) ∷ [])))))))))))))))
 
     surveyed : (s : Survey) (v₆ : Val) (ν₁ : ℕ) (δ₁ : GName) → Is Hd.the-row h (machH ∷ []) → Is S.the-row s (v₆ ∷ []) → Surveyed h 0 ys (min (length ys) 33) s → Sq W (Zeroth v₆ ν₁ δ₁) (runs C Λ En mir′.t-5 (atRet En Post))
     surveyed s v₆ ν₁ δ₁ gh gs told =
