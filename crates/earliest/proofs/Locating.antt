@@ -19,7 +19,6 @@ use Rattle.formats.proofs.Forest.{joined-split, all-tail, all-drop}
 use Rattle.prefixes.specs.Inner.Patterns.{topOf, readPattern}
 use Rattle.prefixes.proofs.Ends.{taken, letter-inside, letter-put, Owing, owing-done, Ranks}
 use Rattle.prefixes.proofs.Grafts.{slice-from}
-use Rattle.prefixes.proofs.Masks.{joined-prefixes}
 use Rattle.prefixes.proofs.Patterns.{patternsAt, Byte, named, free, byte-at, all-there, flats-split}
 use Rattle.earliest.specs.Inner.Letters.{letterIf, letterOf, callLetter, spelt, firstUnder, under, EndsAt, Locatable, LocatedAt}
 
@@ -54,6 +53,11 @@ opened (symbol j n) G {k} {ds} {vs} e = by-rank (leb n (count G)) e
 opened unknown G e = conflict (cc)
 
 module _ {A B : Type 0} where
+  -- prefixes of some trees and of others
+  joined-prefixes : {cs us : Terms A} {ds vs : Terms B} → Prefixes cs ds → Prefixes us vs → Prefixes (joined cs us) (joined ds vs)
+  joined-prefixes no-more Q = Q
+  joined-prefixes (also p P) Q = also p (joined-prefixes P Q)
+
   -- where there is a pattern, there is a tree for it
   prefix-there : {hs : Terms A} {ts : Terms B} → Prefixes hs ts → 0 < count hs → 0 < count ts
   unfolding count

@@ -27,8 +27,7 @@ use Rattle.formats.specs.Inner.Layout.{transducer, Wholes}
 use Rattle.formats.proofs.Sheets.{transducer-over}
 use Rattle.transducer.proofs.Outputs.{ranked-vars}
 use Rattle.prefixes.specs.Alphabet.{alphabet, children-inside, children-of}
-use Rattle.prefixes.specs.Inner.Cores.{Cored}
-use Rattle.prefixes.specs.Inner.Heads.{machine, Layout, AllAbove, AllUnder}
+use Rattle.prefixes.specs.Inner.Heads.{AllAbove, AllUnder}
 
 -- ---- the transducer of whole bodies is well-formed over the alphabet
 -- each of r children is of sort 0
@@ -77,7 +76,7 @@ module _ {A B C : Type 0} {f : A → Term B} {g : A → Term C} where
     binds-grow (both p ps) = also (bind-grows p) (binds-grow ps)
 
 -- a grafted term grows with the patterns of the states that it calls
-pub graft-grows : {Q : Type 0} (p h : Q → Pattern) {t : Term (ℕ × Q)} → AllVars (λ e. Prefix (p (e .1)) (h (e .1))) t → Prefix (graft p t) (graft h t)
+graft-grows : {Q : Type 0} (p h : Q → Pattern) {t : Term (ℕ × Q)} → AllVars (λ e. Prefix (p (e .1)) (h (e .1))) t → Prefix (graft p t) (graft h t)
 unfolding graft
 graft-grows p h a = bind-grows a
 
@@ -85,7 +84,7 @@ mutual
   unfolding lcp
 
   -- a prefix of two terms is a prefix of the largest common prefix
-  pub lcp-largest : {A B C : Type 0} {g : Term A} {h : Term B} {t : Term C} → Prefix g h → Prefix g t → Prefix g (lcp h t)
+  lcp-largest : {A B C : Type 0} {g : Term A} {h : Term B} {t : Term C} → Prefix g h → Prefix g t → Prefix g (lcp h t)
   lcp-largest any q = any
   lcp-largest (keeps {ts = hs} ps) (keeps {ts = ts} qs) = rw (lcp-keeps hs ts refl (sym (prefixes-count ps) ∙ prefixes-count qs)) (keeps (lcps-largest ps qs))
 
@@ -119,10 +118,6 @@ module _ {ins : List ℕ} {M : Transducer ℕ} {n : ℕ} (l : Leaf ins) (W : Wf 
   pref-under : {h : ℕ → Pattern} → AllAbove ins l M n h → AllUnder n pref h
   pref-under all q v = all q v (pref q) (is-pref q v .common)
 
-  -- they are a core of it
-  pref-core : {h : ℕ → Pattern} → AllAbove ins l M n h → Cored ins l M n h
-  pref-core all = record { core = pref; is-core = record { below = pref-under all; fixed = pref-fixed }; enough = pref-enough }
-
   module _ {h : ℕ → Pattern} (all : AllAbove ins l M n h) where
     -- a cut keeps the patterns above the common prefixes
     pub cut-above : (h′ : ℕ → Pattern) (q a : ℕ) → q < n → a < length ins → h′ q ≡ lcp (h q) (graft h (M .rhs q a)) → ((r : ℕ) → r ≢ q → h′ r ≡ h r) → AllAbove ins l M n h′
@@ -134,8 +129,3 @@ module _ {ins : List ℕ} {M : Transducer ℕ} {n : ℕ} (l : Leaf ins) (W : Wf 
     -- patterns above the common prefixes that no expanded right-hand side cuts are the pref(q)
     pub above-end : Fixed (alphabet ins l) M (λ q. q < n) h → Prefs (alphabet ins l) M (λ q. q < n) h
     above-end fix q v = rw (prefix-antisym (pref-largest (fixpoint W h fix q v) (is-pref q v)) (pref-under all q v)) (is-pref q v)
-
--- ---- cores
--- patterns above the common prefixes have a core
-pub cores : {ins outs starts bytes : List ℕ} {n : ℕ} → Layout ins outs starts bytes n → (l : Leaf ins) {h : ℕ → Pattern} → AllAbove ins l (machine ins outs starts bytes n) n h → Cored ins l (machine ins outs starts bytes n) n h
-cores Y l all = pref-core l (machine-wf l (Y .wholes)) all

@@ -92,7 +92,7 @@ module _ (outs : List ℕ) (few : length outs ≤ 64) where
     unfolding Over count
 
     -- a prefix of a pattern over the alphabet is over it
-    pub over-prefix : {p t : Pattern} → Prefix p t → OverTop outs t → OverTop outs p
+    over-prefix : {p t : Pattern} → Prefix p t → OverTop outs t → OverTop outs p
     over-prefix (any {a}) o = top-letter a
     over-prefix (keeps {k} ps) o = (o .0 ∙ ap (symbol k) (sym (prefixes-count ps)), over-prefixes ps (o .1))
 
@@ -170,10 +170,6 @@ pub head-lent : (heads sizes : List ℕ) (q : ℕ) {size : ℕ} → size ≡ get
 head-lent heads sizes q {size} e h =
     let k : 64 * q + size - 64 * q ≡ getD sizes q 0 = omega arith in
     ap (λ n. take n (drop (64 * q) heads)) k ∙ sym (slice-from heads (64 * q) (getD sizes q 0) h)
-
--- one letter has one number: letter k of state q has number 64 q + k
-pub letter-one : {q k r l : ℕ} → k < 64 → l < 64 → 64 * q + k ≡ 64 * r + l → (r ≡ q) × (l ≡ k)
-letter-one h g e = (omega arith, omega arith)
 
 -- a pattern is as long as its size says
 pub head-length : (heads sizes : List ℕ) (q : ℕ) → 64 * q + getD sizes q 0 ≤ length heads → length (headAt heads sizes q) ≡ getD sizes q 0
@@ -327,7 +323,7 @@ spell-fits g bytes from to inside k =
     omega (arith, length-slice from to (pairs bytes) p)
 
 -- a state that is not there has no bytes
-pub head-none : (heads sizes : List ℕ) (p : ℕ) → length sizes ≤ p → headAt heads sizes p ≡ []
+head-none : (heads sizes : List ℕ) (p : ℕ) → length sizes ≤ p → headAt heads sizes p ≡ []
 head-none heads sizes p h = let e : 64 * p + getD sizes p 0 ≡ 64 * p = omega (arith, List·getD-eq-default sizes 0 h) in rw e (slice-empty (64 * p) heads)
 
 -- ---- a part that was lent, from index f up to e, put back as ys
@@ -367,11 +363,11 @@ module _ {outs heads sizes : List ℕ} (T : Heads outs heads sizes) (q : ℕ) (s
   same-q = same ∙ mid-len (64 * q) (64 * q + n) heads fits-q
 
   -- the bytes of q are the first ones that were put back
-  pub head-cut : headAt (putHead heads q n after) (set sizes q size) q ≡ take size after
+  head-cut : headAt (putHead heads q n after) (set sizes q size) q ≡ take size after
   head-cut = rw (getD-set-same sizes q size 0 state) (put-here heads after (64 * q) (64 * q + n) (omega arith) fits-q same-q size short)
 
   -- those of the other states stay
-  pub head-kept : (p : ℕ) → p < length sizes → p ≢ q → headAt (putHead heads q n after) (set sizes q size) p ≡ headAt heads sizes p
+  head-kept : (p : ℕ) → p < length sizes → p ≢ q → headAt (putHead heads q n after) (set sizes q size) p ≡ headAt heads sizes p
   head-kept p h g = rw (getD-set-other sizes q p size 0 g) (by-cases (decLt p q)
       (λ l. put-before heads after (64 * q) (64 * q + n) (omega arith) fits-q same-q (64 * p) (64 * p + getD sizes p 0) (omega (arith, T .small p h)))
       (λ l. put-behind heads after (64 * q) (64 * q + n) (omega arith) fits-q same-q (64 * p) (getD sizes p 0) (omega (arith, T .small q state)) (omega (arith, T .long))))

@@ -26,14 +26,14 @@ use Rattle.theory.proofs.Sizes.{lcp-same, lcp-smaller}
 use Rattle.theory.proofs.Terms.{conflict}
 use Rattle.formats.specs.Alphabets.{Leaf}
 use Rattle.formats.specs.Inner.Decode.{Whole}
-use Rattle.formats.specs.Inner.Layout.{markOf, body, bodyNumber, transducer}
+use Rattle.formats.specs.Inner.Layout.{markOf, body, bodyNumber, bodyCount, transducer}
 use Rattle.formats.specs.Inner.Marked.{part}
 use Rattle.formats.specs.Refusal.{Decides}
 use Rattle.formats.proofs.Pairs.{number-less}
 use Rattle.transducer.specs.Linear.{oneIf}
 use Rattle.prefixes.specs.Alphabet.{alphabet, children-inside}
 use Rattle.prefixes.specs.Inner.Patterns.{top}
-use Rattle.prefixes.specs.Inner.Heads.{Heads, headOf, Cuttable, CutBy, machine, Layout, Bodies, FixedAt, AllAbove, AllUnder, UnderLeaf, Cuts, CutRhs, CutState, Swept, Searched, Settled}
+use Rattle.prefixes.specs.Inner.Heads.{Heads, headOf, Cuttable, CutBy, machine, Layout, Bodies, FixedAt, AllAbove, AllUnder, UnderLeaf, Cuts, CutRhs, CutState, Swept, Flaggable, Followed, Settled}
 use Rattle.prefixes.proofs.Grafts.{head-top}
 use Rattle.prefixes.proofs.Above.{prefix-self, prefix-bind, cut-above, above-end}
 pub use Rattle.prefixes.proofs.Above.{machine-wf}
@@ -244,6 +244,59 @@ module _ {ins outs starts bytes heads₀ sizes₀ other₀ : List ℕ} (B : Bodi
   pub sweep-end : k ≡ 0 → Swept ins outs starts bytes leaf heads₀ sizes₀ heads sizes any
   sweep-end h = record { table = L .table; cuts = L .cuts; fixed = λ e p g. L .passed e p (omega arith) g }
 
+-- ---- cuts of the states whose callees changed
+-- the numbers of the first body of a state, and of the first of the next state, are in the table of starts
+pub row-fits : {ins starts bytes : List ℕ} {n : ℕ} → Flaggable ins starts bytes n → {p : ℕ} → p < n → (1 + p * length ins + length ins < 2050) × (1 + p * length ins + length ins ≤ bodyCount ins n)
+row-fits {ins} {n = n} F {p} h =
+    let m : (p + 1) * length ins ≤ n * length ins = mul-le-mul (omega arith) (omega arith) in
+    (omega (arith, mul-le-mul (F .few-states) (F .few-inputs)), omega arith)
+
+pub can-flag : {ins outs starts bytes heads sizes other : List ℕ} → Bodies ins outs starts bytes heads sizes other → Flaggable ins starts bytes (length sizes)
+can-flag B = record { few-states = B .layout .few-states; few-inputs = B .layout .few-inputs; laid = B .layout .laid }
+
+-- what is left to cut of n states, and the sum of the words of flags, which is less than 2 ^ 65
+abbrev pub ahead : List ℕ → List ℕ → List ℕ → ℕ → ℕ → ℕ
+ahead outs heads sizes n flags = 36893488147419103232 * total (headOf outs heads sizes) n + flags
+
+-- the loop over the flags, of which f is the first
+pub record FollowLoop (ins outs starts bytes heads₀ sizes₀ other₀ heads sizes other : List ℕ) (flags f : ℕ) : Type 0 where
+  pub same-heads : length heads ≡ length heads₀
+  pub same-sizes : length sizes ≡ length sizes₀
+  pub same-other : length other ≡ length other₀
+  pub set : f < length sizes₀ → 0 < flags
+  pub followed : Followed ins outs starts bytes heads₀ sizes₀ heads sizes
+
+pub follow-start : {ins outs starts bytes heads sizes other : List ℕ} {flags f : ℕ} → 0 < flags → Heads outs heads sizes → FollowLoop ins outs starts bytes heads sizes other heads sizes other flags f
+follow-start h T = record { same-heads = refl; same-sizes = refl; same-other = refl; set = λ g. h; followed = record { table = T; any = false; cuts = no-cut _ } }
+
+module _ {ins outs starts bytes heads₀ sizes₀ other₀ : List ℕ} (B : Bodies ins outs starts bytes heads₀ sizes₀ other₀)
+    {heads sizes other : List ℕ} {flags f : ℕ} (L : FollowLoop ins outs starts bytes heads₀ sizes₀ other₀ heads sizes other flags f) where
+  pub follow-bodies : Bodies ins outs starts bytes heads sizes other
+  follow-bodies = other-table B (L .followed .table) (L .same-sizes) (L .same-other)
+
+  module _ {leaf q : ℕ} {heads′ sizes′ : List ℕ} {b : Bool} (C : CutState ins outs starts bytes leaf q heads sizes heads′ sizes′ b) where
+    state-here : Cuts ins (machine ins outs starts bytes (length sizes₀)) (length sizes₀) (headOf outs heads sizes) (headOf outs heads′ sizes′) b
+    state-here = rw (← L .same-sizes) (C .cuts)
+
+    pub follow-next : {other′ : List ℕ} {flags′ f′ : ℕ} → length heads′ ≡ length heads → length sizes′ ≡ length sizes → length other′ ≡ length other → (f′ < 128 → 0 < flags′) → FollowLoop ins outs starts bytes heads₀ sizes₀ other₀ heads′ sizes′ other′ flags′ f′
+    follow-next sh ss so first = record {
+      same-heads = sh ∙ L .same-heads;
+      same-sizes = ss ∙ L .same-sizes;
+      same-other = so ∙ L .same-other;
+      set = λ h. first (omega (arith, B .layout .few-states));
+      followed = go b refl;
+    }
+      where
+        go : (x : Bool) → b ≡ x → Followed ins outs starts bytes heads₀ sizes₀ heads′ sizes′
+        go true e = record { table = C .table; any = true; cuts = then-cut (L .followed .cuts) e state-here }
+        go false e = record { table = C .table; any = L .followed .any; cuts = then-none (L .followed .cuts) e state-here }
+
+    pub less-cut : {flags′ : ℕ} → b ≡ true → flags′ < 36893488147419103232 → ahead outs heads′ sizes′ (length sizes₀) flags′ < ahead outs heads sizes (length sizes₀) flags
+    less-cut e h = omega (arith, state-here .less e)
+
+    pub less-none : {flags′ : ℕ} → b ≡ false → flags′ < flags → ahead outs heads′ sizes′ (length sizes₀) flags′ < ahead outs heads sizes (length sizes₀) flags
+    less-none e h = omega (arith, ap (λ k. total k (length sizes₀)) (same-patterns state-here e))
+
 -- ---- the loop until nothing is cut
 pub record SettleLoop (ins outs starts bytes : List ℕ) (leaf : ℕ) (heads₀ sizes₀ other₀ heads sizes other : List ℕ) (again : Bool) : Type 0 where
   pub table : Heads outs heads sizes
@@ -265,6 +318,26 @@ module _ {ins outs starts bytes heads₀ sizes₀ other₀ : List ℕ} (B : Bodi
     {heads sizes other : List ℕ} {again : Bool} (L : SettleLoop ins outs starts bytes leaf heads₀ sizes₀ other₀ heads sizes other again) where
   pub settle-bodies : Bodies ins outs starts bytes heads sizes other
   settle-bodies = other-table B (L .table) (L .same-sizes) (L .same-other)
+
+  -- what follows calls keeps the loop going, and leaves no more to cut
+  module _ {heads′ sizes′ : List ℕ} (F : Followed ins outs starts bytes heads sizes heads′ sizes′) (ss : length sizes′ ≡ length sizes) where
+    followed-here : Cuts ins (machine ins outs starts bytes (length sizes₀)) (length sizes₀) (headOf outs heads sizes) (headOf outs heads′ sizes′) (F .any)
+    followed-here = rw (← L .same-sizes) (F .cuts)
+
+    pub settle-follow : {other′ : List ℕ} → length heads′ ≡ length heads → length other′ ≡ length other → SettleLoop ins outs starts bytes leaf heads₀ sizes₀ other₀ heads′ sizes′ other′ true
+    settle-follow sh so = record {
+      table = F .table;
+      same-heads = sh ∙ L .same-heads;
+      same-sizes = ss ∙ L .same-sizes;
+      same-other = so ∙ L .same-other;
+      above = λ l a. followed-here .above l (L .above l a);
+      under = λ q v. prefix-trans (followed-here .under q v) (L .under q v);
+      fixed = λ e. conflict (cc);
+    }
+
+    pub follow-fewer : again ≡ true → left outs heads′ sizes′ true ≤ left outs heads sizes again
+    unfolding left
+    follow-fewer t = rw (ss, t) (omega (arith, not-more (F .cuts)))
 
   module _ {heads′ sizes′ : List ℕ} {b : Bool} (C : Swept ins outs starts bytes leaf heads sizes heads′ sizes′ b) (sh : length heads′ ≡ length heads) (ss : length sizes′ ≡ length sizes) where
     swept-here : Cuts ins (machine ins outs starts bytes (length sizes₀)) (length sizes₀) (headOf outs heads sizes) (headOf outs heads′ sizes′) b
@@ -291,27 +364,3 @@ module _ {ins outs starts bytes heads₀ sizes₀ other₀ : List ℕ} (B : Bodi
 
   pub settle-end : again ≡ false → Settled ins outs starts bytes leaf heads₀ sizes₀ heads sizes
   settle-end e = record { table = L .table; prefs = λ l a u. all-fixed l (machine-wf l (B .layout .wholes)) (L .above l a) (λ q v. prefix-trans (L .under q v) (u q v)) (L .fixed e) }
-
--- ---- before a sweep: the patterns are as they were, or cuts letter by letter made them smaller
-pub record Between (ins outs starts bytes : List ℕ) (leaf : ℕ) (heads₀ sizes₀ other₀ heads sizes : List ℕ) (again : Bool) (heads′ sizes′ other′ : List ℕ) : Type 0 where
-  pub loop : SettleLoop ins outs starts bytes leaf heads₀ sizes₀ other₀ heads′ sizes′ other′ true
-  pub fewer : left outs heads′ sizes′ true ≤ left outs heads sizes again
-
-module _ {ins outs starts bytes : List ℕ} {leaf : ℕ} {heads₀ sizes₀ other₀ heads sizes other : List ℕ} {again : Bool} (L : SettleLoop ins outs starts bytes leaf heads₀ sizes₀ other₀ heads sizes other again) (t : again ≡ true) where
-  pub between-none : {heads′ sizes′ other′ : List ℕ} → heads′ ≡ heads → sizes′ ≡ sizes → other′ ≡ other → Between ins outs starts bytes leaf heads₀ sizes₀ other₀ heads sizes again heads′ sizes′ other′
-  between-none e f g = rw (e, f, g, t) (record { loop = rw t at L; fewer = omega arith })
-
-  pub between-some : {heads′ sizes′ other′ : List ℕ} → Searched ins outs starts bytes heads sizes heads′ sizes′ → length heads′ ≡ length heads → length sizes′ ≡ length sizes → length other′ ≡ length other → Between ins outs starts bytes leaf heads₀ sizes₀ other₀ heads sizes again heads′ sizes′ other′
-  unfolding left
-  between-some F sh ss so = record {
-    loop = record {
-      table = F .table;
-      same-heads = sh ∙ L .same-heads;
-      same-sizes = ss ∙ L .same-sizes;
-      same-other = so ∙ L .same-other;
-      above = λ l a. (rw (L .same-sizes) at (F .above l)) (L .above l a);
-      under = λ q v. prefix-trans (F .under q (omega (arith, L .same-sizes))) (L .under q v);
-      fixed = λ e. conflict (cc);
-    };
-    fewer = rw (ss, t) (omega (arith, F .fewer));
-  }

@@ -1,5 +1,3 @@
 -- What only inner functions and their proofs speak of.
 pub mod Patterns
 pub mod Heads
-pub mod Cores
-pub mod Search

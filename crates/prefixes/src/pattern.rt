@@ -10,7 +10,7 @@ use formats::bytes::wide;
 use formats::file::copy_at;
 
 // The end of the pattern at `at`.
-pub(crate) fn pattern_end(outs: &[u8], s: &[u8], at: usize) -> usize
+fn pattern_end(outs: &[u8], s: &[u8], at: usize) -> usize
     requires { ⌜ 0 < count (forest (topOf (now outs)) (drop at (now s))) ⌝ }
     ensures { λ r. ⌜ Ended (now (outs .entry)) (now (s .entry)) at r ⌝ }
 {
@@ -59,7 +59,7 @@ fn same_words(x: &[u8], i: usize, y: &[u8], j: usize, n: usize) -> usize
 }
 
 // The length of a run of bytes of x from i on that are those of y from j on.
-pub(crate) fn same_run(x: &[u8], i: usize, y: &[u8], j: usize) -> usize
+fn same_run(x: &[u8], i: usize, y: &[u8], j: usize) -> usize
     requires { ⌜ (i ≤ length (now x)) × (j ≤ length (now y)) ⌝ }
     ensures { λ r. ⌜ Run (now (x .entry)) i (now (y .entry)) j r ⌝ }
 {

@@ -3,10 +3,13 @@ ghost use Prim.Native.Nat.{_*_, _≤_, _<_};
 ghost use mathlib.Core.Path.{_≡_};
 ghost use lib.ListN.{length, getD};
 ghost use Rattle.formats.specs.Alphabets.{Leaf};
-ghost use Rattle.prefixes.specs.Inner.Heads.{Cuttable, CutBy, Bodies, CutRhs, CutState, Swept, Settled, Startable, Started, AllStartable, AllStarted, Prefixable, Prefixes};
+ghost use Rattle.prefixes.specs.Inner.Heads.{Cuttable, CutBy, Bodies, CutRhs, CutState, Swept, Followed, Settled, Startable, Started, AllStartable, AllStarted, Prefixable, Prefixes};
+use crate::callers::Flags;
+use crate::callers::find_callers;
+use crate::callers::first_flag;
+use crate::callers::other_flags;
 use crate::pattern::graft;
 use crate::pattern::meet;
-use crate::search::search;
 use formats::bytes::number;
 use formats::bytes::wide;
 
@@ -112,8 +115,45 @@ fn sweep(
     any
 }
 
-// Cuts until no right-hand side cuts any more: letter by letter before each sweep, the last of which finds nothing.
-// The first sweeps go without, as many as look at 256 right-hand sides: these take no longer than the search's arrays to be cleared.
+// Cuts the pattern of every state, and again that of each state that calls one whose pattern lost symbols. The flags save cuts that take nothing
+// away, and no pattern hangs on them: flag f is that of state n - 1 - f, and the first that is set is the next to go.
+fn follow(
+    ins: &[u8],
+    outs: &[u8],
+    starts: &[u16],
+    marks: &[u8],
+    heads: &mut [u8],
+    sizes: &mut [u8],
+    leaf: usize,
+    other: &mut [u8],
+)
+    requires { ⌜ Bodies (now ins) (now outs) (now starts) (now marks) (now heads) (now sizes) (now other) ⌝ }
+    ensures { λ _. ⌜ Followed (now (ins .entry)) (now (outs .entry)) (now (starts .entry)) (now (marks .entry)) (now (heads .entry)) (now (sizes .entry)) (now (heads .exit)) (now (sizes .exit)) ⌝ }
+{
+    let n = sizes.len();
+    let mut callers = [0u64; 256];
+    find_callers(ins, starts, marks, n, &mut callers);
+    let mut flags = Flags {
+        low: 18446744073709551615,
+        high: 18446744073709551615,
+    };
+    let mut f = 0;
+    while f < n {
+        flags = other_flags(flags);
+        let q = n - 1 - f;
+        if cut_state(ins, outs, starts, marks, heads, sizes, leaf, q, other) {
+            let low = flags.low | callers[2 * q];
+            let high = flags.high | callers[2 * q + 1];
+            flags = Flags {
+                low: low,
+                high: high,
+            };
+        }
+        f = first_flag(flags);
+    }
+}
+
+// Cuts until no right-hand side cuts any more: the states whose callees changed, and then all of them, which shows that nothing is left to cut.
 pub(crate) fn settle(
     ins: &[u8],
     outs: &[u8],
@@ -124,18 +164,12 @@ pub(crate) fn settle(
     leaf: usize,
     other: &mut [u8],
 )
-    requires { ⌜ Bodies (now ins) (now outs) (now starts) (now marks) (now heads) (now sizes) (now other) × (leaf < length (now ins)) ⌝ }
+    requires { ⌜ Bodies (now ins) (now outs) (now starts) (now marks) (now heads) (now sizes) (now other) ⌝ }
     ensures { λ _. ⌜ Settled (now (ins .entry)) (now (outs .entry)) (now (starts .entry)) (now (marks .entry)) leaf (now (heads .entry)) (now (sizes .entry)) (now (heads .exit)) (now (sizes .exit)) ⌝ }
 {
-    let limit = 256 / (1 + sizes.len() * ins.len());
     let mut more = true;
-    let mut turn = 0;
     while more {
-        if turn < limit {
-            turn += 1;
-        } else {
-            search(ins, outs, starts, marks, heads, sizes, leaf);
-        }
+        follow(ins, outs, starts, marks, heads, sizes, leaf, other);
         more = sweep(ins, outs, starts, marks, heads, sizes, leaf, other);
     }
 }

@@ -440,6 +440,9 @@ fn sheets() -> Vec<Sheet> {
         })
     };
     let comb = |states: u8| ring(states, 2, &|k| k);
+    let mut shuffled: Vec<u8> = (0..127).collect();
+    let mut numbers = Numbers(0x2545_f491_4f6c_dd1d);
+    (1..127).rev().for_each(|k| shuffled.swap(k, numbers.below(k + 1)));
     // each state calls itself below f(c, .), with d as the first leaf of its comb at e
     let loops = rows(124, 2, &[1, 0], &|state, symbol| match symbol {
         0 => vec![0, 0, 0, 1, 1, state],
@@ -492,6 +495,7 @@ fn sheets() -> Vec<Sheet> {
         sheet("prefixes, 32 in 127", &stock, comb(127)),
         sheet("prefixes, 32 in 127, backwards", &stock, ring(127, 2, &|k| 126 - k)),
         sheet("prefixes, 32 in 127, mixed", &stock, ring(127, 2, &|k| (u16::from(k) * 50 % 127) as u8)),
+        sheet("prefixes, 32 in 127, at random", &stock, ring(127, 2, &|k| shuffled[usize::from(k)])),
         sheet("prefixes, 32 in 100, 15 calls", &wide_stock, ring(100, 16, &|k| k)),
         sheet("prefixes, 32 in 100, 15 calls, mixed", &wide_stock, ring(100, 16, &|k| (u16::from(k) * 37 % 100) as u8)),
         sheet("prefixes, 31 in itself, 124 times", &stock, loops),

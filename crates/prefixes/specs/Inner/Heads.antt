@@ -113,13 +113,18 @@ pub record Swept (ins outs starts bytes : List ℕ) (leaf : ℕ) (heads sizes he
   pub cuts : Cuts ins (machine ins outs starts bytes (length sizes)) (length sizes) (headOf outs heads sizes) (headOf outs heads′ sizes′) b
   pub fixed : b ≡ false → (q : ℕ) → q < length sizes → FixedAt ins leaf (machine ins outs starts bytes (length sizes)) (headOf outs heads sizes) q
 
--- ---- cuts letter by letter
--- the patterns stay above the common prefixes, become prefixes of what they were, and gain no symbol
-pub record Searched (ins outs starts bytes heads sizes heads′ sizes′ : List ℕ) : Type 0 where
+-- ---- cuts of the states whose callees changed
+-- what the flags of callers ask: the bodies of at most 128 states lie where the table says
+pub record Flaggable (ins starts bytes : List ℕ) (n : ℕ) : Type 0 where
+  pub few-states : n ≤ 128
+  pub few-inputs : length ins ≤ 16
+  pub laid : Laid ins n starts bytes
+
+-- any number of cuts
+pub record Followed (ins outs starts bytes heads sizes heads′ sizes′ : List ℕ) : Type 0 where
   pub table : Heads outs heads′ sizes′
-  pub above : (l : Leaf ins) → AllAbove ins l (machine ins outs starts bytes (length sizes)) (length sizes) (headOf outs heads sizes) → AllAbove ins l (machine ins outs starts bytes (length sizes)) (length sizes) (headOf outs heads′ sizes′)
-  pub under : AllUnder (length sizes) (headOf outs heads′ sizes′) (headOf outs heads sizes)
-  pub fewer : total (headOf outs heads′ sizes′) (length sizes) ≤ total (headOf outs heads sizes) (length sizes)
+  pub any : Bool
+  pub cuts : Cuts ins (machine ins outs starts bytes (length sizes)) (length sizes) (headOf outs heads sizes) (headOf outs heads′ sizes′) any
 
 -- ---- the end
 -- the patterns are the common prefixes, if they were above them and the right-hand side for the leaf cuts nothing

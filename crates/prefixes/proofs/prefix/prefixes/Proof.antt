@@ -11,7 +11,7 @@ start-heads-requires : tie.Need-start-heads-requires
 start-heads-requires c κs = search needs
 
 settle-requires : tie.Need-settle-requires
-settle-requires c κs = let k = c .before .before .before .before .before .before .before .start-heads in (can-settle (c .before .before .before .before .before .before .before .before .before .before .before .before .before .before .before .before .before .before .pre) (k .ensures) (k .kept .1 .1 .1 .1 .1 .0), c .before .before .before .before .before .before .before .before .before .before .leaf-symbol .ensures .0)
+settle-requires c κs = let k = c .before .before .before .before .before .before .before .start-heads in can-settle (c .before .before .before .before .before .before .before .before .before .before .before .before .before .before .before .before .before .before .pre) (k .ensures) (k .kept .1 .1 .1 .1 .1 .0)
 
 same-length : tie.Need-same-length
 same-length c = search needs

@@ -1,53 +1,42 @@
 -- `settle` meets its contract. The invariant is `SettleLoop`; what is left to cut falls. Assumes nothing.
-use Prim.Native.Nat.{_+_, _*_}
-use native.Mathlib.Nat.{mul-le-mul, div-le-self}
 use native.Mathlib.Omega.{arith}
-use mathlib.Core.Logic.{⊎-elim}
 use mathlib.Core.Path.{refl}
-use lib.ListN.{length}
-use denote.Ref.{now}
-use Rattle.prefixes.proofs.Settling.{SettleLoop, left, settle-start, settle-bodies, settle-next, settle-less, settle-end, Between, between-none, between-some}
+use Rattle.prefixes.proofs.Settling.{SettleLoop, left, settle-start, settle-bodies, settle-follow, follow-fewer, settle-next, settle-less, settle-end}
 use Rattle.prefixes.proofs.prefix.settle.Statement.{statement}
 use Rattle.prefixes.proofs.prefix.settle.Tie as tie
 
 abbrev Inv-loop : tie.InvT-loop
-Inv-loop ins outs starts marks heads₀ sizes₀ leaf other₀ limit more₀ turn₀ heads sizes other more turn = SettleLoop ins outs starts marks leaf heads₀ sizes₀ other₀ heads sizes other more
+Inv-loop ins outs starts marks heads₀ sizes₀ leaf other₀ more₀ heads sizes other more = SettleLoop ins outs starts marks leaf heads₀ sizes₀ other₀ heads sizes other more
 
 abbrev μ-loop : tie.MeasureT-loop
-μ-loop ins outs starts marks heads₀ sizes₀ leaf other₀ limit more₀ turn₀ heads sizes other more turn = left outs heads sizes more
-
-mul-limit : tie.Need-mul-limit Inv-loop μ-loop
-mul-limit c = omega (arith, mul-le-mul (c .before .before .before .before .before .before .before .pre .0 .layout .few-states) (c .before .before .before .before .before .before .before .pre .0 .layout .few-inputs))
-
-add-limit : tie.Need-add-limit Inv-loop μ-loop
-add-limit c = omega (arith, mul-le-mul (c .before .before .before .before .before .before .before .pre .0 .layout .few-states) (c .before .before .before .before .before .before .before .pre .0 .layout .few-inputs))
-
-div-limit : tie.Need-div-limit Inv-loop μ-loop
-div-limit c = omega arith
+μ-loop ins outs starts marks heads₀ sizes₀ leaf other₀ more₀ heads sizes other more = left outs heads sizes more
 
 loop-holds : tie.Need-loop-holds Inv-loop μ-loop
-loop-holds c = settle-start (c .before .before .before .before .before .before .before .args .leaf) (c .before .before .before .before .before .before .before .pre .0 .table)
+loop-holds c = settle-start (c .before .before .before .before .before .before .before .args .leaf) (c .before .before .before .before .before .before .before .pre .table)
 
-add-turn : tie.Need-add-turn Inv-loop μ-loop
-add-turn c = omega (arith, c .if1 .taken, div-le-self 256 (1 + length (now (c .before .before .before .before .before .before .before .before .before .before .args .sizes)) * length (now (c .before .before .before .before .before .before .before .before .before .before .args .ins))))
-
-search-requires : tie.Need-search-requires Inv-loop μ-loop
-search-requires c κs = let b = settle-bodies (c .before .before .before .before .before .before .before .before .before .before .before .before .pre .0) (c .before .before .before .before .loop .inv) in (b .table, b .layout)
-
--- the table before the sweep
-between : (c : tie.Joined1 Inv-loop μ-loop) → Between (now (c .before .before .before .before .before .before .before .before .before .before .args .ins)) (now (c .before .before .before .before .before .before .before .before .before .before .args .outs)) (now (c .before .before .before .before .before .before .before .before .before .before .args .starts)) (now (c .before .before .before .before .before .before .before .before .before .before .args .marks)) (c .before .before .before .before .before .before .before .before .before .before .args .leaf) (now (c .before .before .before .before .before .before .before .before .before .before .args .heads)) (now (c .before .before .before .before .before .before .before .before .before .before .args .sizes)) (now (c .before .before .before .before .before .before .before .before .before .before .args .other)) (c .before .before .loop .heads) (c .before .before .loop .sizes) (c .before .before .loop .more) (c .if1 .heads) (c .if1 .sizes) (c .before .before .loop .other)
-between c =
-    let L = c .before .before .loop .inv in
-    ⊎-elim (λ w. between-none L (c .before .loop-test .taken) (w .1) (w .2) refl) (λ w. let k = w .3 in rw (w .8, w .9) (between-some L (c .before .loop-test .taken) (k .ensures) (k .kept .1 .1 .1 .1 .0) (k .kept .1 .1 .1 .1 .1 .0) refl)) (c .if1 .came)
+follow-requires : tie.Need-follow-requires Inv-loop μ-loop
+follow-requires c κs = settle-bodies (c .before .before .before .before .before .before .before .before .before .before .before .before .pre) (c .before .before .before .before .loop .inv)
 
 sweep-requires : tie.Need-sweep-requires Inv-loop μ-loop
-sweep-requires c κs = settle-bodies (c .before .before .before .before .before .before .before .before .before .before .before .before .before .pre .0) (between (c .before .before .before) .loop)
+sweep-requires c κs =
+    let B = c .before .before .before .before .before .before .before .before .before .before .before .before .before .before .before .before .before .before .before .before .before .before .pre in
+    let k = c .before .before .before .before .before .before .before .before .before .follow in
+    settle-bodies B (settle-follow B (c .before .before .before .before .before .before .before .before .before .before .before .before .before .before .loop .inv) (k .ensures) (k .kept .1 .1 .1 .1 .1 .0) (k .kept .1 .1 .1 .1 .0) (k .kept .1 .1 .1 .1 .1 .1 .1 .0))
 
 loop-less : tie.Need-loop-less Inv-loop μ-loop
-loop-less c = let k = c .before .before .before .before .before .before .sweep in let m = between (c .before .before .before .before .before .before .before .before .before .before) in omega (arith, m .fewer, settle-less (c .before .before .before .before .before .before .before .before .before .before .before .before .before .before .before .before .before .before .before .before .pre .0) (m .loop) (k .ensures) (k .kept .1 .1 .1 .1 .0) (k .kept .1 .1 .1 .1 .1 .0) refl)
+loop-less c =
+    let B = c .before .before .before .before .before .before .before .before .before .before .before .before .before .before .before .before .before .before .before .before .before .before .before .before .before .before .before .before .before .pre in
+    let k = c .before .before .before .before .before .before .before .before .before .before .before .before .before .before .before .before .follow in
+    let z = c .before .before .before .before .before .before .sweep in
+    let L = c .before .before .before .before .before .before .before .before .before .before .before .before .before .before .before .before .before .before .before .before .before .loop .inv in
+    omega (arith, follow-fewer B L (k .ensures) (k .kept .1 .1 .1 .1 .1 .0) (c .before .before .before .before .before .before .before .before .before .before .before .before .before .before .before .before .before .before .before .before .loop-test .taken), settle-less B (settle-follow B L (k .ensures) (k .kept .1 .1 .1 .1 .1 .0) {other′ = k .last .1 .1 .1 .1 .1 .1 .1 .0} (k .kept .1 .1 .1 .1 .0) (k .kept .1 .1 .1 .1 .1 .1 .1 .0)) (z .ensures) (z .kept .1 .1 .1 .1 .0) (z .kept .1 .1 .1 .1 .1 .0) refl)
 
 loop-again : tie.Need-loop-again Inv-loop μ-loop
-loop-again c = let k = c .before .before .before .before .before .before .sweep in settle-next (c .before .before .before .before .before .before .before .before .before .before .before .before .before .before .before .before .before .before .before .before .pre .0) (between (c .before .before .before .before .before .before .before .before .before .before) .loop) (k .ensures) (k .kept .1 .1 .1 .1 .0) (k .kept .1 .1 .1 .1 .1 .0) (k .kept .1 .1 .1 .1 .1 .1 .1 .0)
+loop-again c =
+    let B = c .before .before .before .before .before .before .before .before .before .before .before .before .before .before .before .before .before .before .before .before .before .before .before .before .before .before .before .before .before .pre in
+    let k = c .before .before .before .before .before .before .before .before .before .before .before .before .before .before .before .before .follow in
+    let z = c .before .before .before .before .before .before .sweep in
+    settle-next B (settle-follow B (c .before .before .before .before .before .before .before .before .before .before .before .before .before .before .before .before .before .before .before .before .before .loop .inv) (k .ensures) (k .kept .1 .1 .1 .1 .1 .0) {other′ = k .last .1 .1 .1 .1 .1 .1 .1 .0} (k .kept .1 .1 .1 .1 .0) (k .kept .1 .1 .1 .1 .1 .1 .1 .0)) (z .ensures) (z .kept .1 .1 .1 .1 .0) (z .kept .1 .1 .1 .1 .1 .0) (z .kept .1 .1 .1 .1 .1 .1 .1 .0)
 
 same-length : tie.Need-same-length Inv-loop μ-loop
 same-length c = c .before .loop .inv .same-heads
@@ -59,7 +48,7 @@ same-length-3 : tie.Need-same-length-3 Inv-loop μ-loop
 same-length-3 c = c .before .loop .inv .same-other
 
 returns : tie.Need-returns Inv-loop μ-loop
-returns c = settle-end (c .before .before .before .before .before .before .before .before .before .pre .0) (c .before .loop .inv) (c .loop-test .left)
+returns c = settle-end (c .before .before .before .before .before .before .before .before .before .pre) (c .before .loop .inv) (c .loop-test .left)
 
 pub settle-spec : {M : Type 1} → statement M
 settle-spec =
@@ -67,12 +56,8 @@ settle-spec =
     (tie.spec
     Inv-loop
     μ-loop
-    mul-limit
-    add-limit
-    div-limit
     loop-holds
-    add-turn
-    search-requires
+    follow-requires
     sweep-requires
     loop-less
     loop-again
