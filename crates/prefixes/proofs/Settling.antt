@@ -254,11 +254,11 @@ row-fits {ins} {n = n} F {p} h =
 pub can-flag : {ins outs starts bytes heads sizes other : List ℕ} → Bodies ins outs starts bytes heads sizes other → Flaggable ins starts bytes (length sizes)
 can-flag B = record { few-states = B .layout .few-states; few-inputs = B .layout .few-inputs; laid = B .layout .laid }
 
--- what is left to cut of n states, and the sum of the words of flags, which is less than 2 ^ 65
+-- what is left to cut of n states, and the sum of the words of flags, which is less than 2 ^ 66
 abbrev pub ahead : List ℕ → List ℕ → List ℕ → ℕ → ℕ → ℕ
-ahead outs heads sizes n flags = 36893488147419103232 * total (headOf outs heads sizes) n + flags
+ahead outs heads sizes n flags = 73786976294838206464 * total (headOf outs heads sizes) n + flags
 
--- the loop over the flags, of which f is the first
+-- the loop over the flags: those of this round are the words `flags` together, and f is the first
 pub record FollowLoop (ins outs starts bytes heads₀ sizes₀ other₀ heads sizes other : List ℕ) (flags f : ℕ) : Type 0 where
   pub same-heads : length heads ≡ length heads₀
   pub same-sizes : length sizes ≡ length sizes₀
@@ -291,10 +291,10 @@ module _ {ins outs starts bytes heads₀ sizes₀ other₀ : List ℕ} (B : Bodi
         go true e = record { table = C .table; any = true; cuts = then-cut (L .followed .cuts) e state-here }
         go false e = record { table = C .table; any = L .followed .any; cuts = then-none (L .followed .cuts) e state-here }
 
-    pub less-cut : {flags′ : ℕ} → b ≡ true → flags′ < 36893488147419103232 → ahead outs heads′ sizes′ (length sizes₀) flags′ < ahead outs heads sizes (length sizes₀) flags
-    less-cut e h = omega (arith, state-here .less e)
+    pub less-cut : (k : ℕ) {k′ : ℕ} → b ≡ true → k′ < 73786976294838206464 → ahead outs heads′ sizes′ (length sizes₀) k′ < ahead outs heads sizes (length sizes₀) k
+    less-cut k e h = omega (arith, state-here .less e)
 
-    pub less-none : {flags′ : ℕ} → b ≡ false → flags′ < flags → ahead outs heads′ sizes′ (length sizes₀) flags′ < ahead outs heads sizes (length sizes₀) flags
+    pub less-none : {k k′ : ℕ} → b ≡ false → k′ < k → ahead outs heads′ sizes′ (length sizes₀) k′ < ahead outs heads sizes (length sizes₀) k
     less-none e h = omega (arith, ap (λ k. total k (length sizes₀)) (same-patterns state-here e))
 
 -- ---- the loop until nothing is cut

@@ -2,7 +2,7 @@
 ghost use Prim.Native.Nat.{_+_, _*_, _≤_, _<_};
 ghost use mathlib.Core.Path.{_≡_};
 ghost use lib.ListN.{length};
-ghost use Rattle.prefixes.specs.Inner.Heads.{Flaggable};
+ghost use Rattle.prefixes.specs.Inner.Heads.{Flaggable, weight};
 use formats::bytes::number;
 use formats::bytes::wide;
 
@@ -38,15 +38,17 @@ pub(crate) fn find_callers(ins: &[u8], starts: &[u16], marks: &[u8], n: usize, c
     }
 }
 
-// The flags that are set of 128.
+// The flags that are set of 128, in this round and in the next.
 pub struct Flags {
     pub low: u64,
     pub high: u64,
+    pub low2: u64,
+    pub high2: u64,
 }
 
-// The first flag that is set, or 128.
+// The first flag that is set in this round, or 128.
 pub(crate) fn first_flag(flags: Flags) -> usize
-    ensures { λ r. ⌜ (r < 128 → 0 < flags .low + flags .high) × (flags .low + flags .high < 36893488147419103232) ⌝ }
+    ensures { λ r. ⌜ (r < 128 → 0 < flags .low + flags .high) × (weight (flags .low) (flags .high) (flags .low2) (flags .high2) < 73786976294838206464) ⌝ }
 {
     if flags.low > 0 {
         return u64::trailing_zeros(flags.low) as usize;
@@ -54,19 +56,48 @@ pub(crate) fn first_flag(flags: Flags) -> usize
     64 + u64::trailing_zeros(flags.high) as usize
 }
 
-// The flags without the first that is set.
+// The flags without the first that is set in this round.
 pub(crate) fn other_flags(flags: Flags) -> Flags
     requires { ⌜ 0 < flags .low + flags .high ⌝ }
-    ensures { λ r. ⌜ r .low + r .high < flags .low + flags .high ⌝ }
+    ensures { λ r. ⌜ weight (r .low) (r .high) (r .low2) (r .high2) < weight (flags .low) (flags .high) (flags .low2) (flags .high2) ⌝ }
 {
     if flags.low > 0 {
         return Flags {
             low: flags.low & (flags.low - 1),
             high: flags.high,
+            low2: flags.low2,
+            high2: flags.high2,
         };
     }
     Flags {
         low: flags.low,
         high: flags.high & (flags.high - 1),
+        low2: flags.low2,
+        high2: flags.high2,
+    }
+}
+
+// The flags with those of two more words in the next round.
+pub(crate) fn more_flags(flags: Flags, low: u64, high: u64) -> Flags {
+    Flags {
+        low: flags.low,
+        high: flags.high,
+        low2: flags.low2 | low,
+        high2: flags.high2 | high,
+    }
+}
+
+// The flags, or those of the next round if none of the first n is set.
+pub(crate) fn next_flags(flags: Flags, n: usize) -> Flags
+    ensures { λ r. ⌜ weight (r .low) (r .high) (r .low2) (r .high2) ≤ weight (flags .low) (flags .high) (flags .low2) (flags .high2) ⌝ }
+{
+    if first_flag(flags) < n {
+        return flags;
+    }
+    Flags {
+        low: flags.low2,
+        high: flags.high2,
+        low2: 0,
+        high2: 0,
     }
 }

@@ -1,5 +1,5 @@
 // The common prefixes of the states (01: heads): a table of patterns, cut until no right-hand side cuts any more.
-ghost use Prim.Native.Nat.{_*_, _≤_, _<_};
+ghost use Prim.Native.Nat.{_<_};
 ghost use mathlib.Core.Path.{_≡_};
 ghost use lib.ListN.{length, getD};
 ghost use Rattle.formats.specs.Alphabets.{Leaf};
@@ -7,6 +7,8 @@ ghost use Rattle.prefixes.specs.Inner.Heads.{Cuttable, CutBy, Bodies, Cu
 use crate::callers::Flags;
 use crate::callers::find_callers;
 use crate::callers::first_flag;
+use crate::callers::more_flags;
+use crate::callers::next_flags;
 use crate::callers::other_flags;
 use crate::pattern::graft;
 use crate::pattern::meet;
@@ -115,8 +117,9 @@ fn sweep(
     any
 }
 
-// Cuts the pattern of every state, and again that of each state that calls one whose pattern lost symbols. The flags save cuts that take nothing
-// away, and no pattern hangs on them: flag f is that of state n - 1 - f, and the first that is set is the next to go.
+// Cuts the pattern of every state, and then, round after round, those of the states that call one whose pattern lost symbols in the round before.
+// The flags, of which number f is that of state n - 1 - f, save cuts that take nothing away, and no pattern hangs on them. Rounds are fair: were
+// the first flag always the next, states with many callees would be cut again for each symbol that one of these loses.
 fn follow(
     ins: &[u8],
     outs: &[u8],
@@ -136,19 +139,17 @@ fn follow(
     let mut flags = Flags {
         low: 18446744073709551615,
         high: 18446744073709551615,
+        low2: 0,
+        high2: 0,
     };
     let mut f = 0;
     while f < n {
         flags = other_flags(flags);
         let q = n - 1 - f;
         if cut_state(ins, outs, starts, marks, heads, sizes, leaf, q, other) {
-            let low = flags.low | callers[2 * q];
-            let high = flags.high | callers[2 * q + 1];
-            flags = Flags {
-                low: low,
-                high: high,
-            };
+            flags = more_flags(flags, callers[2 * q], callers[2 * q + 1]);
         }
+        flags = next_flags(flags, n);
         f = first_flag(flags);
     }
 }

@@ -120,6 +120,10 @@ pub record Flaggable (ins starts bytes : List ℕ) (n : ℕ) : Type 0 where
   pub few-inputs : length ins ≤ 16
   pub laid : Laid ins n starts bytes
 
+-- the flags that are set, of this round and of the next: a sum of words
+abbrev pub weight : ℕ → ℕ → ℕ → ℕ → ℕ
+weight low high low2 high2 = low + high + low2 + high2
+
 -- any number of cuts
 pub record Followed (ins outs starts bytes heads sizes heads′ sizes′ : List ℕ) : Type 0 where
   pub table : Heads outs heads′ sizes′

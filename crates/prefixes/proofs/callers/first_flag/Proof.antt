@@ -2,7 +2,6 @@
 use Prim.Native.Nat.{ℕ, suc, _+_, _<_}
 use native.Mathlib.Omega.{arith}
 use lib.Count.{trailingZeros, trailing-of-zero, trailing-le}
-use borrow.Author.Needs.{needs}
 use Rattle.prefixes.proofs.callers.first_flag.Statement.{statement}
 use Rattle.prefixes.proofs.callers.first_flag.Tie as tie
 

@@ -13,7 +13,7 @@ returns : tie.Need-returns
 returns c = let x = c .before .before .before .before .args .flags .low in omega (arith, and-le-r x (x - 1))
 
 sub-t5 : tie.Need-sub-t5
-sub-t5 c = omega arith
+sub-t5 c = search needs
 
 returns-2 : tie.Need-returns-2
 returns-2 c = let x = c .before .before .before .before .args .flags .high in omega (arith, and-le-r x (x - 1))

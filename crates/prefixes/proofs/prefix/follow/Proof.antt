@@ -5,6 +5,7 @@ use mathlib.Core.Logic.{⊎-elim}
 use mathlib.Core.Path.{refl, ap}
 use lib.ListN.{length}
 use borrow.Author.Needs.{needs}
+use Rattle.prefixes.specs.Inner.Heads.{weight}
 use Rattle.prefixes.proofs.Settling.{can-flag, FollowLoop, ahead, follow-start, follow-bodies, follow-next, less-cut, less-none}
 use Rattle.prefixes.proofs.prefix.follow.Statement.{statement}
 use Rattle.prefixes.proofs.prefix.follow.Tie as tie
@@ -15,7 +16,7 @@ Inv-loop ins outs starts marks heads₀ sizes₀ leaf other₀ n callers flags�
 
 abbrev μ-loop : tie.MeasureT-loop
 μ-loop ins outs starts marks heads₀ sizes₀ leaf other₀ n callers flags₀ f₀ heads sizes other flags f =
-    ahead outs heads sizes (length sizes₀) (flags .low + flags .high)
+    ahead outs heads sizes (length sizes₀) (weight (flags .low) (flags .high) (flags .low2) (flags .high2))
 
 slice-aggregate-find-callers : tie.Need-slice-aggregate-find-callers Inv-loop μ-loop
 slice-aggregate-find-callers c = search needs
@@ -40,41 +41,48 @@ cut-state-requires c κs =
     let L = c .before .before .before .before .before .loop .inv in
     (follow-bodies (c .before .before .before .before .before .before .before .before .before .before .before .before .before .before .before .before .pre) L, omega (arith, L .same-sizes))
 
-mul-low : tie.Need-mul-low Inv-loop μ-loop
-mul-low c = omega (arith, c .before .before .before .before .before .before .before .before .before .before .before .before .before .before .before .before .before .before .before .before .before .before .before .before .pre .layout .few-states)
+mul-more-flags : tie.Need-mul-more-flags Inv-loop μ-loop
+mul-more-flags c = omega (arith, c .before .before .before .before .before .before .before .before .before .before .before .before .before .before .before .before .before .before .before .before .before .before .before .before .pre .layout .few-states)
 
-mul-low-2 : tie.Need-mul-low-2 Inv-loop μ-loop
-mul-low-2 c = omega (arith, c .before .before .before .before .before .before .before .before .before .before .before .before .before .before .before .before .before .before .before .before .before .before .before .before .pre .layout .few-states)
+mul-more-flags-2 : tie.Need-mul-more-flags-2 Inv-loop μ-loop
+mul-more-flags-2 c = omega (arith, c .before .before .before .before .before .before .before .before .before .before .before .before .before .before .before .before .before .before .before .before .before .before .before .before .pre .layout .few-states)
 
-array-read-low : tie.Need-array-read-low Inv-loop μ-loop
-array-read-low c = omega (arith, c .before .before .before .before .before .before .before .before .before .before .before .before .before .before .before .before .before .before .before .before .before .before .before .before .pre .layout .few-states)
+array-read-more-flags : tie.Need-array-read-more-flags Inv-loop μ-loop
+array-read-more-flags c = omega (arith, c .before .before .before .before .before .before .before .before .before .before .before .before .before .before .before .before .before .before .before .before .before .before .before .before .pre .layout .few-states)
 
-mul-high : tie.Need-mul-high Inv-loop μ-loop
-mul-high c = omega (arith, c .before .before .before .before .before .before .before .before .before .before .before .before .before .before .before .before .before .before .before .before .before .before .before .before .before .pre .layout .few-states)
+mul-more-flags-3 : tie.Need-mul-more-flags-3 Inv-loop μ-loop
+mul-more-flags-3 c = omega (arith, c .before .before .before .before .before .before .before .before .before .before .before .before .before .before .before .before .before .before .before .before .before .before .before .before .pre .layout .few-states)
 
-add-high : tie.Need-add-high Inv-loop μ-loop
-add-high c = omega (arith, c .before .before .before .before .before .before .before .before .before .before .before .before .before .before .before .before .before .before .before .before .before .before .before .before .before .pre .layout .few-states)
+add-more-flags : tie.Need-add-more-flags Inv-loop μ-loop
+add-more-flags c = omega (arith, c .before .before .before .before .before .before .before .before .before .before .before .before .before .before .before .before .before .before .before .before .before .before .before .before .pre .layout .few-states)
 
-mul-high-2 : tie.Need-mul-high-2 Inv-loop μ-loop
-mul-high-2 c = omega (arith, c .before .before .before .before .before .before .before .before .before .before .before .before .before .before .before .before .before .before .before .before .before .before .before .before .before .pre .layout .few-states)
+mul-more-flags-4 : tie.Need-mul-more-flags-4 Inv-loop μ-loop
+mul-more-flags-4 c = omega (arith, c .before .before .before .before .before .before .before .before .before .before .before .before .before .before .before .before .before .before .before .before .before .before .before .before .pre .layout .few-states)
 
-array-read-high : tie.Need-array-read-high Inv-loop μ-loop
-array-read-high c = omega (arith, c .before .before .before .before .before .before .before .before .before .before .before .before .before .before .before .before .before .before .before .before .before .before .before .before .before .pre .layout .few-states)
+array-read-more-flags-2 : tie.Need-array-read-more-flags-2 Inv-loop μ-loop
+array-read-more-flags-2 c = omega (arith, c .before .before .before .before .before .before .before .before .before .before .before .before .before .before .before .before .before .before .before .before .before .before .before .before .pre .layout .few-states)
+
+more-flags-requires : tie.Need-more-flags-requires Inv-loop μ-loop
+more-flags-requires c κs = search needs
+
+next-flags-requires : tie.Need-next-flags-requires Inv-loop μ-loop
+next-flags-requires c κs = search needs
 
 first-flag-requires : tie.Need-first-flag-requires Inv-loop μ-loop
 first-flag-requires c κs = search needs
 
 loop-less : tie.Need-loop-less Inv-loop μ-loop
 loop-less c =
-    let k = c .before .before .before .before .before .before .before .before .cut-state in
-    let B = c .before .before .before .before .before .before .before .before .before .before .before .before .before .before .before .before .before .before .before .before .before .before .before .before .before .pre in
-    let L = c .before .before .before .before .before .before .before .before .before .before .before .before .before .before .loop .inv in
-    ⊎-elim (λ w. less-cut B L (k .ensures) (w .0 .taken) (c .first-flag .ensures .1)) (λ w. less-none B L (k .ensures) (w .0 .left) (omega (arith, c .before .before .before .before .before .before .before .before .before .before .before .before .other-flags .ensures, ap (λ x. x .low + x .high) (w .1)))) (c .before .if1 .came)
+    let k = c .before .before .before .before .before .before .before .before .before .cut-state in
+    let B = c .before .before .before .before .before .before .before .before .before .before .before .before .before .before .before .before .before .before .before .before .before .before .before .before .before .before .pre in
+    let o = c .before .before .before .before .before .before .before .before .before .before .before .before .before .before .before .loop .flags in
+    let L = c .before .before .before .before .before .before .before .before .before .before .before .before .before .before .before .loop .inv in
+    ⊎-elim (λ w. less-cut B L (k .ensures) (weight (o .low) (o .high) (o .low2) (o .high2)) (w .0 .taken) (c .first-flag .ensures .1)) (λ w. less-none B L (k .ensures) (w .0 .left) (omega (arith, c .before .before .before .before .before .before .before .before .before .before .before .before .before .other-flags .ensures, c .before .next-flags .ensures, ap (λ x. weight (x .low) (x .high) (x .low2) (x .high2)) (w .1)))) (c .before .before .if1 .came)
 
 loop-again : tie.Need-loop-again Inv-loop μ-loop
 loop-again c =
-    let k = c .before .before .before .before .before .before .before .before .cut-state in
-    follow-next (c .before .before .before .before .before .before .before .before .before .before .before .before .before .before .before .before .before .before .before .before .before .before .before .before .before .pre) (c .before .before .before .before .before .before .before .before .before .before .before .before .before .before .loop .inv) (k .ensures) (k .kept .1 .1 .1 .1 .0) (k .kept .1 .1 .1 .1 .1 .0) (k .kept .1 .1 .1 .1 .1 .1 .1 .1 .0) (c .first-flag .ensures .0)
+    let k = c .before .before .before .before .before .before .before .before .before .cut-state in
+    follow-next (c .before .before .before .before .before .before .before .before .before .before .before .before .before .before .before .before .before .before .before .before .before .before .before .before .before .before .pre) (c .before .before .before .before .before .before .before .before .before .before .before .before .before .before .before .loop .inv) (k .ensures) (k .kept .1 .1 .1 .1 .0) (k .kept .1 .1 .1 .1 .1 .0) (k .kept .1 .1 .1 .1 .1 .1 .1 .1 .0) (c .first-flag .ensures .0)
 
 same-length : tie.Need-same-length Inv-loop μ-loop
 same-length c = c .before .loop .inv .same-heads
@@ -101,13 +109,15 @@ follow-spec =
     sub-q
     sub-q-2
     cut-state-requires
-    mul-low
-    mul-low-2
-    array-read-low
-    mul-high
-    add-high
-    mul-high-2
-    array-read-high
+    mul-more-flags
+    mul-more-flags-2
+    array-read-more-flags
+    mul-more-flags-3
+    add-more-flags
+    mul-more-flags-4
+    array-read-more-flags-2
+    more-flags-requires
+    next-flags-requires
     first-flag-requires
     loop-less
     loop-again
