@@ -243,6 +243,30 @@ fn find_callers(ins: &[u8], starts: &[u16], marks: &[u8], n: usize, callers: &mu
     }
 }
 
+// No caller of state r is before this state.
+fn first_caller(callers: &[u8; 16640], r: usize) -> usize
+    requires { ⌜ r < 128 ⌝ }
+    ensures { λ q. ⌜ ((p : ℕ) → 128 ≤ p + getD (now (callers .entry)) (130 * r + 128) 0 → q ≤ p) ⌝ }
+{
+    let down = wide(callers[ROW * r + FIRST]);
+    if down < 128 {
+        return 128 - down;
+    }
+    0
+}
+
+// The callers of state r among n states are before this state.
+fn callers_end(callers: &[u8; 16640], r: usize, n: usize) -> usize
+    requires { ⌜ r < 128 ⌝ }
+    ensures { λ e. ⌜ (e ≤ n) × ((p : ℕ) → p < n → p < getD (now (callers .entry)) (130 * r + 129) 0 → p < e) ⌝ }
+{
+    let end = wide(callers[ROW * r + LAST]);
+    if end < n {
+        return end;
+    }
+    n
+}
+
 // Makes the callers of state r among n states dirty and lists those that were clean; says how long the list is then.
 fn flag_callers(
     callers: &[u8; 16640],
@@ -256,15 +280,8 @@ fn flag_callers(
     ensures { λ k. ⌜ FlagsCallers (now (callers .entry)) r n (now (dirty .entry)) (now (dirty .exit)) (now (list .exit)) k ⌝ }
 {
     let mut count = len;
-    let mut to = wide(callers[ROW * r + LAST]);
-    if n < to {
-        to = n;
-    }
-    let mut q = 0;
-    let down = wide(callers[ROW * r + FIRST]);
-    if down < 128 {
-        q = 128 - down;
-    }
+    let to = callers_end(callers, r, n);
+    let mut q = first_caller(callers, r);
     while q < to {
         if callers[ROW * r + q] != 0 {
             if dirty[q] == 0 {

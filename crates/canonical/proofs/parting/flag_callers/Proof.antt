@@ -11,78 +11,54 @@ use Rattle.canonical.proofs.parting.flag_callers.Statement.{statement}
 use Rattle.canonical.proofs.parting.flag_callers.Tie as tie
 
 abbrev Inv-loop : tie.InvT-loop
-Inv-loop callers r n dirty₀ list₀ len count₀ to q₀ down dirty list count q = FlagLoop callers r n dirty₀ to dirty list count q
+Inv-loop callers r n dirty₀ list₀ len count₀ to q₀ dirty list count q = FlagLoop callers r n dirty₀ to dirty list count q
 
 abbrev μ-loop : tie.MeasureT-loop
-μ-loop callers r n dirty₀ list₀ len count₀ to q₀ down dirty list count q = to - q
+μ-loop callers r n dirty₀ list₀ len count₀ to q₀ dirty list count q = to - q
 
-mul-wide : tie.Need-mul-wide Inv-loop μ-loop
-mul-wide c = search needs
+callers-end-requires : tie.Need-callers-end-requires Inv-loop μ-loop
+callers-end-requires c κs = c .pre .1
 
-add-wide : tie.Need-add-wide Inv-loop μ-loop
-add-wide c = search needs
-
-element-copy-out-wide : tie.Need-element-copy-out-wide Inv-loop μ-loop
-element-copy-out-wide c = search needs
-
-wide-requires : tie.Need-wide-requires Inv-loop μ-loop
-wide-requires c κs = search needs
-
-mul-wide-2 : tie.Need-mul-wide-2 Inv-loop μ-loop
-mul-wide-2 c = search needs
-
-add-wide-2 : tie.Need-add-wide-2 Inv-loop μ-loop
-add-wide-2 c = search needs
-
-element-copy-out-wide-2 : tie.Need-element-copy-out-wide-2 Inv-loop μ-loop
-element-copy-out-wide-2 c = search needs
-
-wide-requires-2 : tie.Need-wide-requires-2 Inv-loop μ-loop
-wide-requires-2 c κs = search needs
-
-sub-q : tie.Need-sub-q Inv-loop μ-loop
-sub-q c = omega (arith, c .if2 .taken)
+first-caller-requires : tie.Need-first-caller-requires Inv-loop μ-loop
+first-caller-requires c κs = c .before .pre .1
 
 loop-holds : tie.Need-loop-holds Inv-loop μ-loop
-loop-holds c =
-    let a = c .before .before .before .before .before .before .args in
-    let low : (p : ℕ) → 128 ≤ p + at (now (a .callers)) (130 * a .r + 128) → c .if2 .q ≤ p = λ p h. ⊎-elim (λ w. omega (arith, w .1, c .before .wide2 .ensures)) (λ w. omega (arith, w .1)) (c .if2 .came) in
-    ⊎-elim (λ w. flag-start (omega (arith, w .1)) (λ p l h. omega (arith, w .1)) (c .before .before .before .before .before .before .pre .3) (c .before .before .before .before .before .before .pre .4) low) (λ w. flag-start (omega (arith, w .0 .left, w .1)) (λ p l h. omega (arith, w .1, c .before .before .before .before .wide .ensures)) (c .before .before .before .before .before .before .pre .3) (c .before .before .before .before .before .before .pre .4) low) (c .before .before .before .if1 .came)
+loop-holds c = flag-start (c .before .callers-end .ensures .0) (c .before .callers-end .ensures .1) (c .before .before .pre .3) (c .before .before .pre .4) (c .first-caller .ensures)
 
-mul-if3 : tie.Need-mul-if3 Inv-loop μ-loop
-mul-if3 c = omega (arith, c .before .loop .inv .within, c .before .before .before .before .before .before .before .before .pre .2, c .before .loop .inv .flags, c .before .before .before .before .before .before .before .before .pre .1, c .before .before .before .before .before .before .before .before .pre .0)
+mul-if1 : tie.Need-mul-if1 Inv-loop μ-loop
+mul-if1 c = omega (arith, c .before .loop .inv .within, c .before .before .before .before .pre .2, c .before .before .before .before .pre .1)
 
-add-if3 : tie.Need-add-if3 Inv-loop μ-loop
-add-if3 c = omega (arith, c .before .before .loop .inv .within, c .before .before .before .before .before .before .before .before .before .pre .2, c .before .before .loop .inv .flags, c .before .before .before .before .before .before .before .before .before .pre .1, c .before .before .before .before .before .before .before .before .before .pre .0)
+add-if1 : tie.Need-add-if1 Inv-loop μ-loop
+add-if1 c = omega (arith, c .before .loop .inv .within, c .before .before .before .before .pre .2, c .before .before .before .before .pre .1)
 
-element-copy-out-if3 : tie.Need-element-copy-out-if3 Inv-loop μ-loop
-element-copy-out-if3 c = omega (arith, c .before .before .loop .inv .within, c .before .before .before .before .before .before .before .before .before .pre .2, c .before .before .loop .inv .flags, c .before .before .before .before .before .before .before .before .before .pre .1, c .before .before .before .before .before .before .before .before .before .pre .0)
+element-copy-out-if1 : tie.Need-element-copy-out-if1 Inv-loop μ-loop
+element-copy-out-if1 c = omega (arith, c .before .loop .inv .within, c .before .before .before .before .pre .2, c .before .before .before .before .pre .1)
 
-element-copy-out-if4 : tie.Need-element-copy-out-if4 Inv-loop μ-loop
-element-copy-out-if4 c = omega (arith, c .before .before .before .before .loop .inv .within, c .before .before .before .before .before .before .before .before .before .before .before .pre .2, c .before .before .before .before .loop .inv .flags, c .before .before .before .before .before .before .before .before .before .before .before .pre .1, c .before .before .before .before .before .before .before .before .before .before .before .pre .0)
+element-copy-out-if2 : tie.Need-element-copy-out-if2 Inv-loop μ-loop
+element-copy-out-if2 c = omega (arith, c .before .before .before .loop .inv .within, c .before .before .before .before .before .before .pre .2)
 
 element-write-dirty : tie.Need-element-write-dirty Inv-loop μ-loop
-element-write-dirty c = omega (arith, c .before .before .before .before .before .before .loop .inv .within, c .before .before .before .before .before .before .before .before .before .before .before .before .before .pre .2, c .before .before .before .before .before .before .loop .inv .flags, c .before .before .before .before .before .before .before .before .before .before .before .before .before .pre .1, c .before .before .before .before .before .before .before .before .before .before .before .before .before .pre .0)
+element-write-dirty c = omega (arith, c .before .before .before .before .before .loop .inv .within, c .before .before .before .before .before .before .before .before .pre .2)
 
 cast-list : tie.Need-cast-list Inv-loop μ-loop
-cast-list c = omega (arith, c .before .before .before .before .before .before .loop .inv .within, c .before .before .before .before .before .before .before .before .before .before .before .before .before .pre .2, c .before .before .before .before .before .before .loop .inv .flags, c .before .before .before .before .before .before .before .before .before .before .before .before .before .pre .1, c .before .before .before .before .before .before .before .before .before .before .before .before .before .pre .0)
+cast-list c = omega (arith, c .before .before .before .before .before .loop .inv .within, c .before .before .before .before .before .before .before .before .pre .2)
 
 element-write-list : tie.Need-element-write-list Inv-loop μ-loop
-element-write-list c = omega (arith, flag-room (c .before .before .before .before .before .before .loop .inv) (c .before .before .before .before .before .before .before .before .before .before .before .before .before .pre .2) (c .before .before .before .before .before .loop-test .taken) (c .if4 .taken), c .before .before .before .before .before .before .loop .inv .queue .listed .room)
+element-write-list c = omega (arith, flag-room (c .before .before .before .before .before .loop .inv) (c .before .before .before .before .before .before .before .before .pre .2) (c .before .before .before .before .loop-test .taken) (c .if2 .taken), c .before .before .before .before .before .loop .inv .queue .listed .room)
 
 add-count : tie.Need-add-count Inv-loop μ-loop
-add-count c = omega (arith, flag-room (c .before .before .before .before .before .before .loop .inv) (c .before .before .before .before .before .before .before .before .before .before .before .before .before .pre .2) (c .before .before .before .before .before .loop-test .taken) (c .if4 .taken))
+add-count c = omega (arith, flag-room (c .before .before .before .before .before .loop .inv) (c .before .before .before .before .before .before .before .before .pre .2) (c .before .before .before .before .loop-test .taken) (c .if2 .taken))
 
 add-q : tie.Need-add-q Inv-loop μ-loop
-add-q c = omega (arith, c .before .before .before .before .loop .inv .within, c .before .before .before .before .before .before .before .before .before .before .before .pre .2)
+add-q c = omega (arith, c .before .before .before .loop .inv .within, c .before .before .before .before .before .before .pre .2)
 
 loop-less : tie.Need-loop-less Inv-loop μ-loop
 loop-less c = omega arith
 
 loop-again : tie.Need-loop-again Inv-loop μ-loop
 loop-again c =
-    let L = c .before .before .before .before .loop .inv in
-    ⊎-elim (λ w. rw (w .3, w .4, w .5) (flag-new L (c .before .before .before .before .before .before .before .before .before .before .before .pre .2) (c .before .before .before .loop-test .taken) (w .2 .taken))) (⊎-elim (λ w. rw (w .3, w .4, w .5) (flag-same L (λ k d. w .2 .left d))) (λ w. rw (w .1, w .2, w .3) (flag-same L (λ k d. omega (arith, w .0 .left))))) (c .if3 .came)
+    let L = c .before .before .before .loop .inv in
+    ⊎-elim (λ w. rw (w .3, w .4, w .5) (flag-new L (c .before .before .before .before .before .before .pre .2) (c .before .before .loop-test .taken) (w .2 .taken))) (⊎-elim (λ w. rw (w .3, w .4, w .5) (flag-same L (λ k d. w .2 .left d))) (λ w. rw (w .1, w .2, w .3) (flag-same L (λ k d. omega (arith, w .0 .left))))) (c .if1 .came)
 
 returns : tie.Need-returns Inv-loop μ-loop
 returns c = flag-end (c .before .loop .inv) (c .loop-test .left)
@@ -93,20 +69,13 @@ flag-callers-spec =
     (tie.spec
     Inv-loop
     μ-loop
-    mul-wide
-    add-wide
-    element-copy-out-wide
-    wide-requires
-    mul-wide-2
-    add-wide-2
-    element-copy-out-wide-2
-    wide-requires-2
-    sub-q
+    callers-end-requires
+    first-caller-requires
     loop-holds
-    mul-if3
-    add-if3
-    element-copy-out-if3
-    element-copy-out-if4
+    mul-if1
+    add-if1
+    element-copy-out-if1
+    element-copy-out-if2
     element-write-dirty
     cast-list
     element-write-list
