@@ -245,9 +245,9 @@ module _ (ins P : List ℕ) (a : ℕ) where
   right-pair (suc p) o f = let z : suc p - 1 ≡ p = omega arith in ap (λ x. bodyNumber ins x a) (f ∙ ap (λ k. getD P (6 * k + 1) 0) z)
 
   -- it is small
-  pub number-small : {q x : ℕ} → Bodied ins P q a → q ≢ 0 → x < 256 → bodyNumber ins x a ≤ 4112
-  number-small {q} {x} B o h =
+  pub number-small : {q x s : ℕ} → Bodied ins q a s → q ≢ 0 → x ≡ s → bodyNumber ins x a ≤ 2064
+  number-small {q} {x} B o e =
       let i = B .known (omega arith) in
-      let u : x ≤ 255 = omega arith in
-      let r : x * length ins ≤ 255 * 16 = mul-le-mul u (B .few-inputs) in
+      let u : x ≤ 127 = omega (arith, B .state (omega arith)) in
+      let r : x * length ins ≤ 127 * 16 = mul-le-mul u (B .few-inputs) in
       omega (arith, B .few-inputs)

@@ -43,16 +43,23 @@ use Rattle.canonical.proofs.Alike.{equivalent-alike, ranked-allowed}
 use Rattle.canonical.proofs.Normalizing.{encoded-wf}
 use Rattle.comparison.specs.Answers.{treeArea, addressArea, Difference, Differ, Found, Compares, comparedAs, pairCheck, HandsShorter}
 use Rattle.comparison.specs.Inner.Pairs.{sides, Forms, Searches}
-use Rattle.comparison.specs.Inner.Verdicts.{Comparable, Shows, ComparesForms, FoundParts, ComparesParts}
+use Rattle.comparison.specs.Inner.Verdicts.{Comparable, Shows, ComparesForms, FoundParts, ComparesParts, EarlyForm, ComparesWith}
 use Rattle.comparison.specs.declared.compare.Comparison.{Comparison}
 use Rattle.comparison.specs.declared.compare.Comparison.the-variants as compared
 use Rattle.comparison.specs.declared.pairs.Verdict.{Verdict}
 use Rattle.comparison.specs.declared.pairs.Verdict.the-variants as verdict
 
 -- ---- of two earliest forms
+-- with a byte for each state in a part of an array
+zeros-long : (k : ℕ) → k ≤ 128 → length (take (k - 0) (replicate {A = ℕ} 128 0)) ≡ k
+zeros-long k h = rw (sub-zero k) (length-take-le k (replicate {A = ℕ} 128 0) (omega (arith, length-replicate {A = ℕ} 128 0)))
+
 module _ {ins outs starts bytes starts′ bytes′ : List ℕ} {k k′ : ℕ} (C : Comparable ins outs starts bytes k starts′ bytes′ k′) where
-  pub forms-searchable : Forms (sides ins starts bytes starts′ bytes′) k k′
-  forms-searchable = record { outs = outs; left = C .left; right = C .right }
+  pub forms-searchable : Forms (sides ins starts bytes starts′ bytes′) (length (take (k - 0) (replicate {A = ℕ} 128 0))) (length (take (k′ - 0) (replicate {A = ℕ} 128 0)))
+  forms-searchable = rw (zeros-long k (C .left .few-states), zeros-long k′ (C .right .few-states)) (record { outs = outs; left = C .left; right = C .right })
+
+  pub forms-searched : {P : List ℕ} {v : Verdict} → Searches (sides ins starts bytes starts′ bytes′) (length (take (k - 0) (replicate {A = ℕ} 128 0))) (length (take (k′ - 0) (replicate {A = ℕ} 128 0))) P v → Searches (sides ins starts bytes starts′ bytes′) k k′ P v
+  forms-searched S = rw (zeros-long k (C .left .few-states), zeros-long k′ (C .right .few-states)) at S
 
   -- the search ends with all pairs joined
   pub forms-same : {P tree address : List ℕ} {v : Verdict} → Searches (sides ins starts bytes starts′ bytes′) k k′ P v → v ≡ verdict.Same → ComparesForms ins outs starts bytes k starts′ bytes′ k′ tree tree address address compared.Alike
@@ -71,10 +78,6 @@ module _ {ins outs starts bytes starts′ bytes′ : List ℕ} {k k′ : ℕ} (C
   }
 
 -- ---- of the parts of two files, by their earliest forms
--- with a byte for each state in a part of an array
-zeros-long : (k : ℕ) → k ≤ 128 → length (take (k - 0) (replicate {A = ℕ} 128 0)) ≡ k
-zeros-long k h = rw (sub-zero k) (length-take-le k (replicate {A = ℕ} 128 0) (omega (arith, length-replicate {A = ℕ} 128 0)))
-
 module _ {stock counts bytes starts out : List ℕ} {n : ℕ} {r : Grown} (X : Machine stock n counts bytes) (B : EarliestBy stock n counts bytes starts out r) where
   -- the earliest form is over the limits
   early-none : r ≡ Over → (k : ℕ) × ((cs : List ℕ) × ((bs : List ℕ) × EarliestOf stock n counts bytes k cs bs)) → ⊥
@@ -92,9 +95,12 @@ module _ {stock counts bytes starts out : List ℕ} {n : ℕ} {r : Grown} (X : M
         let l = X .alphabets .leaf in
         (k, (w .0, (w .1, record { alphabets = X .alphabets; machine = X .machine; machine-coded = X .encodes; form = w .2; trimmed = trimmed-form (identical-sym (w .4 l)) (B .trimmed k e (X .machine) (X .encodes) l); form-coded = w .3 })))
 
-    -- it has few states
-    pub early-few : k ≤ 128
-    early-few = B .layout k e .few-states
+    pub early-form : EarlyForm stock starts out k
+    early-form = record { states = n; counts = counts; bytes = bytes; machine = X; earliest = rw e at B }
+
+    -- what is answered of the form is answered of the parts
+    pub parts-with : {n′ : ℕ} {counts′ bytes′ tree tree′ address address′ : List ℕ} (x : Comparison) → ComparesWith stock starts out k n′ counts′ bytes′ tree tree′ address address′ x → ComparesParts stock n counts bytes n′ counts′ bytes′ tree tree′ address address′ x
+    parts-with x W = W n counts bytes X (rw e at B)
 
     -- the transducers with these parts are equivalent to it
     early-same : {M : Transducer ℕ} → Encodes (inputs stock) (outputs stock) n counts bytes M → (l : Leaf (inputs stock)) → Equivalent (alphabet (inputs stock) l) M (machine (inputs stock) (outputs stock) starts out k)
@@ -119,8 +125,8 @@ module _ {stock counts bytes starts out counts′ bytes′ starts′ out′ : Li
         right-earliest = λ l. trimmed-earliest (encoded-wf (X .alphabets .ins .few) l (X′ .encodes)) (B′ .trimmed k′ e′ (X′ .machine) (X′ .encodes) l);
       }
 
-      pub parts-comparable : {ins outs : List ℕ} → ins ≡ inputs stock → outs ≡ outputs stock → Comparable ins outs starts out (length (take (k - 0) (replicate {A = ℕ} 128 0))) starts′ out′ (length (take (k′ - 0) (replicate {A = ℕ} 128 0)))
-      parts-comparable i o = rw (i, o, zeros-long k (early-few X B e), zeros-long k′ (early-few X′ B′ e′)) parts-comparable-here
+      pub parts-comparable : {ins outs : List ℕ} → ins ≡ inputs stock → outs ≡ outputs stock → Comparable ins outs starts out k starts′ out′ k′
+      parts-comparable i o = rw (i, o) parts-comparable-here
 
       -- a difference of the forms is one of the transducers
       parts-difference : {d : Tree} {v : List ℕ} {b b′ : ℕ} → Difference (inputs stock) (outputs stock) (machine (inputs stock) (outputs stock) starts out k) (machine (inputs stock) (outputs stock) starts′ out′ k′) d v b b′ → {M M′ : Transducer ℕ} → Encodes (inputs stock) (outputs stock) n counts bytes M → Encodes (inputs stock) (outputs stock) n′ counts′ bytes′ M′ → Difference (inputs stock) (outputs stock) M M′ d v b b′
@@ -146,8 +152,8 @@ module _ {stock counts bytes starts out counts′ bytes′ starts′ out′ : Li
       parts-answered (compared.Differ m p b b′) F = let S = F .differ m p b b′ refl in accept (S .shown, (S .place, (S .written, λ M M′ E E′. parts-difference (S .difference) E E′)))
       parts-answered (compared.Refused x) F = absurd (F .answered x refl)
 
-      pub parts-compared : {ins outs tree tree′ address address′ : List ℕ} → ins ≡ inputs stock → outs ≡ outputs stock → (x : Comparison) → ComparesForms ins outs starts out (length (take (k - 0) (replicate {A = ℕ} 128 0))) starts′ out′ (length (take (k′ - 0) (replicate {A = ℕ} 128 0))) tree tree′ address address′ x → ComparesParts stock n counts bytes n′ counts′ bytes′ tree tree′ address address′ x
-      parts-compared i o x F = pass (early-some X B e) (pass (early-some X′ B′ e′) (parts-answered x (rw (i, o, zeros-long k (early-few X B e), zeros-long k′ (early-few X′ B′ e′)) at F)))
+      pub parts-compared : {ins outs tree tree′ address address′ : List ℕ} → ins ≡ inputs stock → outs ≡ outputs stock → (x : Comparison) → ComparesForms ins outs starts out k starts′ out′ k′ tree tree′ address address′ x → ComparesParts stock n counts bytes n′ counts′ bytes′ tree tree′ address address′ x
+      parts-compared i o x F = pass (early-some X B e) (pass (early-some X′ B′ e′) (parts-answered x (rw (i, o) at F)))
 
 -- ---- of two files: what is answered of their parts is answered of them
 -- a check that holds can be left out

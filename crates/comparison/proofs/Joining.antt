@@ -37,6 +37,7 @@ module _ (P : List ℕ) (count q a m c x y : ℕ) (room : 6 * count + 6 ≤ leng
       let from-b : (k : ℕ) → k < b + 2 → getD written k 0 ≡ getD B k 0 = λ k h. from-c k (omega arith) ∙ getD-set-other B (b + 2) k q 0 (omega arith) in
       let from-a : (k : ℕ) → k < b + 1 → getD written k 0 ≡ getD A k 0 = λ k h. from-b k (omega arith) ∙ getD-set-other A (b + 1) k y 0 (omega arith) in
       record {
+        long = length-set F (b + 5) c ∙ lf ∙ ld ∙ lc ∙ lb ∙ la;
         keeps = λ k h. from-a k (omega arith) ∙ getD-set-other P b k x 0 (omega arith);
         entry = record {
           left = from-a b (omega arith) ∙ getD-set-same P b x 0 (omega arith);
@@ -224,7 +225,7 @@ module _ {C D P : List ℕ} {count : ℕ} (M : Merging (table C D P count)) {x y
   pub pair-room : count ≤ 254
   pair-room = omega (arith, M .few-roots, roots-two (classOf C D) 256 (at C x) (at D y) left-small (member-small (M .few-left) (M .few-right) (right-root .0)) (left-root .1) (right-root .1) new)
 
-  module _ {C′ D′ P′ : List ℕ} (J : Joined C C′ (at C x) (at D y)) (J′ : Joined D D′ (at C x) (at D y)) {q a m c : ℕ} (A : Added P P′ count q a m c x y) (same : length P′ ≡ length P) where
+  module _ {C′ D′ P′ : List ℕ} (J : Joined C C′ (at C x) (at D y)) (J′ : Joined D D′ (at C x) (at D y)) {q a m c : ℕ} (A : Added P P′ count q a m c x y) where
     hit : (e : ℕ) → Member (length C) (length D) e → classOf C D e ≡ at C x → classOf C′ D′ e ≡ at D y
     hit = class-hit (M .few-left) J J′
 
@@ -286,7 +287,7 @@ module _ {C D P : List ℕ} {count : ℕ} (M : Merging (table C D P count)) {x y
     pub meets-new : Meets (table C D P count) (table C′ D′ P′ (count + 1)) q a m c x y
     meets-new = record {
       merging = after-merging;
-      later = record { same-left = J .long; same-right = J′ .long; same-list = same; grows = omega arith; keeps = A .keeps; coarser = still-together };
+      later = record { same-left = J .long; same-right = J′ .long; same-list = A .long; grows = omega arith; keeps = A .keeps; coarser = still-together };
       together = J .hit x hx refl ∙ sym (J′ .miss y (λ w f. new (sym f)));
       listed = λ p h g. let z : p ≡ count = omega arith in rw z (A .entry);
     }

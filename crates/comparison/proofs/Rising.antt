@@ -1,6 +1,6 @@
 -- The way back along the list of pairs in bytes: what stands in the buffer and at the end of the area, step by step.
 -- Assumes nothing.
-use Prim.Native.Nat.{ℕ, suc, _+_, _*_, _≤_, _<_}
+use Prim.Native.Nat.{ℕ, suc, _+_, _-_, _*_, _≤_, _<_}
 use native.Mathlib.Decide.{ℕ-discrete}
 use native.Mathlib.Omega.{arith}
 use mathlib.Core.List.{List, _++_, append-assoc}
@@ -179,8 +179,8 @@ module _ {ins outs starts bytes P : List ℕ} {e : ℕ} (p : ℕ) (L : Leading i
   lefts : LeftBelow P (pairParent P p) (L .states)
   lefts o h = L .stands o (omega (arith, K .parent)) .left
 
-  pub back-bodied : {q a : ℕ} → q ≡ pairParent P p → a ≡ pairSymbol P p → Bodied ins P q a
-  back-bodied f g = rw (f, g) (record { long = omega (arith, K .parent, L .long); few-inputs = L .ins-ranks .few; known = K .symbol })
+  pub back-bodied : {q a : ℕ} → q ≡ pairParent P p → a ≡ pairSymbol P p → Bodied ins q a (pairLeft P (q - 1))
+  back-bodied f g = rw (f, g) (record { long = omega (arith, K .parent, L .long); few-inputs = L .ins-ranks .few; known = K .symbol; state = λ o. omega (arith, lefts (pairParent P p - 1) (omega arith), L .layout .few-states) })
 
   there : LeftThere ins outs starts bytes (L .states) P (pairParent P p) (pairSymbol P p)
   there = left-there (L .layout) P (pairParent P p) (pairSymbol P p) lefts (K .symbol)

@@ -226,8 +226,14 @@ module _ {ins outs starts bytes : List ℕ} {n : ℕ} {starts′ bytes′ : List
   right : BodyThere ins outs starts′ bytes′ n′ q a (rightBody ins P q a)
   right = right-there (C .right) P q a rights (K .known)
 
-  pub show-bodied : 1536 ≤ length P → Bodied ins P q a
-  show-bodied h = record { long = omega (arith, K .parent, K .few); few-inputs = C .ins-ranks .few; known = K .known }
+  show-bodied : {x : ℕ} → (0 < q → x < 128) → Bodied ins q a x
+  show-bodied h = record { long = omega (arith, K .parent, K .few); few-inputs = C .ins-ranks .few; known = K .known; state = h }
+
+  pub show-bodied-left : Bodied ins q a (pairLeft P (q - 1))
+  show-bodied-left = show-bodied (λ o. omega (arith, lefts (q - 1) (omega arith), C .left .few-states))
+
+  pub show-bodied-right : Bodied ins q a (pairRight P (q - 1))
+  show-bodied-right = show-bodied (λ o. omega (arith, rights (q - 1) (omega arith), C .right .few-states))
 
   pub show-left : leftBody ins P q a < length starts
   show-left = body-start (C .left) (left .body)
@@ -275,8 +281,8 @@ module _ {ins outs starts bytes : List ℕ} {n : ℕ} {starts′ bytes′ : List
         inside = A .agree .inside;
       }
 
-  pub show-leading : {e : ℕ} → e < length ins → 1536 ≤ length P → Leading ins outs starts bytes P e q
-  show-leading leaf h = record { states = n; layout = C .left; ins-ranks = C .ins-ranks; outs-ranks = C .outs-ranks; leaf = leaf; long = omega (arith, K .parent, K .few); stands = stands }
+  pub show-leading : {e : ℕ} → e < length ins → Leading ins outs starts bytes P e q
+  show-leading leaf = record { states = n; layout = C .left; ins-ranks = C .ins-ranks; outs-ranks = C .outs-ranks; leaf = leaf; long = omega (arith, K .parent, K .few); stands = stands }
 
   module _ {e i j : ℕ} {buffer : List ℕ} {lo hi b b′ : ℕ} (F : RootFound ins starts bytes starts′ bytes′ e (i + m) (j + m) q a buffer lo hi b b′) {area₀ area : List ℕ} {w : ℕ} (Z : Climbed outs bytes i m area₀ 16128 area w) (long : length buffer ≡ 3584) (long₀ : length area₀ ≡ 16128) (same : length area ≡ length area₀) (f : i ≡ at starts (leftBody ins P q a)) (g : j ≡ at starts′ (rightBody ins P q a)) where
     ends : EndsBefore (place (leftTerm (machine ins outs starts bytes n) P q a) m) area₀ 16128 area w

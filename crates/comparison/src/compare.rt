@@ -3,7 +3,7 @@ ghost use Prim.Native.Nat.{_≤_, _<_};
 ghost use lib.ListN.{length};
 ghost use Rattle.transducer.specs.Inner.Machine.{Machine};
 ghost use Rattle.comparison.specs.Answers.{Compares};
-ghost use Rattle.comparison.specs.Inner.Verdicts.{Comparable, ComparesForms, ComparesParts};
+ghost use Rattle.comparison.specs.Inner.Verdicts.{Comparable, ComparesForms, EarlyForm, ComparesWith, ComparesParts};
 use crate::pairs::Verdict;
 use crate::pairs::search;
 use crate::witness::show;
@@ -23,22 +23,24 @@ pub enum Comparison {
     Refused(Refusal),
 }
 
-// Compares two earliest forms, with a byte for each state in `classes1` and in `classes2`.
+// Compares two earliest forms.
 fn compare_forms(
     ins: &[u8],
     outs: &[u8],
     starts1: &[u16],
     marks1: &[u8],
+    n1: usize,
     starts2: &[u16],
     marks2: &[u8],
-    classes1: &mut [u8],
-    classes2: &mut [u8],
+    n2: usize,
     tree: &mut [u8],
     address: &mut [u8],
 ) -> Comparison
-    requires { ⌜ Comparable (now ins) (now outs) (now starts1) (now marks1) (length (now classes1)) (now starts2) (now marks2) (length (now classes2)) × (1536 ≤ length (now tree)) × (16128 ≤ length (now address)) ⌝ }
-    ensures { λ r. ⌜ ComparesForms (now (ins .entry)) (now (outs .entry)) (now (starts1 .entry)) (now (marks1 .entry)) (length (now (classes1 .entry))) (now (starts2 .entry)) (now (marks2 .entry)) (length (now (classes2 .entry))) (now (tree .entry)) (now (tree .exit)) (now (address .entry)) (now (address .exit)) r ⌝ }
+    requires { ⌜ Comparable (now ins) (now outs) (now starts1) (now marks1) n1 (now starts2) (now marks2) n2 × (1536 ≤ length (now tree)) × (16128 ≤ length (now address)) ⌝ }
+    ensures { λ r. ⌜ ComparesForms (now (ins .entry)) (now (outs .entry)) (now (starts1 .entry)) (now (marks1 .entry)) n1 (now (starts2 .entry)) (now (marks2 .entry)) n2 (now (tree .entry)) (now (tree .exit)) (now (address .entry)) (now (address .exit)) r ⌝ }
 {
+    let mut classes1 = [0u8; 128];
+    let mut classes2 = [0u8; 128];
     let mut pairs = [0u8; 1536];
     match search(
         ins,
@@ -46,8 +48,8 @@ fn compare_forms(
         marks1,
         starts2,
         marks2,
-        classes1,
-        classes2,
+        &mut classes1[0..n1],
+        &mut classes2[0..n2],
         &mut pairs,
     ) {
         Verdict::Same => Comparison::Alike,
@@ -57,10 +59,10 @@ fn compare_forms(
                 outs,
                 starts1,
                 marks1,
-                classes1.len(),
+                n1,
                 starts2,
                 marks2,
-                classes2.len(),
+                n2,
                 &pairs,
                 q,
                 a,
@@ -70,6 +72,40 @@ fn compare_forms(
             );
             Comparison::Differ(s.nodes, s.numbers, s.left, s.right)
         }
+    }
+}
+
+// Compares an earliest form with that of the transducer whose n, counts and marks these are.
+fn compare_with(
+    stock: &[u8],
+    starts1: &[u16],
+    form1: &[u8],
+    k1: usize,
+    n2: usize,
+    counts2: &[u8],
+    marks2: &[u8],
+    tree: &mut [u8],
+    address: &mut [u8],
+) -> Comparison
+    requires { ⌜ EarlyForm (now stock) (now starts1) (now form1) k1 × Machine (now stock) n2 (now counts2) (now marks2) × (1536 ≤ length (now tree)) × (16128 ≤ length (now address)) ⌝ }
+    ensures { λ r. ⌜ ComparesWith (now (stock .entry)) (now (starts1 .entry)) (now (form1 .entry)) k1 n2 (now (counts2 .entry)) (now (marks2 .entry)) (now (tree .entry)) (now (tree .exit)) (now (address .entry)) (now (address .exit)) r ⌝ }
+{
+    let mut starts2 = [0u16; 2050];
+    let mut form2 = [0u8; 16384];
+    match earliest_by(stock, n2, counts2, marks2, &mut starts2, &mut form2) {
+        Grown::States(k2) => compare_forms(
+            input_ranks(stock),
+            output_ranks(stock),
+            starts1,
+            form1,
+            k1,
+            &starts2,
+            &form2,
+            k2,
+            tree,
+            address,
+        ),
+        Grown::Over => Comparison::Refused(Refusal::OverLimits),
     }
 }
 
@@ -88,32 +124,20 @@ fn compare_parts(
     requires { ⌜ Machine (now stock) n1 (now counts1) (now marks1) × Machine (now stock) n2 (now counts2) (now marks2) × (1536 ≤ length (now tree)) × (16128 ≤ length (now address)) ⌝ }
     ensures { λ r. ⌜ ComparesParts (now (stock .entry)) n1 (now (counts1 .entry)) (now (marks1 .entry)) n2 (now (counts2 .entry)) (now (marks2 .entry)) (now (tree .entry)) (now (tree .exit)) (now (address .entry)) (now (address .exit)) r ⌝ }
 {
-    let mut starts1 = [0u16; 2050];
-    let mut form1 = [0u8; 16384];
-    match earliest_by(stock, n1, counts1, marks1, &mut starts1, &mut form1) {
-        Grown::States(k1) => {
-            let mut starts2 = [0u16; 2050];
-            let mut form2 = [0u8; 16384];
-            match earliest_by(stock, n2, counts2, marks2, &mut starts2, &mut form2) {
-                Grown::States(k2) => {
-                    let mut classes1 = [0u8; 128];
-                    let mut classes2 = [0u8; 128];
-                    compare_forms(
-                        input_ranks(stock),
-                        output_ranks(stock),
-                        &starts1,
-                        &form1,
-                        &starts2,
-                        &form2,
-                        &mut classes1[0..k1],
-                        &mut classes2[0..k2],
-                        tree,
-                        address,
-                    )
-                }
-                Grown::Over => Comparison::Refused(Refusal::OverLimits),
-            }
-        }
+    let mut starts = [0u16; 2050];
+    let mut form = [0u8; 16384];
+    match earliest_by(stock, n1, counts1, marks1, &mut starts, &mut form) {
+        Grown::States(k) => compare_with(
+            stock,
+            &starts,
+            &form,
+            k,
+            n2,
+            counts2,
+            marks2,
+            tree,
+            address,
+        ),
         Grown::Over => Comparison::Refused(Refusal::OverLimits),
     }
 }

@@ -58,7 +58,7 @@ fn join(classes: &mut [u8], c: u8, d: u8)
 
 // Lists the pair number `count`.
 fn add_pair(
-    pairs: &mut [u8],
+    pairs: &mut [u8; 1536],
     count: usize,
     parent: usize,
     a: usize,
@@ -67,7 +67,7 @@ fn add_pair(
     left: u8,
     right: u8,
 )
-    requires { ⌜ (6 * count + 6 ≤ length (now pairs)) × (parent < 256) × (a < 256) × (m < 256) ⌝ }
+    requires { ⌜ (count ≤ 255) × (1536 ≤ length (now pairs)) × (parent < 256) × (a < 256) × (m < 256) ⌝ }
     ensures { λ _. ⌜ Added (now (pairs .entry)) (now (pairs .exit)) count parent a m child left right ⌝ }
 {
     pairs[6 * count] = left;
@@ -82,7 +82,7 @@ fn add_pair(
 fn meet(
     classes1: &mut [u8],
     classes2: &mut [u8],
-    pairs: &mut [u8],
+    pairs: &mut [u8; 1536],
     count: usize,
     parent: usize,
     a: usize,
@@ -135,7 +135,7 @@ fn meet_marks(
     n: usize,
     classes1: &mut [u8],
     classes2: &mut [u8],
-    pairs: &mut [u8],
+    pairs: &mut [u8; 1536],
     count: usize,
     parent: usize,
     a: usize,
@@ -168,7 +168,7 @@ fn walk_pair(
     j: usize,
     classes1: &mut [u8],
     classes2: &mut [u8],
-    pairs: &mut [u8],
+    pairs: &mut [u8; 1536],
     count: usize,
     parent: usize,
     a: usize,
@@ -211,7 +211,7 @@ fn walk_symbols(
     marks2: &[u8],
     classes1: &mut [u8],
     classes2: &mut [u8],
-    pairs: &mut [u8],
+    pairs: &mut [u8; 1536],
     count: usize,
     p: usize,
 ) -> Stage
@@ -261,7 +261,7 @@ fn walk_pairs(
     marks2: &[u8],
     classes1: &mut [u8],
     classes2: &mut [u8],
-    pairs: &mut [u8],
+    pairs: &mut [u8; 1536],
     count: usize,
 ) -> Verdict
     requires { ⌜ Searching (sides (now ins) (now starts1) (now marks1) (now starts2) (now marks2)) (table (now classes1) (now classes2) (now pairs) count) ⌝ }
@@ -303,7 +303,7 @@ pub(crate) fn search(
     marks2: &[u8],
     classes1: &mut [u8],
     classes2: &mut [u8],
-    pairs: &mut [u8],
+    pairs: &mut [u8; 1536],
 ) -> Verdict
     requires { ⌜ Forms (sides (now ins) (now starts1) (now marks1) (now starts2) (now marks2)) (length (now classes1)) (length (now classes2)) × (1536 ≤ length (now pairs)) ⌝ }
     ensures { λ v. ⌜ Searches (sides (now (ins .entry)) (now (starts1 .entry)) (now (marks1 .entry)) (now (starts2 .entry)) (now (marks2 .entry))) (length (now (classes1 .entry))) (length (now (classes2 .entry))) (now (pairs .exit)) v ⌝ }

@@ -1,10 +1,10 @@
 // A shown difference, from a clash of two bodies: the input tree, the address and the two symbols there.
-ghost use Prim.Native.Nat.{_+_, _≤_};
+ghost use Prim.Native.Nat.{_+_, _-_, _≤_};
 ghost use mathlib.Core.Path.{_≡_};
 ghost use lib.ListN.{length};
 ghost use Rattle.prefixes.specs.Inner.Heads.{machine};
 ghost use Rattle.comparison.specs.Inner.Bottoms.{Bodied, FallAsked, FallFound, Facing, Faces, BottomAsked, BottomFound, Upable, Upped, RootAsked, RootFound, Leading, Roomy, StepsBack, Rises, Tracing, Traces};
-ghost use Rattle.comparison.specs.Inner.Pairs.{sides, leftBody, rightBody, Clashes};
+ghost use Rattle.comparison.specs.Inner.Pairs.{sides, pairLeft, pairRight, leftBody, rightBody, Clashes};
 ghost use Rattle.comparison.specs.Inner.Verdicts.{Comparable, Shows};
 use crate::other::Fallen;
 use crate::other::fall;
@@ -59,8 +59,8 @@ pub struct Shown {
 }
 
 // The number of the left body of parent q for symbol a.
-fn left_body(ins: &[u8], pairs: &[u8], q: usize, a: usize) -> usize
-    requires { ⌜ Bodied (now ins) (now pairs) q a ⌝ }
+fn left_body(ins: &[u8], pairs: &[u8; 1536], q: usize, a: usize) -> usize
+    requires { ⌜ Bodied (now ins) q a (pairLeft (now pairs) (q - 1)) ⌝ }
     ensures { λ r. ⌜ r ≡ leftBody (now (ins .entry)) (now (pairs .entry)) q a ⌝ }
 {
     if q == 0 {
@@ -70,8 +70,8 @@ fn left_body(ins: &[u8], pairs: &[u8], q: usize, a: usize) -> usize
 }
 
 // The number of the right body of parent q for symbol a.
-fn right_body(ins: &[u8], pairs: &[u8], q: usize, a: usize) -> usize
-    requires { ⌜ Bodied (now ins) (now pairs) q a ⌝ }
+fn right_body(ins: &[u8], pairs: &[u8; 1536], q: usize, a: usize) -> usize
+    requires { ⌜ Bodied (now ins) q a (pairRight (now pairs) (q - 1)) ⌝ }
     ensures { λ r. ⌜ r ≡ rightBody (now (ins .entry)) (now (pairs .entry)) q a ⌝ }
 {
     if q == 0 {
@@ -231,7 +231,7 @@ fn step_back(
     outs: &[u8],
     starts1: &[u16],
     marks1: &[u8],
-    pairs: &[u8],
+    pairs: &[u8; 1536],
     e: usize,
     p: usize,
     buffer: &mut [u8],
@@ -263,7 +263,7 @@ fn rise(
     outs: &[u8],
     starts1: &[u16],
     marks1: &[u8],
-    pairs: &[u8],
+    pairs: &[u8; 1536],
     e: usize,
     q: usize,
     buffer: &mut [u8],
@@ -316,7 +316,7 @@ fn trace(
     starts2: &[u16],
     marks2: &[u8],
     n2: usize,
-    pairs: &[u8],
+    pairs: &[u8; 1536],
     e: usize,
     q: usize,
     a: usize,
@@ -324,7 +324,7 @@ fn trace(
     buffer: &mut [u8],
     place: &mut [u8],
 ) -> Traced
-    requires { ⌜ Comparable (now ins) (now outs) (now starts1) (now marks1) n1 (now starts2) (now marks2) n2 × Clashes (sides (now ins) (now starts1) (now marks1) (now starts2) (now marks2)) n1 n2 (now pairs) q a m × Tracing (now ins) (now pairs) e (now buffer) (now place) ⌝ }
+    requires { ⌜ Comparable (now ins) (now outs) (now starts1) (now marks1) n1 (now starts2) (now marks2) n2 × Clashes (sides (now ins) (now starts1) (now marks1) (now starts2) (now marks2)) n1 n2 (now pairs) q a m × Tracing (now ins) e (now buffer) (now place) ⌝ }
     ensures { λ r. ⌜ Traces (now (ins .entry)) (now (outs .entry)) (machine (now (ins .entry)) (now (outs .entry)) (now (starts1 .entry)) (now (marks1 .entry)) n1) (machine (now (ins .entry)) (now (outs .entry)) (now (starts2 .entry)) (now (marks2 .entry)) n2) (now (buffer .exit)) (r .from) (r .to) (now (place .exit)) (r .at) (r .left) (r .right) ⌝ }
 {
     let i = number(starts1[left_body(ins, pairs, q, a)]);
@@ -378,14 +378,14 @@ pub(crate) fn show(
     starts2: &[u16],
     marks2: &[u8],
     n2: usize,
-    pairs: &[u8],
+    pairs: &[u8; 1536],
     q: usize,
     a: usize,
     m: usize,
     tree: &mut [u8],
     address: &mut [u8],
 ) -> Shown
-    requires { ⌜ Comparable (now ins) (now outs) (now starts1) (now marks1) n1 (now starts2) (now marks2) n2 × Clashes (sides (now ins) (now starts1) (now marks1) (now starts2) (now marks2)) n1 n2 (now pairs) q a m × (1536 ≤ length (now pairs)) × (1536 ≤ length (now tree)) × (16128 ≤ length (now address)) ⌝ }
+    requires { ⌜ Comparable (now ins) (now outs) (now starts1) (now marks1) n1 (now starts2) (now marks2) n2 × Clashes (sides (now ins) (now starts1) (now marks1) (now starts2) (now marks2)) n1 n2 (now pairs) q a m × (1536 ≤ length (now tree)) × (16128 ≤ length (now address)) ⌝ }
     ensures { λ r. ⌜ Shows (now (ins .entry)) (now (outs .entry)) (machine (now (ins .entry)) (now (outs .entry)) (now (starts1 .entry)) (now (marks1 .entry)) n1) (machine (now (ins .entry)) (now (outs .entry)) (now (starts2 .entry)) (now (marks2 .entry)) n2) (now (tree .entry)) (now (tree .exit)) (now (address .entry)) (now (address .exit)) (r .nodes) (r .numbers) (r .left) (r .right) ⌝ }
 {
     let mut buffer = [0u8; 3584];

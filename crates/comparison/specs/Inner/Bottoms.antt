@@ -18,11 +18,12 @@ use Rattle.comparison.specs.Inner.Shown.{stepsTree, Holds, Addable}
 use Rattle.comparison.specs.Inner.Verdicts.{Comparable}
 
 -- ---- bodies
--- the list has pair q - 1, and the body of its state for symbol a has a number that fits
-pub record Bodied (ins P : List ℕ) (q a : ℕ) : Type 0 where
-  pub long : 6 * q ≤ length P
+-- the list has room for pair q - 1, and the body of its state x for symbol a has a number that fits
+pub record Bodied (ins : List ℕ) (q a x : ℕ) : Type 0 where
+  pub long : 6 * q ≤ 1536
   pub few-inputs : length ins ≤ 16
   pub known : 0 < q → a < length ins
+  pub state : 0 < q → x < 128
 
 -- ---- the tree below the clash
 -- a state of an earliest transducer, and room for 128 steps
@@ -123,7 +124,7 @@ pub record Leading (ins outs starts bytes P : List ℕ) (e q : ℕ) : Type 0 whe
   pub ins-ranks : Ranks 16 ins
   pub outs-ranks : Ranks 64 outs
   pub leaf : e < length ins
-  pub long : 6 * q ≤ length P
+  pub long : 6 * q ≤ 1536
   pub stands : (p : ℕ) → p < q → Stands ins starts states P p
 
 -- a tree stands in the buffer, with room for four bytes a step on either side, and an address at the end of the area, with room for 63 numbers a step
@@ -162,11 +163,10 @@ pub record Rises (ins outs starts bytes P : List ℕ) (e q : ℕ) (buffer : List
   pub led : (n : ℕ) (l : Leaf ins) → Layout ins outs starts bytes n → l .symbol ≡ e → LeftBelow P q n → (d : Tree) (v : List ℕ) → Stand buffer lo hi d area at v → LedTo ins outs starts bytes P n l q d v buffer′ lo′ hi′ area′ at′
 
 -- ---- from the clash to the initial terms
--- a leaf e, a list of all pairs, and room for every tree and every address
-pub record Tracing (ins P : List ℕ) (e : ℕ) (buffer area : List ℕ) : Type 0 where
+-- a leaf e, and room for every tree and every address
+pub record Tracing (ins : List ℕ) (e : ℕ) (buffer area : List ℕ) : Type 0 where
   pub leaf : e < length ins
   pub rank : getD ins e 0 ≡ 0
-  pub long : 1536 ≤ length P
   pub tree-room : length buffer ≡ 3584
   pub address-room : length area ≡ 16128
 

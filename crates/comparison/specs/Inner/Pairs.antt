@@ -112,6 +112,7 @@ pub record Entry (P : List ℕ) (p q a m c x y : ℕ) : Type 0 where
 
 -- pair number count was added
 pub record Added (P P′ : List ℕ) (count q a m c x y : ℕ) : Type 0 where
+  pub long : length P′ ≡ length P
   pub keeps : (k : ℕ) → k < 6 * count → getD P′ k 0 ≡ getD P k 0
   pub entry : Entry P′ count q a m c x y
 

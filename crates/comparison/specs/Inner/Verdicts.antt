@@ -13,7 +13,9 @@ use Rattle.formats.specs.Sheet.{Encodes}
 use Rattle.formats.specs.declared.refusal.Refusal.{Refusal}
 use Rattle.prefixes.specs.Alphabet.{alphabet}
 use Rattle.prefixes.specs.Inner.Heads.{machine, Layout}
-use Rattle.earliest.specs.Inner.Loaded.{EarliestOf}
+use Rattle.transducer.specs.Inner.Machine.{Machine}
+use Rattle.earliest.specs.Inner.Loaded.{EarliestOf, EarliestBy}
+use Rattle.earliest.specs.declared.early.Grown.the-variants.{States}
 use Rattle.canonical.specs.Answers.{Alike}
 use Rattle.comparison.specs.Answers.{Difference, Written, comparedAs}
 use Rattle.comparison.specs.declared.compare.Comparison.{Comparison}
@@ -54,3 +56,16 @@ ComparesParts stock n counts bytes n′ counts′ bytes′ tree tree′ address 
     Judged ((tree′ ≡ tree) × (address′ ≡ address)) (FoundParts stock n counts bytes n′ counts′ bytes′ tree tree′ address address′)
     (check 7 ((k : ℕ) × ((cs : List ℕ) × ((bs : List ℕ) × EarliestOf stock n counts bytes k cs bs))) (check 7 ((k : ℕ) × ((cs : List ℕ) × ((bs : List ℕ) × EarliestOf stock n′ counts′ bytes′ k cs bs))) done))
     (comparedAs r)
+
+-- an earliest form in tables, with k states, of a transducer
+pub record EarlyForm (stock starts out : List ℕ) (k : ℕ) : Type 0 where
+  pub states : ℕ
+  pub counts : List ℕ
+  pub bytes : List ℕ
+  pub machine : Machine stock states counts bytes
+  pub earliest : EarliestBy stock states counts bytes starts out (States k)
+
+-- what is answered of it and of the parts of a second file: that of the parts of any file whose earliest form it is
+abbrev pub ComparesWith : List ℕ → List ℕ → List ℕ → ℕ → ℕ → List ℕ → List ℕ → List ℕ → List ℕ → List ℕ → List ℕ → Comparison → Type 0
+ComparesWith stock starts out k n′ counts′ bytes′ tree tree′ address address′ r =
+    (n : ℕ) (counts bytes : List ℕ) → Machine stock n counts bytes → EarliestBy stock n counts bytes starts out (States k) → ComparesParts stock n counts bytes n′ counts′ bytes′ tree tree′ address address′ r

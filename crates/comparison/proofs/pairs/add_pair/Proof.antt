@@ -10,8 +10,8 @@ use Rattle.comparison.proofs.pairs.add_pair.Tie as tie
 mul-pairs : tie.Need-mul-pairs
 mul-pairs c = search needs
 
-slice-write-pairs : tie.Need-slice-write-pairs
-slice-write-pairs c = search needs
+element-write-pairs : tie.Need-element-write-pairs
+element-write-pairs c = search needs
 
 mul-pairs-2 : tie.Need-mul-pairs-2
 mul-pairs-2 c = search needs
@@ -19,8 +19,8 @@ mul-pairs-2 c = search needs
 add-pairs : tie.Need-add-pairs
 add-pairs c = search needs
 
-slice-write-pairs-2 : tie.Need-slice-write-pairs-2
-slice-write-pairs-2 c = simp length-set (omega arith)
+element-write-pairs-2 : tie.Need-element-write-pairs-2
+element-write-pairs-2 c = search needs
 
 cast-pairs : tie.Need-cast-pairs
 cast-pairs c = search needs
@@ -31,8 +31,8 @@ mul-pairs-3 c = search needs
 add-pairs-2 : tie.Need-add-pairs-2
 add-pairs-2 c = search needs
 
-slice-write-pairs-3 : tie.Need-slice-write-pairs-3
-slice-write-pairs-3 c = simp length-set (omega arith)
+element-write-pairs-3 : tie.Need-element-write-pairs-3
+element-write-pairs-3 c = search needs
 
 cast-pairs-2 : tie.Need-cast-pairs-2
 cast-pairs-2 c = search needs
@@ -43,8 +43,8 @@ mul-pairs-4 c = search needs
 add-pairs-3 : tie.Need-add-pairs-3
 add-pairs-3 c = search needs
 
-slice-write-pairs-4 : tie.Need-slice-write-pairs-4
-slice-write-pairs-4 c = simp length-set (omega arith)
+element-write-pairs-4 : tie.Need-element-write-pairs-4
+element-write-pairs-4 c = search needs
 
 cast-pairs-3 : tie.Need-cast-pairs-3
 cast-pairs-3 c = search needs
@@ -55,8 +55,8 @@ mul-pairs-5 c = search needs
 add-pairs-4 : tie.Need-add-pairs-4
 add-pairs-4 c = search needs
 
-slice-write-pairs-5 : tie.Need-slice-write-pairs-5
-slice-write-pairs-5 c = simp length-set (omega arith)
+element-write-pairs-5 : tie.Need-element-write-pairs-5
+element-write-pairs-5 c = search needs
 
 mul-pairs-6 : tie.Need-mul-pairs-6
 mul-pairs-6 c = search needs
@@ -64,38 +64,34 @@ mul-pairs-6 c = search needs
 add-pairs-5 : tie.Need-add-pairs-5
 add-pairs-5 c = search needs
 
-slice-write-pairs-6 : tie.Need-slice-write-pairs-6
-slice-write-pairs-6 c = simp length-set (omega arith)
-
-same-length : tie.Need-same-length
-same-length c = search needs
+element-write-pairs-6 : tie.Need-element-write-pairs-6
+element-write-pairs-6 c = search needs
 
 returns : tie.Need-returns
-returns c = added (now (c .args .pairs)) (c .args .count) (c .args .parent) (c .args .a) (c .args .m) (c .args .child) (c .args .left) (c .args .right) (c .pre .0)
+returns c = added (now (c .args .pairs)) (c .args .count) (c .args .parent) (c .args .a) (c .args .m) (c .args .child) (c .args .left) (c .args .right) (omega arith)
 
 pub add-pair-spec : {M : Type 1} → statement M
 add-pair-spec =
     tie.close
     (tie.spec
     mul-pairs
-    slice-write-pairs
+    element-write-pairs
     mul-pairs-2
     add-pairs
-    slice-write-pairs-2
+    element-write-pairs-2
     cast-pairs
     mul-pairs-3
     add-pairs-2
-    slice-write-pairs-3
+    element-write-pairs-3
     cast-pairs-2
     mul-pairs-4
     add-pairs-3
-    slice-write-pairs-4
+    element-write-pairs-4
     cast-pairs-3
     mul-pairs-5
     add-pairs-4
-    slice-write-pairs-5
+    element-write-pairs-5
     mul-pairs-6
     add-pairs-5
-    slice-write-pairs-6
-    same-length
+    element-write-pairs-6
     returns)

@@ -20,7 +20,7 @@ slice-read-d : tie.Need-slice-read-d
 slice-read-d c = search needs
 
 returns : tie.Need-returns
-returns c = meets-old (c .before .before .before .before .before .before .before .before .pre .0) (sym (ap (at (now (c .before .before .before .before .before .before .before .before .args .classes1))) (c .before .before .before .before .wide .ensures)) ∙ c .if1 .taken ∙ ap (at (now (c .before .before .before .before .before .before .before .before .args .classes2))) (c .before .before .wide2 .ensures))
+returns c = meets-old (c .before .before .before .before .before .before .before .pre .0) (sym (ap (at (now (c .before .before .before .before .before .before .before .args .classes1))) (c .before .before .before .before .wide .ensures)) ∙ c .if1 .taken ∙ ap (at (now (c .before .before .before .before .before .before .before .args .classes2))) (c .before .before .wide2 .ensures))
 
 add-pair-requires : tie.Need-add-pair-requires
 add-pair-requires c κs = search needs
@@ -40,16 +40,13 @@ same-length c = search needs
 same-length-2 : tie.Need-same-length-2
 same-length-2 c = search needs
 
-same-length-3 : tie.Need-same-length-3
-same-length-3 c = search needs
-
 returns-2 : tie.Need-returns-2
 returns-2 c =
-    let C = now (c .before .before .before .before .before .before .before .before .before .before .before .before .before .before .before .before .before .before .before .before .args .classes1) in
-    let D = now (c .before .before .before .before .before .before .before .before .before .before .before .before .before .before .before .before .before .before .before .before .args .classes2) in
-    let e = ap (at C) (c .before .before .before .before .before .before .before .before .before .before .before .before .before .before .before .before .wide .ensures) in
-    let f = ap (at D) (c .before .before .before .before .before .before .before .before .before .before .before .before .before .before .wide2 .ensures) in
-    meets-new (c .before .before .before .before .before .before .before .before .before .before .before .before .before .before .before .before .before .before .before .before .pre .0) (c .before .before .before .before .before .before .before .before .before .before .before .before .before .before .before .before .before .before .before .before .pre .1) (c .before .before .before .before .before .before .before .before .before .before .before .before .before .before .before .before .before .before .before .before .pre .2) (λ g. c .before .before .before .before .before .before .before .before .before .before .before .before .if1 .left (e ∙ g ∙ sym f)) (rw (e, f) at (c .before .before .before .before .before .before .join .ensures)) (rw (e, f) at (c .before .before .join2 .ensures)) (c .before .before .before .before .before .before .before .before .before .before .add-pair .ensures) (c .before .before .before .before .before .before .before .before .before .before .add-pair .kept .0)
+    let C = now (c .before .before .before .before .before .before .before .before .before .before .before .before .before .before .before .before .before .args .classes1) in
+    let D = now (c .before .before .before .before .before .before .before .before .before .before .before .before .before .before .before .before .before .args .classes2) in
+    let e = ap (at C) (c .before .before .before .before .before .before .before .before .before .before .before .before .before .before .wide .ensures) in
+    let f = ap (at D) (c .before .before .before .before .before .before .before .before .before .before .before .before .wide2 .ensures) in
+    meets-new (c .before .before .before .before .before .before .before .before .before .before .before .before .before .before .before .before .before .pre .0) (c .before .before .before .before .before .before .before .before .before .before .before .before .before .before .before .before .before .pre .1) (c .before .before .before .before .before .before .before .before .before .before .before .before .before .before .before .before .before .pre .2) (λ g. c .before .before .before .before .before .before .before .before .before .before .if1 .left (e ∙ g ∙ sym f)) (rw (e, f) at (c .before .before .before .before .before .before .join .ensures)) (rw (e, f) at (c .before .before .join2 .ensures)) (c .before .before .before .before .before .before .before .before .add-pair .ensures)
 
 pub meet-spec : {M : Type 1} → statement M
 meet-spec =
@@ -66,5 +63,4 @@ meet-spec =
     add-result
     same-length
     same-length-2
-    same-length-3
     returns-2)

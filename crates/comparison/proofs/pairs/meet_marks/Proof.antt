@@ -16,7 +16,7 @@ abbrev μ-loop : tie.MeasureT-loop
 μ-loop marks1 i marks2 j n classes1₀ classes2₀ pairs₀ count parent a r₀ k₀ classes1 classes2 pairs r k = n - k
 
 loop-holds : tie.Need-loop-holds Inv-loop μ-loop
-loop-holds c = (omega arith, meets-none (c .before .before .before .before .before .pre .0 .merging))
+loop-holds c = (omega arith, meets-none (c .before .before .before .before .pre .0 .merging))
 
 add-c : tie.Need-add-c Inv-loop μ-loop
 add-c c = omega (arith)
@@ -53,8 +53,8 @@ shared-slice-read-y c = omega (arith)
 
 meet-requires : tie.Need-meet-requires Inv-loop μ-loop
 meet-requires c κs =
-    let t = call-there (c .before .before .before .before .before .before .before .before .loop .inv .1) (c .before .before .before .before .before .before .before .before .before .before .before .before .before .before .pre .0) (c .before .before .before .before .before .before .before .loop-test .taken) (c .before .before .before .before .before .if1 .taken) in
-    (c .before .before .before .before .before .before .before .before .loop .inv .1 .merging, t .0, t .1, c .before .before .before .before .before .before .before .before .before .before .before .before .before .before .pre .1, c .before .before .before .before .before .before .before .before .before .before .before .before .before .before .pre .2, omega (arith, c .before .before .before .before .before .before .before .before .before .before .before .before .before .before .pre .0 .few, c .before .before .before .before .before .before .before .loop-test .taken))
+    let t = call-there (c .before .before .before .before .before .before .before .before .loop .inv .1) (c .before .before .before .before .before .before .before .before .before .before .before .before .before .pre .0) (c .before .before .before .before .before .before .before .loop-test .taken) (c .before .before .before .before .before .if1 .taken) in
+    (c .before .before .before .before .before .before .before .before .loop .inv .1 .merging, t .0, t .1, c .before .before .before .before .before .before .before .before .before .before .before .before .before .pre .1, c .before .before .before .before .before .before .before .before .before .before .before .before .before .pre .2, omega (arith, c .before .before .before .before .before .before .before .before .before .before .before .before .before .pre .0 .few, c .before .before .before .before .before .before .before .loop-test .taken))
 
 add-k : tie.Need-add-k Inv-loop μ-loop
 add-k c = omega (arith)
@@ -67,7 +67,7 @@ loop-again c =
     let A = c .before .before .before .loop .inv .1 in
     let t = c .before .before .loop-test .taken in
     ⊎-elim
-    (λ w. (omega arith, rw (w .13, w .14, w .15, w .16) (meets-call A (c .before .before .before .before .before .before .before .before .before .pre .0) t (w .0 .taken) (w .6 .ensures))))
+    (λ w. (omega arith, rw (w .11, w .12, w .13, w .14) (meets-call A (c .before .before .before .before .before .before .before .before .pre .0) t (w .0 .taken) (w .6 .ensures))))
     (λ w. (omega arith, rw (w .1, w .2, w .3, w .4) (meets-symbol A (λ h. omega (arith, h, w .0 .left)))))
     (c .if1 .came)
 
@@ -77,11 +77,8 @@ same-length c = c .before .loop .inv .1 .later .same-left
 same-length-2 : tie.Need-same-length-2 Inv-loop μ-loop
 same-length-2 c = c .before .loop .inv .1 .later .same-right
 
-same-length-3 : tie.Need-same-length-3 Inv-loop μ-loop
-same-length-3 c = c .before .loop .inv .1 .later .same-list
-
 returns : tie.Need-returns Inv-loop μ-loop
-returns c = let e : c .before .loop .k ≡ c .before .before .before .before .before .before .before .args .n = omega arith in rw e at (c .before .loop .inv .1)
+returns c = let e : c .before .loop .k ≡ c .before .before .before .before .before .before .args .n = omega arith in rw e at (c .before .loop .inv .1)
 
 pub meet-marks-spec : {M : Type 1} → statement M
 meet-marks-spec =
@@ -107,5 +104,4 @@ meet-marks-spec =
     loop-again
     same-length
     same-length-2
-    same-length-3
     returns)

@@ -14,13 +14,13 @@ start-classes-requires-2 : tie.Need-start-classes-requires-2
 start-classes-requires-2 c κs = search needs
 
 walk-pair-requires : tie.Need-walk-pair-requires
-walk-pair-requires c κs = search-start (rw (c .before .before .before .before .before .before .before .before .before .start-classes .kept .0, c .before .before .before .before .before .start-classes2 .kept .0) (c .before .before .before .before .before .before .before .before .before .before .before .before .before .before .before .before .before .before .before .pre .0)) (c .before .before .before .before .before .before .before .before .before .before .before .before .before .before .before .before .before .before .before .pre .1) (λ x h. c .before .before .before .before .before .before .before .before .before .start-classes .ensures x (omega (arith, h, c .before .before .before .before .before .before .before .before .before .start-classes .kept .0)) ∙ zero-add x) (λ y h. c .before .before .before .before .before .start-classes2 .ensures y (omega (arith, h, c .before .before .before .before .before .start-classes2 .kept .0)))
+walk-pair-requires c κs = search-start (rw (c .before .before .before .before .before .before .before .before .before .start-classes .kept .0, c .before .before .before .before .before .start-classes2 .kept .0) (c .before .before .before .before .before .before .before .before .before .before .before .before .before .before .before .before .before .before .pre .0)) (c .before .before .before .before .before .before .before .before .before .before .before .before .before .before .before .before .before .before .pre .1) (λ x h. c .before .before .before .before .before .before .before .before .before .start-classes .ensures x (omega (arith, h, c .before .before .before .before .before .before .before .before .before .start-classes .kept .0)) ∙ zero-add x) (λ y h. c .before .before .before .before .before .start-classes2 .ensures y (omega (arith, h, c .before .before .before .before .before .start-classes2 .kept .0)))
 
 enum-known-n : tie.Need-enum-known-n
 enum-known-n c = search needs
 
 walk-pairs-requires : tie.Need-walk-pairs-requires
-walk-pairs-requires c κs = c .before .before .before .before .before .before .before .before .before .before .before .before .walk-pair .ensures .alike _ (c .before .before .before .before .n .given .1) .0 .searching
+walk-pairs-requires c κs = c .before .before .before .before .before .before .before .before .before .before .walk-pair .ensures .alike _ (c .before .before .before .before .n .given .1) .0 .searching
 
 enum-known-m : tie.Need-enum-known-m
 enum-known-m c = search needs
@@ -31,23 +31,17 @@ same-length c = search needs
 same-length-2 : tie.Need-same-length-2
 same-length-2 c = search needs
 
+returns : tie.Need-returns
+returns c = search-end (c .before .before .before .before .before .before .before .before .before .before .before .before .before .before .before .walk-pair .ensures) _ (c .before .before .before .before .before .before .before .before .before .n .given .1) (c .before .before .before .before .walk-pairs .ensures) (c .before .before .before .before .walk-pairs .kept .1 .1 .1 .1 .1 .0 ∙ c .before .before .before .before .before .before .before .before .before .before .before .before .before .before .before .walk-pair .kept .1 .1 .1 .1 .1 .1 .1 .0 ∙ c .before .before .before .before .before .before .before .before .before .before .before .before .before .before .before .before .before .before .before .before .before .before .before .before .before .start-classes .kept .0) (c .before .before .before .before .walk-pairs .kept .1 .1 .1 .1 .1 .1 .0 ∙ c .before .before .before .before .before .before .before .before .before .before .before .before .before .before .before .walk-pair .kept .1 .1 .1 .1 .1 .1 .1 .1 .0 ∙ c .before .before .before .before .before .before .before .before .before .before .before .before .before .before .before .before .before .before .before .before .before .start-classes2 .kept .0)
+
 same-length-3 : tie.Need-same-length-3
 same-length-3 c = search needs
-
-returns : tie.Need-returns
-returns c = search-end (c .before .before .before .before .before .before .before .before .before .before .before .before .before .before .before .before .before .before .before .walk-pair .ensures) _ (c .before .before .before .before .before .before .before .before .before .before .before .n .given .1) (c .before .before .before .before .before .before .walk-pairs .ensures) (c .before .before .before .before .before .before .walk-pairs .kept .1 .1 .1 .1 .1 .0 ∙ c .before .before .before .before .before .before .before .before .before .before .before .before .before .before .before .before .before .before .before .walk-pair .kept .1 .1 .1 .1 .1 .1 .1 .0 ∙ c .before .before .before .before .before .before .before .before .before .before .before .before .before .before .before .before .before .before .before .before .before .before .before .before .before .before .before .before .before .start-classes .kept .0) (c .before .before .before .before .before .before .walk-pairs .kept .1 .1 .1 .1 .1 .1 .0 ∙ c .before .before .before .before .before .before .before .before .before .before .before .before .before .before .before .before .before .before .before .walk-pair .kept .1 .1 .1 .1 .1 .1 .1 .1 .0 ∙ c .before .before .before .before .before .before .before .before .before .before .before .before .before .before .before .before .before .before .before .before .before .before .before .before .before .start-classes2 .kept .0)
 
 same-length-4 : tie.Need-same-length-4
 same-length-4 c = search needs
 
-same-length-5 : tie.Need-same-length-5
-same-length-5 c = search needs
-
-same-length-6 : tie.Need-same-length-6
-same-length-6 c = search needs
-
 returns-2 : tie.Need-returns-2
-returns-2 c = search-clash (c .before .before .before .before .before .before .before .before .before .walk-pair .ensures) (c .before .before .before .before .before .before .before .before .before .walk-pair .kept .1 .1 .1 .1 .1 .1 .1 .0 ∙ c .before .before .before .before .before .before .before .before .before .before .before .before .before .before .before .before .before .before .before .start-classes .kept .0) (c .before .before .before .before .before .before .before .before .before .walk-pair .kept .1 .1 .1 .1 .1 .1 .1 .1 .0 ∙ c .before .before .before .before .before .before .before .before .before .before .before .before .before .before .before .start-classes2 .kept .0) _ (c .before .m .given .1)
+returns-2 c = search-clash (c .before .before .before .before .before .before .before .walk-pair .ensures) (c .before .before .before .before .before .before .before .walk-pair .kept .1 .1 .1 .1 .1 .1 .1 .0 ∙ c .before .before .before .before .before .before .before .before .before .before .before .before .before .before .before .before .before .start-classes .kept .0) (c .before .before .before .before .before .before .before .walk-pair .kept .1 .1 .1 .1 .1 .1 .1 .1 .0 ∙ c .before .before .before .before .before .before .before .before .before .before .before .before .before .start-classes2 .kept .0) _ (c .before .m .given .1)
 
 pub search-spec : {M : Type 1} → statement M
 search-spec =
@@ -61,9 +55,7 @@ search-spec =
     enum-known-m
     same-length
     same-length-2
-    same-length-3
     returns
+    same-length-3
     same-length-4
-    same-length-5
-    same-length-6
     returns-2)

@@ -17,52 +17,52 @@ abbrev μ-loop : tie.MeasureT-loop
 μ-loop ins starts1 marks1 starts2 marks2 classes1₀ classes2₀ pairs₀ count p x y n₀ a₀ classes1 classes2 pairs n a = length ins - a
 
 mul-wide : tie.Need-mul-wide Inv-loop μ-loop
-mul-wide c = omega (arith, c .before .before .before .before .before .before .before .before .pre .0 .merging .few, c .before .before .before .before .before .before .before .before .pre .0 .merging .room, c .before .before .before .before .before .before .before .before .pre .1)
+mul-wide c = omega (arith, c .before .before .before .before .before .before .before .pre .0 .merging .few, c .before .before .before .before .before .before .before .pre .0 .merging .room, c .before .before .before .before .before .before .before .pre .1)
 
-slice-read-wide : tie.Need-slice-read-wide Inv-loop μ-loop
-slice-read-wide c = omega (arith, c .before .before .before .before .before .before .before .before .before .pre .0 .merging .few, c .before .before .before .before .before .before .before .before .before .pre .0 .merging .room, c .before .before .before .before .before .before .before .before .before .pre .1)
+element-copy-out-wide : tie.Need-element-copy-out-wide Inv-loop μ-loop
+element-copy-out-wide c = omega (arith, c .before .before .before .before .before .before .before .pre .0 .merging .few, c .before .before .before .before .before .before .before .pre .0 .merging .room, c .before .before .before .before .before .before .before .pre .1)
 
 wide-requires : tie.Need-wide-requires Inv-loop μ-loop
 wide-requires c κs = search needs
 
 mul-wide-2 : tie.Need-mul-wide-2 Inv-loop μ-loop
-mul-wide-2 c = omega (arith, c .before .before .before .before .before .before .before .before .before .before .pre .0 .merging .few, c .before .before .before .before .before .before .before .before .before .before .pre .0 .merging .room, c .before .before .before .before .before .before .before .before .before .before .pre .1)
+mul-wide-2 c = omega (arith, c .before .before .before .before .before .before .before .before .before .pre .0 .merging .few, c .before .before .before .before .before .before .before .before .before .pre .0 .merging .room, c .before .before .before .before .before .before .before .before .before .pre .1)
 
 add-wide : tie.Need-add-wide Inv-loop μ-loop
-add-wide c = omega (arith, c .before .before .before .before .before .before .before .before .before .before .pre .0 .merging .few, c .before .before .before .before .before .before .before .before .before .before .pre .0 .merging .room, c .before .before .before .before .before .before .before .before .before .before .pre .1)
+add-wide c = omega (arith, c .before .before .before .before .before .before .before .before .before .pre .0 .merging .few, c .before .before .before .before .before .before .before .before .before .pre .0 .merging .room, c .before .before .before .before .before .before .before .before .before .pre .1)
 
-slice-read-wide-2 : tie.Need-slice-read-wide-2 Inv-loop μ-loop
-slice-read-wide-2 c = omega (arith, c .before .before .before .before .before .before .before .before .before .before .before .pre .0 .merging .few, c .before .before .before .before .before .before .before .before .before .before .before .pre .0 .merging .room, c .before .before .before .before .before .before .before .before .before .before .before .pre .1)
+element-copy-out-wide-2 : tie.Need-element-copy-out-wide-2 Inv-loop μ-loop
+element-copy-out-wide-2 c = omega (arith, c .before .before .before .before .before .before .before .before .before .pre .0 .merging .few, c .before .before .before .before .before .before .before .before .before .pre .0 .merging .room, c .before .before .before .before .before .before .before .before .before .pre .1)
 
 wide-requires-2 : tie.Need-wide-requires-2 Inv-loop μ-loop
 wide-requires-2 c κs = search needs
 
 loop-holds : tie.Need-loop-holds Inv-loop μ-loop
-loop-holds c = pair-start (c .before .before .before .before .before .before .before .before .before .before .before .before .args .p) (c .before .before .before .before .before .before .before .before .before .before .before .before .pre .0)
+loop-holds c = pair-start (c .before .before .before .before .before .before .before .before .before .before .before .args .p) (c .before .before .before .before .before .before .before .before .before .before .before .pre .0)
 
 mul-i : tie.Need-mul-i Inv-loop μ-loop
-mul-i c = omega (arith, pair-bodies (c .before .loop .inv) (c .before .before .before .before .before .before .before .before .before .before .before .before .before .before .pre .1) (c .loop-test .taken) (c .before .before .before .before .wide .ensures) (c .before .before .wide2 .ensures) .0, c .before .loop .inv .goes .searching .forms .left .laid .long)
+mul-i c = omega (arith, pair-bodies (c .before .loop .inv) (c .before .before .before .before .before .before .before .before .before .before .before .before .before .pre .1) (c .loop-test .taken) (c .before .before .before .before .wide .ensures) (c .before .before .wide2 .ensures) .0, c .before .loop .inv .goes .searching .forms .left .laid .long)
 
 add-i : tie.Need-add-i Inv-loop μ-loop
-add-i c = omega (arith, pair-bodies (c .before .loop .inv) (c .before .before .before .before .before .before .before .before .before .before .before .before .before .before .pre .1) (c .loop-test .taken) (c .before .before .before .before .wide .ensures) (c .before .before .wide2 .ensures) .0, c .before .loop .inv .goes .searching .forms .left .laid .long)
+add-i c = omega (arith, pair-bodies (c .before .loop .inv) (c .before .before .before .before .before .before .before .before .before .before .before .before .before .pre .1) (c .loop-test .taken) (c .before .before .before .before .wide .ensures) (c .before .before .wide2 .ensures) .0, c .before .loop .inv .goes .searching .forms .left .laid .long)
 
 add-i-2 : tie.Need-add-i-2 Inv-loop μ-loop
-add-i-2 c = omega (arith, pair-bodies (c .before .loop .inv) (c .before .before .before .before .before .before .before .before .before .before .before .before .before .before .pre .1) (c .loop-test .taken) (c .before .before .before .before .wide .ensures) (c .before .before .wide2 .ensures) .0, c .before .loop .inv .goes .searching .forms .left .laid .long)
+add-i-2 c = omega (arith, pair-bodies (c .before .loop .inv) (c .before .before .before .before .before .before .before .before .before .before .before .before .before .pre .1) (c .loop-test .taken) (c .before .before .before .before .wide .ensures) (c .before .before .wide2 .ensures) .0, c .before .loop .inv .goes .searching .forms .left .laid .long)
 
 mul-j : tie.Need-mul-j Inv-loop μ-loop
-mul-j c = omega (arith, pair-bodies (c .before .loop .inv) (c .before .before .before .before .before .before .before .before .before .before .before .before .before .before .pre .1) (c .loop-test .taken) (c .before .before .before .before .wide .ensures) (c .before .before .wide2 .ensures) .1, c .before .loop .inv .goes .searching .forms .right .laid .long)
+mul-j c = omega (arith, pair-bodies (c .before .loop .inv) (c .before .before .before .before .before .before .before .before .before .before .before .before .before .pre .1) (c .loop-test .taken) (c .before .before .before .before .wide .ensures) (c .before .before .wide2 .ensures) .1, c .before .loop .inv .goes .searching .forms .right .laid .long)
 
 add-j : tie.Need-add-j Inv-loop μ-loop
-add-j c = omega (arith, pair-bodies (c .before .loop .inv) (c .before .before .before .before .before .before .before .before .before .before .before .before .before .before .pre .1) (c .loop-test .taken) (c .before .before .before .before .wide .ensures) (c .before .before .wide2 .ensures) .1, c .before .loop .inv .goes .searching .forms .right .laid .long)
+add-j c = omega (arith, pair-bodies (c .before .loop .inv) (c .before .before .before .before .before .before .before .before .before .before .before .before .before .pre .1) (c .loop-test .taken) (c .before .before .before .before .wide .ensures) (c .before .before .wide2 .ensures) .1, c .before .loop .inv .goes .searching .forms .right .laid .long)
 
 add-j-2 : tie.Need-add-j-2 Inv-loop μ-loop
-add-j-2 c = omega (arith, pair-bodies (c .before .loop .inv) (c .before .before .before .before .before .before .before .before .before .before .before .before .before .before .pre .1) (c .loop-test .taken) (c .before .before .before .before .wide .ensures) (c .before .before .wide2 .ensures) .1, c .before .loop .inv .goes .searching .forms .right .laid .long)
+add-j-2 c = omega (arith, pair-bodies (c .before .loop .inv) (c .before .before .before .before .before .before .before .before .before .before .before .before .before .pre .1) (c .loop-test .taken) (c .before .before .before .before .wide .ensures) (c .before .before .wide2 .ensures) .1, c .before .loop .inv .goes .searching .forms .right .laid .long)
 
 add-walk-pair : tie.Need-add-walk-pair Inv-loop μ-loop
-add-walk-pair c = omega (arith, c .before .before .before .before .before .before .before .before .before .before .before .before .before .before .before .before .before .pre .0 .merging .few, c .before .before .before .before .before .before .before .before .before .before .before .before .before .before .before .before .before .pre .0 .merging .room, c .before .before .before .before .before .before .before .before .before .before .before .before .before .before .before .before .before .pre .1)
+add-walk-pair c = omega (arith, c .before .before .before .before .before .before .before .before .before .before .before .before .before .before .before .before .pre .0 .merging .few, c .before .before .before .before .before .before .before .before .before .before .before .before .before .before .before .before .pre .0 .merging .room, c .before .before .before .before .before .before .before .before .before .before .before .before .before .before .before .before .pre .1)
 
 walk-pair-requires : tie.Need-walk-pair-requires Inv-loop μ-loop
-walk-pair-requires c κs = pair-walkable (c .before .before .before .before .loop .inv) (c .before .before .before .before .before .before .before .before .before .before .before .before .before .before .before .before .before .pre .1) (c .before .before .before .loop-test .taken) (c .before .before .before .before .before .before .before .wide .ensures) (c .before .before .before .before .before .wide2 .ensures)
+walk-pair-requires c κs = pair-walkable (c .before .before .before .before .loop .inv) (c .before .before .before .before .before .before .before .before .before .before .before .before .before .before .before .before .pre .1) (c .before .before .before .loop-test .taken) (c .before .before .before .before .before .before .before .wide .ensures) (c .before .before .before .before .before .wide2 .ensures)
 
 enum-known-r : tie.Need-enum-known-r Inv-loop μ-loop
 enum-known-r c = search needs
@@ -71,16 +71,13 @@ enum-known-m : tie.Need-enum-known-m Inv-loop μ-loop
 enum-known-m c = search needs
 
 same-length : tie.Need-same-length Inv-loop μ-loop
-same-length c = c .before .before .before .before .before .before .before .before .before .walk-pair .kept .1 .1 .1 .1 .1 .1 .1 .0 ∙ c .before .before .before .before .before .before .before .before .before .before .before .before .before .before .loop .inv .goes .later .same-left
+same-length c = c .before .before .before .before .before .before .before .walk-pair .kept .1 .1 .1 .1 .1 .1 .1 .0 ∙ c .before .before .before .before .before .before .before .before .before .before .before .before .loop .inv .goes .later .same-left
 
 same-length-2 : tie.Need-same-length-2 Inv-loop μ-loop
-same-length-2 c = c .before .before .before .before .before .before .before .before .before .walk-pair .kept .1 .1 .1 .1 .1 .1 .1 .1 .0 ∙ c .before .before .before .before .before .before .before .before .before .before .before .before .before .before .loop .inv .goes .later .same-right
-
-same-length-3 : tie.Need-same-length-3 Inv-loop μ-loop
-same-length-3 c = c .before .before .before .before .before .before .before .before .before .walk-pair .kept .1 .1 .1 .1 .1 .1 .1 .1 .1 .0 ∙ c .before .before .before .before .before .before .before .before .before .before .before .before .before .before .loop .inv .goes .later .same-list
+same-length-2 c = c .before .before .before .before .before .before .before .walk-pair .kept .1 .1 .1 .1 .1 .1 .1 .1 .0 ∙ c .before .before .before .before .before .before .before .before .before .before .before .before .loop .inv .goes .later .same-right
 
 returns : tie.Need-returns Inv-loop μ-loop
-returns c = pair-clash (c .before .before .before .before .before .before .before .before .before .before .before .before .before .before .loop .inv) (c .before .before .before .before .before .before .before .before .before .before .before .before .before .before .before .before .before .before .before .before .before .before .before .before .before .before .before .pre .1) (c .before .before .before .before .before .before .before .before .before .before .before .before .before .before .before .before .before .wide .ensures) (c .before .before .before .before .before .before .before .before .before .before .before .before .before .before .before .wide2 .ensures) (c .before .before .before .before .before .before .before .before .before .before .before .before .before .loop-test .taken) (c .before .before .before .before .before .before .before .before .before .walk-pair .ensures) _ (c .before .m .given .1)
+returns c = pair-clash (c .before .before .before .before .before .before .before .before .before .before .before .before .loop .inv) (c .before .before .before .before .before .before .before .before .before .before .before .before .before .before .before .before .before .before .before .before .before .before .before .before .pre .1) (c .before .before .before .before .before .before .before .before .before .before .before .before .before .before .before .wide .ensures) (c .before .before .before .before .before .before .before .before .before .before .before .before .before .wide2 .ensures) (c .before .before .before .before .before .before .before .before .before .before .before .loop-test .taken) (c .before .before .before .before .before .before .before .walk-pair .ensures) _ (c .before .m .given .1)
 
 add-a : tie.Need-add-a Inv-loop μ-loop
 add-a c = omega arith
@@ -89,16 +86,13 @@ loop-less : tie.Need-loop-less Inv-loop μ-loop
 loop-less c = omega arith
 
 loop-again : tie.Need-loop-again Inv-loop μ-loop
-loop-again c = pair-next (c .before .before .before .before .before .before .before .before .before .before .before .before .before .before .loop .inv) (c .before .before .before .before .before .before .before .before .before .before .before .before .before .before .before .before .before .before .before .before .before .before .before .before .before .before .before .pre .1) (c .before .before .before .before .before .before .before .before .before .before .before .before .before .before .before .before .before .wide .ensures) (c .before .before .before .before .before .before .before .before .before .before .before .before .before .before .before .wide2 .ensures) (c .before .before .before .before .before .before .before .before .before .before .before .before .before .loop-test .taken) (c .before .before .before .before .before .before .before .before .before .walk-pair .ensures) _ (c .before .r .given .1)
+loop-again c = pair-next (c .before .before .before .before .before .before .before .before .before .before .before .before .loop .inv) (c .before .before .before .before .before .before .before .before .before .before .before .before .before .before .before .before .before .before .before .before .before .before .before .before .pre .1) (c .before .before .before .before .before .before .before .before .before .before .before .before .before .before .before .wide .ensures) (c .before .before .before .before .before .before .before .before .before .before .before .before .before .wide2 .ensures) (c .before .before .before .before .before .before .before .before .before .before .before .loop-test .taken) (c .before .before .before .before .before .before .before .walk-pair .ensures) _ (c .before .r .given .1)
+
+same-length-3 : tie.Need-same-length-3 Inv-loop μ-loop
+same-length-3 c = c .before .loop .inv .goes .later .same-left
 
 same-length-4 : tie.Need-same-length-4 Inv-loop μ-loop
-same-length-4 c = c .before .loop .inv .goes .later .same-left
-
-same-length-5 : tie.Need-same-length-5 Inv-loop μ-loop
-same-length-5 c = c .before .loop .inv .goes .later .same-right
-
-same-length-6 : tie.Need-same-length-6 Inv-loop μ-loop
-same-length-6 c = c .before .loop .inv .goes .later .same-list
+same-length-4 c = c .before .loop .inv .goes .later .same-right
 
 returns-2 : tie.Need-returns-2 Inv-loop μ-loop
 returns-2 c = pair-end (c .before .loop .inv) (omega arith)
@@ -110,11 +104,11 @@ walk-symbols-spec =
     Inv-loop
     μ-loop
     mul-wide
-    slice-read-wide
+    element-copy-out-wide
     wide-requires
     mul-wide-2
     add-wide
-    slice-read-wide-2
+    element-copy-out-wide-2
     wide-requires-2
     loop-holds
     mul-i
@@ -129,12 +123,10 @@ walk-symbols-spec =
     enum-known-m
     same-length
     same-length-2
-    same-length-3
     returns
     add-a
     loop-less
     loop-again
+    same-length-3
     same-length-4
-    same-length-5
-    same-length-6
     returns-2)

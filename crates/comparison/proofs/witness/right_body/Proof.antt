@@ -8,7 +8,7 @@ use Rattle.comparison.proofs.witness.right_body.Statement.{statement}
 use Rattle.comparison.proofs.witness.right_body.Tie as tie
 
 returns : tie.Need-returns
-returns c = right-top (now (c .before .before .before .args .ins)) (now (c .before .before .before .args .pairs)) (c .before .before .before .args .a) (c .before .before .before .args .q) (c .if1 .taken)
+returns c = right-top (now (c .before .before .args .ins)) (now (c .before .before .args .pairs)) (c .before .before .args .a) (c .before .before .args .q) (c .if1 .taken)
 
 sub-wide : tie.Need-sub-wide
 sub-wide c = search needs
@@ -19,23 +19,23 @@ mul-wide c = search needs
 add-wide : tie.Need-add-wide
 add-wide c = search needs
 
-shared-slice-read-wide : tie.Need-shared-slice-read-wide
-shared-slice-read-wide c = search needs
+element-copy-out-wide : tie.Need-element-copy-out-wide
+element-copy-out-wide c = search needs
 
 wide-requires : tie.Need-wide-requires
 wide-requires c κs = search needs
 
 mul-result : tie.Need-mul-result
-mul-result c = omega (arith, number-small (now (c .before .before .before .before .before .args .ins)) (now (c .before .before .before .before .before .args .pairs)) (c .before .before .before .before .before .args .a) {x = c .wide .result} (c .before .before .before .before .before .pre) (c .before .before .if1 .left) (omega (arith, c .wide .ensures, c .before .shared-slice-known3 .given (6 * (c .before .before .before .before .before .args .q - 1) + 1))))
+mul-result c = omega (arith, number-small (now (c .before .before .before .before .args .ins)) (now (c .before .before .before .before .args .pairs)) (c .before .before .before .before .args .a) {x = c .wide .result} (c .before .before .before .before .pre) (c .before .before .if1 .left) (c .wide .ensures))
 
 add-result : tie.Need-add-result
-add-result c = omega (arith, number-small (now (c .before .before .before .before .before .args .ins)) (now (c .before .before .before .before .before .args .pairs)) (c .before .before .before .before .before .args .a) {x = c .wide .result} (c .before .before .before .before .before .pre) (c .before .before .if1 .left) (omega (arith, c .wide .ensures, c .before .shared-slice-known3 .given (6 * (c .before .before .before .before .before .args .q - 1) + 1))))
+add-result c = omega (arith, number-small (now (c .before .before .before .before .args .ins)) (now (c .before .before .before .before .args .pairs)) (c .before .before .before .before .args .a) {x = c .wide .result} (c .before .before .before .before .pre) (c .before .before .if1 .left) (c .wide .ensures))
 
 add-result-2 : tie.Need-add-result-2
-add-result-2 c = omega (arith, number-small (now (c .before .before .before .before .before .args .ins)) (now (c .before .before .before .before .before .args .pairs)) (c .before .before .before .before .before .args .a) {x = c .wide .result} (c .before .before .before .before .before .pre) (c .before .before .if1 .left) (omega (arith, c .wide .ensures, c .before .shared-slice-known3 .given (6 * (c .before .before .before .before .before .args .q - 1) + 1))))
+add-result-2 c = omega (arith, number-small (now (c .before .before .before .before .args .ins)) (now (c .before .before .before .before .args .pairs)) (c .before .before .before .before .args .a) {x = c .wide .result} (c .before .before .before .before .pre) (c .before .before .if1 .left) (c .wide .ensures))
 
 returns-2 : tie.Need-returns-2
-returns-2 c = right-pair (now (c .before .before .before .before .before .args .ins)) (now (c .before .before .before .before .before .args .pairs)) (c .before .before .before .before .before .args .a) (c .before .before .before .before .before .args .q) (c .before .before .if1 .left) (c .wide .ensures)
+returns-2 c = right-pair (now (c .before .before .before .before .args .ins)) (now (c .before .before .before .before .args .pairs)) (c .before .before .before .before .args .a) (c .before .before .before .before .args .q) (c .before .before .if1 .left) (c .wide .ensures)
 
 pub right-body-spec : {M : Type 1} → statement M
 right-body-spec =
@@ -45,7 +45,7 @@ right-body-spec =
     sub-wide
     mul-wide
     add-wide
-    shared-slice-read-wide
+    element-copy-out-wide
     wide-requires
     mul-result
     add-result

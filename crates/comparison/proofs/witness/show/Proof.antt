@@ -30,7 +30,7 @@ part-copy-at-end : tie.Need-part-copy-at-end
 part-copy-at-end c = search needs
 
 copy-at-requires : tie.Need-copy-at-requires
-copy-at-requires c κs = simp length-take (omega (arith, c .before .before .before .before .before .before .before .before .before .before .before .before .before .before .before .before .before .before .pre .3, show-nodes (c .before .before .before .before .before .trace .ensures)))
+copy-at-requires c κs = simp length-take (omega (arith, c .before .before .before .before .before .before .before .before .before .before .before .before .before .before .before .before .before .pre .3, show-nodes (c .before .before .before .before .before .trace .ensures)))
 
 sub-copy-at-2 : tie.Need-sub-copy-at-2
 sub-copy-at-2 c = search needs
