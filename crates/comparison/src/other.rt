@@ -148,14 +148,14 @@ fn put_step(
     wide(marks[at + 1])
 }
 
-// How many steps a fall has, and the root symbol at its end.
-pub struct Fallen {
+// How many steps a path has, and the root symbol at its end.
+pub struct PathEnd {
     pub count: usize,
     pub symbol: usize,
 }
 
 // The steps from q along which the distances fall, two bytes each: a symbol, and the child that the next step goes on with, 0 at the last.
-pub(crate) fn fall(
+pub(crate) fn write_path(
     ins: &[u8],
     starts: &[u16],
     marks: &[u8],
@@ -163,7 +163,7 @@ pub(crate) fn fall(
     q: usize,
     b: usize,
     steps: &mut [u8],
-) -> Fallen
+) -> PathEnd
     requires { ⌜ Fallable (now ins) (now starts) (now marks) (now dist) q b (now steps) ⌝ }
     ensures { λ r. ⌜ Falling (now (ins .entry)) (now (starts .entry)) (now (marks .entry)) (now (dist .entry)) q b (now (steps .exit)) (r .count) (r .symbol) ⌝ }
 {
@@ -175,7 +175,7 @@ pub(crate) fn fall(
         k += 1;
     }
     let symbol = put_step(ins, starts, marks, dist, p, b, steps, k);
-    Fallen {
+    PathEnd {
         count: count,
         symbol: symbol,
     }

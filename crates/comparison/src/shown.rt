@@ -26,7 +26,7 @@ fn fill(buffer: &mut [u8], at: usize, n: usize, e: u8)
 }
 
 // Writes the symbol a with leaves e for all its children, from position `at` on.
-pub(crate) fn plant(ins: &[u8], e: usize, a: usize, buffer: &mut [u8], at: usize) -> Span
+pub(crate) fn write_symbol(ins: &[u8], e: usize, a: usize, buffer: &mut [u8], at: usize) -> Span
     requires { ⌜ Plantable (now ins) e a (now buffer) at ⌝ }
     ensures { λ r. ⌜ Planted (now (ins .entry)) e a at (now (buffer .exit)) (r .from) (r .to) ⌝ }
 {
@@ -77,13 +77,13 @@ pub(crate) fn add_step(
     ensures { λ r. ⌜ Added (now (ins .entry)) e a i (now (buffer .entry)) lo hi (now (buffer .exit)) (r .from) (r .to) ⌝ }
 {
     if i == 0 {
-        return plant(ins, e, a, buffer, lo);
+        return write_symbol(ins, e, a, buffer, lo);
     }
     wrap(ins, e, a, i, buffer, lo, hi)
 }
 
 // Writes the tree of the first `count` steps, two bytes each: a symbol, and the number of the child that goes on.
-pub(crate) fn plant_steps(
+pub(crate) fn write_steps(
     ins: &[u8],
     e: usize,
     steps: &[u8],
@@ -125,7 +125,7 @@ fn mark_rank(outs: &[u8], marks: &[u8], k: usize) -> usize
 }
 
 // Writes the address of letter m of the body that starts with mark number `from`, so that it ends before position `at`; says where it begins.
-pub(crate) fn climb(
+pub(crate) fn write_address(
     outs: &[u8],
     marks: &[u8],
     from: usize,

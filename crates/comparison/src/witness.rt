@@ -6,13 +6,13 @@ ghost use Rattle.prefixes.specs.Inner.Heads.{machine};
 ghost use Rattle.comparison.specs.Inner.Bottoms.{Bodied, FallAsked, FallFound, Facing, Faces, BottomAsked, BottomFound, Upable, Upped, RootAsked, RootFound, Leading, Roomy, StepsBack, Rises, Tracing, Traces};
 ghost use Rattle.comparison.specs.Inner.Pairs.{sides, pairLeft, pairRight, leftBody, rightBody, Clashes};
 ghost use Rattle.comparison.specs.Inner.Verdicts.{Comparable, Shows};
-use crate::other::Fallen;
-use crate::other::fall;
+use crate::other::PathEnd;
 use crate::other::fill_distances;
+use crate::other::write_path;
 use crate::shown::Span;
 use crate::shown::add_step;
-use crate::shown::climb;
-use crate::shown::plant_steps;
+use crate::shown::write_address;
+use crate::shown::write_steps;
 use formats::bytes::number;
 use formats::bytes::wide;
 use formats::file::copy_at;
@@ -35,7 +35,7 @@ pub struct Rooted {
 }
 
 // Where the tree stands in its buffer, and where the address begins.
-pub struct Risen {
+pub struct Placed {
     pub from: usize,
     pub to: usize,
     pub at: usize,
@@ -81,7 +81,7 @@ fn right_body(ins: &[u8], pairs: &[u8; 1536], q: usize, a: usize) -> usize
 }
 
 // The steps from state q down to a root symbol other than b.
-fn fall_from(
+fn path_from(
     ins: &[u8],
     starts: &[u16],
     marks: &[u8],
@@ -89,13 +89,13 @@ fn fall_from(
     q: usize,
     b: usize,
     steps: &mut [u8],
-) -> Fallen
+) -> PathEnd
     requires { ⌜ FallAsked (now ins) (now starts) (now marks) n q (now steps) ⌝ }
     ensures { λ r. ⌜ FallFound (now (ins .entry)) (now (starts .entry)) (now (marks .entry)) q b (now (steps .exit)) (r .count) (r .symbol) ⌝ }
 {
     let mut dist = [0u8; 128];
     fill_distances(ins, starts, marks, n, b, &mut dist);
-    fall(ins, starts, marks, &dist, q, b, steps)
+    write_path(ins, starts, marks, &dist, q, b, steps)
 }
 
 // The root symbol of the mark (c, x), a call reading the leaf e.
@@ -110,7 +110,7 @@ fn facing(ins: &[u8], starts: &[u16], marks: &[u8], e: usize, c: usize, x: usize
     wide(marks[at + 1])
 }
 
-// What lies below two marks that clash: a fall of the call, or of the first of two calls.
+// What lies below two marks that clash: a path from the call, or from the first of two calls.
 fn find_bottom(
     ins: &[u8],
     starts1: &[u16],
@@ -131,7 +131,7 @@ fn find_bottom(
 {
     if c1 > 0 {
         let b = facing(ins, starts2, marks2, e, c2, x2);
-        let f = fall_from(ins, starts1, marks1, n1, x1, b, steps);
+        let f = path_from(ins, starts1, marks1, n1, x1, b, steps);
         return Bottom {
             child: c1,
             count: f.count,
@@ -140,7 +140,7 @@ fn find_bottom(
         };
     }
     if c2 > 0 {
-        let f = fall_from(ins, starts2, marks2, n2, x2, x1, steps);
+        let f = path_from(ins, starts2, marks2, n2, x2, x1, steps);
         return Bottom {
             child: c2,
             count: f.count,
@@ -215,7 +215,7 @@ fn root_tree(
         x2,
         &mut steps,
     );
-    let s = plant_steps(ins, e, &steps, f.count, buffer);
+    let s = write_steps(ins, e, &steps, f.count, buffer);
     let t = step_up(ins, e, q, a, f.child, buffer, s.from, s.to);
     Rooted {
         from: t.from,
@@ -239,7 +239,7 @@ fn step_back(
     hi: usize,
     place: &mut [u8],
     at: usize,
-) -> Risen
+) -> Placed
     requires { ⌜ Leading (now ins) (now outs) (now starts1) (now marks1) (now pairs) e (p + 1) × Roomy (p + 1) (now buffer) lo hi (now place) at ⌝ }
     ensures { λ r. ⌜ StepsBack (now (ins .entry)) (now (outs .entry)) (now (starts1 .entry)) (now (marks1 .entry)) (now (pairs .entry)) e p (now (buffer .entry)) lo hi (now (place .entry)) at (now (buffer .exit)) (r .from) (r .to) (now (place .exit)) (r .at) ⌝ }
 {
@@ -248,9 +248,9 @@ fn step_back(
     let m = wide(pairs[6 * p + 4]);
     let i = wide(pairs[6 * p + 5]);
     let from = number(starts1[left_body(ins, pairs, q, a)]);
-    let w = climb(outs, marks1, from, m, place, at);
+    let w = write_address(outs, marks1, from, m, place, at);
     let s = step_up(ins, e, q, a, i, buffer, lo, hi);
-    Risen {
+    Placed {
         from: s.from,
         to: s.to,
         at: w,
@@ -258,7 +258,7 @@ fn step_back(
 }
 
 // The way back from parent q to the initial terms.
-fn rise(
+fn trace_back(
     ins: &[u8],
     outs: &[u8],
     starts1: &[u16],
@@ -271,7 +271,7 @@ fn rise(
     hi: usize,
     place: &mut [u8],
     at: usize,
-) -> Risen
+) -> Placed
     requires { ⌜ Leading (now ins) (now outs) (now starts1) (now marks1) (now pairs) e q × Roomy q (now buffer) lo hi (now place) at ⌝ }
     ensures { λ r. ⌜ Rises (now (ins .entry)) (now (outs .entry)) (now (starts1 .entry)) (now (marks1 .entry)) (now (pairs .entry)) e q (now (buffer .entry)) lo hi (now (place .entry)) at (now (buffer .exit)) (r .from) (r .to) (now (place .exit)) (r .at) ⌝ }
 {
@@ -299,7 +299,7 @@ fn rise(
         w = s.at;
         r = wide(pairs[6 * (r - 1) + 2]);
     }
-    Risen {
+    Placed {
         from: from,
         to: to,
         at: w,
@@ -344,8 +344,8 @@ fn trace(
         a,
         buffer,
     );
-    let w = climb(outs, marks1, i, m, place, 16128);
-    let s = rise(
+    let w = write_address(outs, marks1, i, m, place, 16128);
+    let s = trace_back(
         ins,
         outs,
         starts1,

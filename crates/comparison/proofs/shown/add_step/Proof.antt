@@ -5,14 +5,14 @@ use Rattle.comparison.proofs.Planting.{to-plant, to-wrap, added-leaves,
 use Rattle.comparison.proofs.shown.add_step.Statement.{statement}
 use Rattle.comparison.proofs.shown.add_step.Tie as tie
 
-plant-requires : tie.Need-plant-requires
-plant-requires c κs = to-plant (c .before .before .before .before .pre)
+write-symbol-requires : tie.Need-write-symbol-requires
+write-symbol-requires c κs = to-plant (c .before .before .before .before .pre)
 
 same-length : tie.Need-same-length
 same-length c = search needs
 
 returns : tie.Need-returns
-returns c = added-leaves (c .before .before .before .before .before .before .before .pre) (c .before .before .before .before .if1 .taken) (c .before .before .plant .ensures)
+returns c = added-leaves (c .before .before .before .before .before .before .before .pre) (c .before .before .before .before .if1 .taken) (c .before .before .write-symbol .ensures)
 
 wrap-requires : tie.Need-wrap-requires
 wrap-requires c κs = to-wrap (c .before .before .before .before .pre) (omega arith)
@@ -25,4 +25,4 @@ returns-2 c = added-above (c .before .before .before .before .before .before .be
 
 pub add-step-spec : {M : Type 1} → statement M
 add-step-spec =
-    tie.close (tie.spec plant-requires same-length returns wrap-requires same-length-2 returns-2)
+    tie.close (tie.spec write-symbol-requires same-length returns wrap-requires same-length-2 returns-2)

@@ -8,8 +8,8 @@ use Rattle.comparison.proofs.witness.find_bottom.Tie as tie
 facing-requires : tie.Need-facing-requires
 facing-requires c κs = search needs
 
-fall-from-requires : tie.Need-fall-from-requires
-fall-from-requires c κs =
+path-from-requires : tie.Need-path-from-requires
+path-from-requires c κs =
     let P = c .before .before .before .before .before .before .before .before .before .pre in
     record { outs = P .outs; layout = P .forms .left; leaf = P .forms .leaf; earliest = P .forms .left-earliest (P .forms .leaf); state = P .state (c .before .before .if1 .taken); room = P .room }
 
@@ -17,10 +17,10 @@ same-length : tie.Need-same-length
 same-length c = search needs
 
 returns : tie.Need-returns
-returns c = first-falls (c .before .before .before .before .before .if1 .taken) (c .before .before .before .before .facing .ensures) (c .before .before .fall-from .ensures)
+returns c = first-falls (c .before .before .before .before .before .if1 .taken) (c .before .before .before .before .facing .ensures) (c .before .before .path-from .ensures)
 
-fall-from-requires-2 : tie.Need-fall-from-requires-2
-fall-from-requires-2 c κs =
+path-from-requires-2 : tie.Need-path-from-requires-2
+path-from-requires-2 c κs =
     let P = c .before .before .before .before .before .before .before .before .before .pre in
     record { outs = P .outs; layout = P .forms .right; leaf = P .forms .leaf; earliest = P .forms .right-earliest (P .forms .leaf); state = P .state′ (c .before .if2 .taken); room = P .room }
 
@@ -28,7 +28,7 @@ same-length-2 : tie.Need-same-length-2
 same-length-2 c = search needs
 
 returns-2 : tie.Need-returns-2
-returns-2 c = second-falls (omega (arith, c .before .before .before .before .before .if1 .left)) (c .before .before .before .before .if2 .taken) (c .before .before .fall-from2 .ensures)
+returns-2 c = second-falls (omega (arith, c .before .before .before .before .before .if1 .left)) (c .before .before .before .before .if2 .taken) (c .before .before .path-from2 .ensures)
 
 returns-3 : tie.Need-returns-3
 returns-3 c = neither-falls (omega (arith, c .before .if1 .left)) (omega (arith, c .if2 .left))
@@ -38,10 +38,10 @@ find-bottom-spec =
     tie.close
     (tie.spec
     facing-requires
-    fall-from-requires
+    path-from-requires
     same-length
     returns
-    fall-from-requires-2
+    path-from-requires-2
     same-length-2
     returns-2
     returns-3)

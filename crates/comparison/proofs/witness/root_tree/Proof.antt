@@ -56,20 +56,20 @@ slice-aggregate-find-bottom c = search needs
 find-bottom-requires : tie.Need-find-bottom-requires
 find-bottom-requires c κs = root-bottom (c .before .before .before .before .before .before .before .before .before .before .before .before .before .before .before .pre) (c .before .before .before .before .before .before .before .wide .ensures) (c .before .before .before .before .before .wide2 .ensures) (c .before .before .before .wide3 .ensures) (c .before .wide4 .ensures) (omega (arith, length-replicate {A = ℕ} 256 0))
 
-slice-aggregate-plant-steps : tie.Need-slice-aggregate-plant-steps
-slice-aggregate-plant-steps c = search needs
+slice-aggregate-write-steps : tie.Need-slice-aggregate-write-steps
+slice-aggregate-write-steps c = search needs
 
-plant-steps-requires : tie.Need-plant-steps-requires
-plant-steps-requires c κs = root-plantable (c .before .before .before .before .before .before .before .before .before .before .before .before .before .before .before .before .before .before .before .pre) (root-below (c .before .before .before .before .before .before .before .before .before .before .before .before .before .before .before .before .before .before .before .pre) (c .before .before .before .before .before .before .before .before .before .before .before .wide .ensures) (c .before .before .before .before .before .before .before .before .before .wide2 .ensures) (c .before .before .before .before .before .before .before .wide3 .ensures) (c .before .before .before .before .before .wide4 .ensures) (c .before .before .before .find-bottom .ensures)) (c .before .before .before .find-bottom .kept .1 .1 .1 .1 .1 .1 .1 .1 .1 .1 .1 .1 .0 ∙ length-replicate {A = ℕ} 256 0)
+write-steps-requires : tie.Need-write-steps-requires
+write-steps-requires c κs = root-plantable (c .before .before .before .before .before .before .before .before .before .before .before .before .before .before .before .before .before .before .before .pre) (root-below (c .before .before .before .before .before .before .before .before .before .before .before .before .before .before .before .before .before .before .before .pre) (c .before .before .before .before .before .before .before .before .before .before .before .wide .ensures) (c .before .before .before .before .before .before .before .before .before .wide2 .ensures) (c .before .before .before .before .before .before .before .wide3 .ensures) (c .before .before .before .before .before .wide4 .ensures) (c .before .before .before .find-bottom .ensures)) (c .before .before .before .find-bottom .kept .1 .1 .1 .1 .1 .1 .1 .1 .1 .1 .1 .1 .0 ∙ length-replicate {A = ℕ} 256 0)
 
 step-up-requires : tie.Need-step-up-requires
-step-up-requires c κs = root-upable (c .before .before .before .before .before .before .before .before .before .before .before .before .before .before .before .before .before .before .before .before .before .before .before .pre) (root-below (c .before .before .before .before .before .before .before .before .before .before .before .before .before .before .before .before .before .before .before .before .before .before .before .pre) (c .before .before .before .before .before .before .before .before .before .before .before .before .before .before .before .wide .ensures) (c .before .before .before .before .before .before .before .before .before .before .before .before .before .wide2 .ensures) (c .before .before .before .before .before .before .before .before .before .before .before .wide3 .ensures) (c .before .before .before .before .before .before .before .before .before .wide4 .ensures) (c .before .before .before .before .before .before .before .find-bottom .ensures)) (c .before .before .before .plant-steps .ensures) (c .before .before .before .plant-steps .kept .1 .1 .1 .1 .0)
+step-up-requires c κs = root-upable (c .before .before .before .before .before .before .before .before .before .before .before .before .before .before .before .before .before .before .before .before .before .before .before .pre) (root-below (c .before .before .before .before .before .before .before .before .before .before .before .before .before .before .before .before .before .before .before .before .before .before .before .pre) (c .before .before .before .before .before .before .before .before .before .before .before .before .before .before .before .wide .ensures) (c .before .before .before .before .before .before .before .before .before .before .before .before .before .wide2 .ensures) (c .before .before .before .before .before .before .before .before .before .before .before .wide3 .ensures) (c .before .before .before .before .before .before .before .before .before .wide4 .ensures) (c .before .before .before .before .before .before .before .find-bottom .ensures)) (c .before .before .before .write-steps .ensures) (c .before .before .before .write-steps .kept .1 .1 .1 .1 .0)
 
 same-length : tie.Need-same-length
 same-length c = search needs
 
 returns : tie.Need-returns
-returns c = root-found (c .before .before .before .before .before .before .before .before .before .before .before .before .before .before .before .before .before .before .before .before .before .before .before .before .before .before .pre) (root-below (c .before .before .before .before .before .before .before .before .before .before .before .before .before .before .before .before .before .before .before .before .before .before .before .before .before .before .pre) (c .before .before .before .before .before .before .before .before .before .before .before .before .before .before .before .before .before .before .wide .ensures) (c .before .before .before .before .before .before .before .before .before .before .before .before .before .before .before .before .wide2 .ensures) (c .before .before .before .before .before .before .before .before .before .before .before .before .before .before .wide3 .ensures) (c .before .before .before .before .before .before .before .before .before .before .before .before .wide4 .ensures) (c .before .before .before .before .before .before .before .before .before .before .find-bottom .ensures)) (c .before .before .before .before .before .before .plant-steps .ensures) (c .before .before .before .before .before .before .plant-steps .kept .1 .1 .1 .1 .0) (c .before .before .step-up .ensures)
+returns c = root-found (c .before .before .before .before .before .before .before .before .before .before .before .before .before .before .before .before .before .before .before .before .before .before .before .before .before .before .pre) (root-below (c .before .before .before .before .before .before .before .before .before .before .before .before .before .before .before .before .before .before .before .before .before .before .before .before .before .before .pre) (c .before .before .before .before .before .before .before .before .before .before .before .before .before .before .before .before .before .before .wide .ensures) (c .before .before .before .before .before .before .before .before .before .before .before .before .before .before .before .before .wide2 .ensures) (c .before .before .before .before .before .before .before .before .before .before .before .before .before .before .wide3 .ensures) (c .before .before .before .before .before .before .before .before .before .before .before .before .wide4 .ensures) (c .before .before .before .before .before .before .before .before .before .before .find-bottom .ensures)) (c .before .before .before .before .before .before .write-steps .ensures) (c .before .before .before .before .before .before .write-steps .kept .1 .1 .1 .1 .0) (c .before .before .step-up .ensures)
 
 pub root-tree-spec : {M : Type 1} → statement M
 root-tree-spec =
@@ -91,8 +91,8 @@ root-tree-spec =
     wide-requires-4
     slice-aggregate-find-bottom
     find-bottom-requires
-    slice-aggregate-plant-steps
-    plant-steps-requires
+    slice-aggregate-write-steps
+    write-steps-requires
     step-up-requires
     same-length
     returns)

@@ -41,11 +41,11 @@ add-root-tree-2 c = omega (arith, show-fits (c .before .before .before .before .
 root-tree-requires : tie.Need-root-tree-requires
 root-tree-requires c κs = show-root (c .before .before .before .before .before .before .before .before .before .before .before .before .before .before .before .pre .0) (c .before .before .before .before .before .before .before .before .before .before .before .before .before .before .before .pre .1) (c .before .before .before .before .before .before .before .before .before .before .before .before .before .before .before .pre .2 .leaf) (c .before .before .before .before .number .ensures ∙ ap (at (now (c .before .before .before .before .before .before .before .before .before .before .before .before .before .before .before .args .starts1))) (c .before .before .before .before .before .before .left-body .ensures)) (c .before .number2 .ensures ∙ ap (at (now (c .before .before .before .before .before .before .before .before .before .before .before .before .before .before .before .args .starts2))) (c .before .before .before .right-body .ensures)) (c .before .before .before .before .before .before .before .before .before .before .before .before .before .before .before .pre .2 .tree-room)
 
-climb-requires : tie.Need-climb-requires
-climb-requires c κs = show-climbable (c .before .before .before .before .before .before .before .before .before .before .before .before .before .before .before .before .before .before .before .pre .0) (c .before .before .before .before .before .before .before .before .before .before .before .before .before .before .before .before .before .before .before .pre .1) (c .before .before .before .before .before .before .before .before .number .ensures ∙ ap (at (now (c .before .before .before .before .before .before .before .before .before .before .before .before .before .before .before .before .before .before .before .args .starts1))) (c .before .before .before .before .before .before .before .before .before .before .left-body .ensures)) (c .before .before .before .before .before .before .before .before .before .before .before .before .before .before .before .before .before .before .before .pre .2 .address-room)
+write-address-requires : tie.Need-write-address-requires
+write-address-requires c κs = show-climbable (c .before .before .before .before .before .before .before .before .before .before .before .before .before .before .before .before .before .before .before .pre .0) (c .before .before .before .before .before .before .before .before .before .before .before .before .before .before .before .before .before .before .before .pre .1) (c .before .before .before .before .before .before .before .before .number .ensures ∙ ap (at (now (c .before .before .before .before .before .before .before .before .before .before .before .before .before .before .before .before .before .before .before .args .starts1))) (c .before .before .before .before .before .before .before .before .before .before .left-body .ensures)) (c .before .before .before .before .before .before .before .before .before .before .before .before .before .before .before .before .before .before .before .pre .2 .address-room)
 
-rise-requires : tie.Need-rise-requires
-rise-requires c κs = (show-leading (c .before .before .before .before .before .before .before .before .before .before .before .before .before .before .before .before .before .before .before .before .before .before .before .before .pre .0) (c .before .before .before .before .before .before .before .before .before .before .before .before .before .before .before .before .before .before .before .before .before .before .before .before .pre .1) (c .before .before .before .before .before .before .before .before .before .before .before .before .before .before .before .before .before .before .before .before .before .before .before .before .pre .2 .leaf), show-roomy (c .before .before .before .before .before .before .before .before .before .before .before .before .before .before .before .before .before .before .before .before .before .before .before .before .pre .0) (c .before .before .before .before .before .before .before .before .before .before .before .before .before .before .before .before .before .before .before .before .before .before .before .before .pre .1) (c .before .before .before .before .before .before .before .before .root-tree .ensures) (c .before .before .before .before .climb .ensures) (c .before .before .before .before .before .before .before .before .root-tree .kept .1 .1 .1 .1 .1 .1 .1 .1 .1 .1 .1 .1 .0 ∙ c .before .before .before .before .before .before .before .before .before .before .before .before .before .before .before .before .before .before .before .before .before .before .before .before .pre .2 .tree-room) (c .before .before .before .before .before .before .before .before .before .before .before .before .before .before .before .before .before .before .before .before .before .before .before .before .pre .2 .address-room) (c .before .before .before .before .climb .kept .1 .1 .1 .1 .0) (c .before .before .before .before .before .before .before .before .before .before .before .before .before .number .ensures ∙ ap (at (now (c .before .before .before .before .before .before .before .before .before .before .before .before .before .before .before .before .before .before .before .before .before .before .before .before .args .starts1))) (c .before .before .before .before .before .before .before .before .before .before .before .before .before .before .before .left-body .ensures)) (c .before .before .before .before .before .before .before .before .before .before .number2 .ensures ∙ ap (at (now (c .before .before .before .before .before .before .before .before .before .before .before .before .before .before .before .before .before .before .before .before .before .before .before .before .args .starts2))) (c .before .before .before .before .before .before .before .before .before .before .before .before .right-body .ensures)))
+trace-back-requires : tie.Need-trace-back-requires
+trace-back-requires c κs = (show-leading (c .before .before .before .before .before .before .before .before .before .before .before .before .before .before .before .before .before .before .before .before .before .before .before .before .pre .0) (c .before .before .before .before .before .before .before .before .before .before .before .before .before .before .before .before .before .before .before .before .before .before .before .before .pre .1) (c .before .before .before .before .before .before .before .before .before .before .before .before .before .before .before .before .before .before .before .before .before .before .before .before .pre .2 .leaf), show-roomy (c .before .before .before .before .before .before .before .before .before .before .before .before .before .before .before .before .before .before .before .before .before .before .before .before .pre .0) (c .before .before .before .before .before .before .before .before .before .before .before .before .before .before .before .before .before .before .before .before .before .before .before .before .pre .1) (c .before .before .before .before .before .before .before .before .root-tree .ensures) (c .before .before .before .before .write-address .ensures) (c .before .before .before .before .before .before .before .before .root-tree .kept .1 .1 .1 .1 .1 .1 .1 .1 .1 .1 .1 .1 .0 ∙ c .before .before .before .before .before .before .before .before .before .before .before .before .before .before .before .before .before .before .before .before .before .before .before .before .pre .2 .tree-room) (c .before .before .before .before .before .before .before .before .before .before .before .before .before .before .before .before .before .before .before .before .before .before .before .before .pre .2 .address-room) (c .before .before .before .before .write-address .kept .1 .1 .1 .1 .0) (c .before .before .before .before .before .before .before .before .before .before .before .before .before .number .ensures ∙ ap (at (now (c .before .before .before .before .before .before .before .before .before .before .before .before .before .before .before .before .before .before .before .before .before .before .before .before .args .starts1))) (c .before .before .before .before .before .before .before .before .before .before .before .before .before .before .before .left-body .ensures)) (c .before .before .before .before .before .before .before .before .before .before .number2 .ensures ∙ ap (at (now (c .before .before .before .before .before .before .before .before .before .before .before .before .before .before .before .before .before .before .before .before .before .before .before .before .args .starts2))) (c .before .before .before .before .before .before .before .before .before .before .before .before .right-body .ensures)))
 
 same-length : tie.Need-same-length
 same-length c = search needs
@@ -54,7 +54,7 @@ same-length-2 : tie.Need-same-length-2
 same-length-2 c = search needs
 
 returns : tie.Need-returns
-returns c = traced (c .before .before .before .before .before .before .before .before .before .before .before .before .before .before .before .before .before .before .before .before .before .before .before .before .before .before .before .before .before .pre .0) (c .before .before .before .before .before .before .before .before .before .before .before .before .before .before .before .before .before .before .before .before .before .before .before .before .before .before .before .before .before .pre .1) (c .before .before .before .before .before .before .before .before .before .before .before .before .before .root-tree .ensures) (c .before .before .before .before .before .before .before .before .before .climb .ensures) (c .before .before .before .before .before .before .before .before .before .before .before .before .before .root-tree .kept .1 .1 .1 .1 .1 .1 .1 .1 .1 .1 .1 .1 .0 ∙ c .before .before .before .before .before .before .before .before .before .before .before .before .before .before .before .before .before .before .before .before .before .before .before .before .before .before .before .before .before .pre .2 .tree-room) (c .before .before .before .before .before .before .before .before .before .before .before .before .before .before .before .before .before .before .before .before .before .before .before .before .before .before .before .before .before .pre .2 .address-room) (c .before .before .before .before .before .before .before .before .before .climb .kept .1 .1 .1 .1 .0) (c .before .before .before .before .before .before .before .before .before .before .before .before .before .before .before .before .before .before .number .ensures ∙ ap (at (now (c .before .before .before .before .before .before .before .before .before .before .before .before .before .before .before .before .before .before .before .before .before .before .before .before .before .before .before .before .before .args .starts1))) (c .before .before .before .before .before .before .before .before .before .before .before .before .before .before .before .before .before .before .before .before .left-body .ensures)) (c .before .before .before .before .before .before .before .before .before .before .before .before .before .before .before .number2 .ensures ∙ ap (at (now (c .before .before .before .before .before .before .before .before .before .before .before .before .before .before .before .before .before .before .before .before .before .before .before .before .before .before .before .before .before .args .starts2))) (c .before .before .before .before .before .before .before .before .before .before .before .before .before .before .before .before .before .right-body .ensures)) (c .before .before .before .before .before .before .before .before .before .before .before .before .before .before .before .before .before .before .before .before .before .before .before .before .before .before .before .before .before .pre .2 .leaf) (c .before .before .before .before .before .before .before .before .before .before .before .before .before .before .before .before .before .before .before .before .before .before .before .before .before .before .before .before .before .pre .2 .rank) (c .before .before .before .before .rise .ensures) (c .before .before .before .before .rise .kept .1 .1 .1 .1 .1 .1 .1 .0) (c .before .before .before .before .rise .kept .1 .1 .1 .1 .1 .1 .1 .1 .1 .1 .0)
+returns c = traced (c .before .before .before .before .before .before .before .before .before .before .before .before .before .before .before .before .before .before .before .before .before .before .before .before .before .before .before .before .before .pre .0) (c .before .before .before .before .before .before .before .before .before .before .before .before .before .before .before .before .before .before .before .before .before .before .before .before .before .before .before .before .before .pre .1) (c .before .before .before .before .before .before .before .before .before .before .before .before .before .root-tree .ensures) (c .before .before .before .before .before .before .before .before .before .write-address .ensures) (c .before .before .before .before .before .before .before .before .before .before .before .before .before .root-tree .kept .1 .1 .1 .1 .1 .1 .1 .1 .1 .1 .1 .1 .0 ∙ c .before .before .before .before .before .before .before .before .before .before .before .before .before .before .before .before .before .before .before .before .before .before .before .before .before .before .before .before .before .pre .2 .tree-room) (c .before .before .before .before .before .before .before .before .before .before .before .before .before .before .before .before .before .before .before .before .before .before .before .before .before .before .before .before .before .pre .2 .address-room) (c .before .before .before .before .before .before .before .before .before .write-address .kept .1 .1 .1 .1 .0) (c .before .before .before .before .before .before .before .before .before .before .before .before .before .before .before .before .before .before .number .ensures ∙ ap (at (now (c .before .before .before .before .before .before .before .before .before .before .before .before .before .before .before .before .before .before .before .before .before .before .before .before .before .before .before .before .before .args .starts1))) (c .before .before .before .before .before .before .before .before .before .before .before .before .before .before .before .before .before .before .before .before .left-body .ensures)) (c .before .before .before .before .before .before .before .before .before .before .before .before .before .before .before .number2 .ensures ∙ ap (at (now (c .before .before .before .before .before .before .before .before .before .before .before .before .before .before .before .before .before .before .before .before .before .before .before .before .before .before .before .before .before .args .starts2))) (c .before .before .before .before .before .before .before .before .before .before .before .before .before .before .before .before .before .right-body .ensures)) (c .before .before .before .before .before .before .before .before .before .before .before .before .before .before .before .before .before .before .before .before .before .before .before .before .before .before .before .before .before .pre .2 .leaf) (c .before .before .before .before .before .before .before .before .before .before .before .before .before .before .before .before .before .before .before .before .before .before .before .before .before .before .before .before .before .pre .2 .rank) (c .before .before .before .before .trace-back .ensures) (c .before .before .before .before .trace-back .kept .1 .1 .1 .1 .1 .1 .1 .0) (c .before .before .before .before .trace-back .kept .1 .1 .1 .1 .1 .1 .1 .1 .1 .1 .0)
 
 pub trace-spec : {M : Type 1} → statement M
 trace-spec =
@@ -71,8 +71,8 @@ trace-spec =
     add-root-tree
     add-root-tree-2
     root-tree-requires
-    climb-requires
-    rise-requires
+    write-address-requires
+    trace-back-requires
     same-length
     same-length-2
     returns)

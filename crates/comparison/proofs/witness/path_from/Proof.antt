@@ -1,11 +1,11 @@
--- `fall_from` meets its contract. Assumes nothing.
+-- `path_from` meets its contract. Assumes nothing.
 use Prim.Native.Nat.{ℕ}
 use native.Mathlib.Omega.{arith}
 use lib.ListN.{length-replicate, getD-replicate}
 use Rattle.comparison.proofs.Falling.{filled-falls}
 use borrow.Author.Needs.{needs}
-use Rattle.comparison.proofs.witness.fall_from.Statement.{statement}
-use Rattle.comparison.proofs.witness.fall_from.Tie as tie
+use Rattle.comparison.proofs.witness.path_from.Statement.{statement}
+use Rattle.comparison.proofs.witness.path_from.Tie as tie
 
 slice-aggregate-fill-distances : tie.Need-slice-aggregate-fill-distances
 slice-aggregate-fill-distances c = search needs
@@ -18,11 +18,11 @@ fill-distances-requires c κs =
       zeros = λ q h. getD-replicate 128 q 0 0 (omega (arith, P .layout .few-states));
     }
 
-slice-aggregate-fall : tie.Need-slice-aggregate-fall
-slice-aggregate-fall c = search needs
+slice-aggregate-write-path : tie.Need-slice-aggregate-write-path
+slice-aggregate-write-path c = search needs
 
-fall-requires : tie.Need-fall-requires
-fall-requires c κs =
+write-path-requires : tie.Need-write-path-requires
+write-path-requires c κs =
     let P = c .before .before .before .before .before .before .before .before .before .pre in
     filled-falls (record { outs = P .outs; layout = P .layout; leaf = P .leaf; long = omega (arith, P .layout .few-states, c .before .before .before .fill-distances .kept .1 .1 .1 .1 .1 .0, length-replicate {A = ℕ} 128 0) }) (c .before .before .before .fill-distances .ensures) (P .earliest) (P .state) (P .room)
 
@@ -32,13 +32,13 @@ same-length c = search needs
 returns : tie.Need-returns
 returns c = search needs
 
-pub fall-from-spec : {M : Type 1} → statement M
-fall-from-spec =
+pub path-from-spec : {M : Type 1} → statement M
+path-from-spec =
     tie.close
     (tie.spec
     slice-aggregate-fill-distances
     fill-distances-requires
-    slice-aggregate-fall
-    fall-requires
+    slice-aggregate-write-path
+    write-path-requires
     same-length
     returns)

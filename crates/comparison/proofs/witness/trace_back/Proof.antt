@@ -1,10 +1,10 @@
--- `rise` meets its contract. The invariant is `RiseLoop`. Assumes nothing.
+-- `trace_back` meets its contract. The invariant is `RiseLoop`. Assumes nothing.
 use Prim.Native.Nat.{_-_}
 use native.Mathlib.Omega.{arith}
 use borrow.Author.Needs.{needs}
 use Rattle.comparison.proofs.Rising.{RiseLoop, rise-start, rise-asks, rise-less, rise-next, rise-end}
-use Rattle.comparison.proofs.witness.rise.Statement.{statement}
-use Rattle.comparison.proofs.witness.rise.Tie as tie
+use Rattle.comparison.proofs.witness.trace_back.Statement.{statement}
+use Rattle.comparison.proofs.witness.trace_back.Tie as tie
 
 abbrev Inv-loop : tie.InvT-loop
 Inv-loop ins outs starts1 marks1 pairs e q buffer₀ lo hi place₀ at from₀ to₀ w₀ r₀ buffer place from to w r = RiseLoop ins outs starts1 marks1 pairs e q buffer₀ lo hi place₀ at buffer from to place w r
@@ -51,8 +51,8 @@ same-length-2 c = c .before .loop .inv .same-area
 returns : tie.Need-returns Inv-loop μ-loop
 returns c = rise-end (c .before .before .before .before .before .before .before .before .pre .0) (c .before .before .before .before .before .before .before .before .pre .1) (c .before .loop .inv) (omega (arith, c .loop-test .left))
 
-pub rise-spec : {M : Type 1} → statement M
-rise-spec =
+pub trace-back-spec : {M : Type 1} → statement M
+trace-back-spec =
     tie.close
     (tie.spec
     Inv-loop

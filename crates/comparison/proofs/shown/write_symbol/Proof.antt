@@ -1,12 +1,12 @@
--- `plant` meets its contract. Assumes nothing.
+-- `write_symbol` meets its contract. Assumes nothing.
 use native.Mathlib.Omega.{arith}
 use mathlib.Core.Path.{refl, _∙_}
 use lib.ListN.{length-set}
 use denote.Ref.{now}
 use borrow.Author.Needs.{needs}
 use Rattle.comparison.proofs.Planting.{planted}
-use Rattle.comparison.proofs.shown.plant.Statement.{statement}
-use Rattle.comparison.proofs.shown.plant.Tie as tie
+use Rattle.comparison.proofs.shown.write_symbol.Statement.{statement}
+use Rattle.comparison.proofs.shown.write_symbol.Tie as tie
 
 shared-slice-read-wide : tie.Need-shared-slice-read-wide
 shared-slice-read-wide c = search needs
@@ -49,8 +49,8 @@ same-length c =
 returns : tie.Need-returns
 returns c = planted (c .before .before .before .before .before .before .before .before .pre) (c .before .before .before .before .wide .ensures) (c .before .before .fill .ensures) refl
 
-pub plant-spec : {M : Type 1} → statement M
-plant-spec =
+pub write-symbol-spec : {M : Type 1} → statement M
+write-symbol-spec =
     tie.close
     (tie.spec
     shared-slice-read-wide

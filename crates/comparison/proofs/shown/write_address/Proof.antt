@@ -1,4 +1,4 @@
--- `climb` meets its contract. The invariant: of the trees that begin at letter j, letter m stands in the one number `between`, and its address there is written. Assumes nothing.
+-- `write_address` meets its contract. The invariant: of the trees that begin at letter j, letter m stands in the one number `between`, and its address there is written. Assumes nothing.
 use Prim.Native.Nat.{ℕ, _+_, _-_}
 use native.Mathlib.Omega.{arith}
 use mathlib.Core.Path.{_≡_, refl, _∙_}
@@ -8,8 +8,8 @@ use denote.Ref.{now}
 use Rattle.formats.specs.Inner.Layout.{markAt}
 use Rattle.comparison.specs.Inner.Shown.{InBody}
 use Rattle.comparison.proofs.Climbing.{rank-low, Climbing, climbing-start, climbing-room, climbing-few, climbing-up, climbing-past, climbing-done}
-use Rattle.comparison.proofs.shown.climb.Statement.{statement}
-use Rattle.comparison.proofs.shown.climb.Tie as tie
+use Rattle.comparison.proofs.shown.write_address.Statement.{statement}
+use Rattle.comparison.proofs.shown.write_address.Tie as tie
 
 abbrev Inv-loop : tie.InvT-loop
 Inv-loop outs marks from m place₀ at w₀ between₀ j₀ place w between j = (length place ≡ length place₀) × ((n r to : ℕ) → InBody outs marks n r from to m → Climbing outs marks n r from to m place₀ at place w between j)
@@ -101,8 +101,8 @@ returns c =
     let C = l .inv .1 (P .states) (P .children) (P .to) (P .body) in
     record { near = omega (arith, climbing-room (P .body) C); address = λ n r to B. climbing-done B (l .inv .1 n r to B) (omega (arith, c .loop-test .left)) }
 
-pub climb-spec : {M : Type 1} → statement M
-climb-spec =
+pub write-address-spec : {M : Type 1} → statement M
+write-address-spec =
     tie.close
     (tie.spec
     Inv-loop

@@ -1,11 +1,11 @@
--- `fall` meets its contract. The invariant is `FallLoop`. Assumes nothing.
+-- `write_path` meets its contract. The invariant is `FallLoop`. Assumes nothing.
 use Prim.Native.Nat.{_-_}
 use native.Mathlib.Omega.{arith}
 use mathlib.Core.Path.{_∙_}
 use borrow.Author.Needs.{needs}
 use Rattle.comparison.proofs.Falling.{FallLoop, fall-start, fall-steppable, fall-next, fall-end}
-use Rattle.comparison.proofs.other.fall.Statement.{statement}
-use Rattle.comparison.proofs.other.fall.Tie as tie
+use Rattle.comparison.proofs.other.write_path.Statement.{statement}
+use Rattle.comparison.proofs.other.write_path.Tie as tie
 
 abbrev Inv-loop : tie.InvT-loop
 Inv-loop ins starts marks dist q b steps₀ count p₀ k₀ steps p k = FallLoop ins starts marks dist q b steps₀ steps count p k
@@ -46,8 +46,8 @@ same-length c = c .before .before .put-step2 .kept .1 .1 .1 .1 .1 .1 .0 ∙ c .b
 returns : tie.Need-returns Inv-loop μ-loop
 returns c = fall-end (c .before .before .before .before .before .before .before .before .before .before .before .before .before .pre) (c .before .before .before .before .before .loop .inv) (c .before .before .put-step2 .ensures) (c .before .before .before .before .before .before .wide .ensures) (c .before .before .before .before .loop-test .left)
 
-pub fall-spec : {M : Type 1} → statement M
-fall-spec =
+pub write-path-spec : {M : Type 1} → statement M
+write-path-spec =
     tie.close
     (tie.spec
     Inv-loop

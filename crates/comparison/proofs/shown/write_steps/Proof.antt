@@ -1,10 +1,10 @@
--- `plant_steps` meets its contract. The invariant: the steps from number k on stand in the buffer. Assumes nothing.
+-- `write_steps` meets its contract. The invariant: the steps from number k on stand in the buffer. Assumes nothing.
 use native.Mathlib.Omega.{arith}
 use mathlib.Core.Path.{refl, sym, _∙_}
 use borrow.Author.Needs.{needs}
 use Rattle.comparison.proofs.Planting.{Planting, planting-start, planting-asks, planting-next, planting-done}
-use Rattle.comparison.proofs.shown.plant_steps.Statement.{statement}
-use Rattle.comparison.proofs.shown.plant_steps.Tie as tie
+use Rattle.comparison.proofs.shown.write_steps.Statement.{statement}
+use Rattle.comparison.proofs.shown.write_steps.Tie as tie
 
 abbrev Inv-loop : tie.InvT-loop
 Inv-loop ins e steps count buffer₀ from₀ to₀ k₀ buffer from to k = Planting ins e steps count buffer from to k
@@ -60,8 +60,8 @@ same-length c = c .before .loop .inv .room ∙ sym (c .before .before .before .b
 returns : tie.Need-returns Inv-loop μ-loop
 returns c = planting-done (c .before .before .before .before .before .pre) (c .before .loop .inv) (omega (arith, c .loop-test .left))
 
-pub plant-steps-spec : {M : Type 1} → statement M
-plant-steps-spec =
+pub write-steps-spec : {M : Type 1} → statement M
+write-steps-spec =
     tie.close
     (tie.spec
     Inv-loop
