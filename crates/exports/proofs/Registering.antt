@@ -21,9 +21,6 @@ front-of {p} k l e =
     let h : length p ≤ k = omega (arith, ap length e, length-take k l, min-le-left k (length l)) in
     sym (take-length p) ∙ ap (take (length p)) e ∙ take-take (length p) k l h
 
-pub start-none : (r : Record) {n : ℕ} → n ≡ 0 → 0 ≡ startOf r n
-start-none r e = rw e refl
-
 pub start-some : (r : Record) (n : ℕ) → 0 < n → r .start ≡ startOf r n
 start-some r zero h = absurd (omega arith)
 start-some r (suc n) h = refl
