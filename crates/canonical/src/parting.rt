@@ -126,12 +126,12 @@ fn place(
     requires { ⌜ Classed (now ins) (now starts) (now marks) (now old) × Round (now ins) (now starts) (now marks) (now old) (now new) (now dirty) (now reps) base count × (p < length (now old)) × (Clean (now dirty) p → ⊥) ⌝ }
     ensures { λ r. ⌜ Places (now (ins .entry)) (now (starts .entry)) (now (marks .entry)) (now (old .entry)) (now (new .entry)) (now (dirty .entry)) base count p (now (new .exit)) (now (dirty .exit)) (now (reps .exit)) r ⌝ }
 {
-    let q = represent(new, dirty, reps, old[p], p);
+    let rep = represent(new, dirty, reps, old[p], p);
     if dirty[p] == 0 {
         return count;
     }
     dirty[p] = 0;
-    if same_states(ins, starts, marks, old, q, p) {
+    if same_states(ins, starts, marks, old, rep, p) {
         return count;
     }
     let k = find_class(ins, starts, marks, old, reps, base, count, p);

@@ -1,6 +1,5 @@
 -- `all_dirty` meets its contract. The invariant is `AllLoop`. Assumes nothing.
 use Rattle.canonical.proofs.Worklist.{AllLoop, all-next, all-end}
-use mathlib.Core.Path.{sym, _∙_}
 use native.Mathlib.Omega.{arith}
 use Prim.Native.Nat.{_-_}
 use Rattle.canonical.proofs.parting.all_dirty.Statement.{statement}

@@ -1,7 +1,6 @@
 -- `find_callers` meets its contract. The invariant: the calls of the states passed are flagged. Assumes nothing.
 use Rattle.canonical.proofs.Calling.{StatesLoop, no-states, next-state, all-states}
 use Rattle.canonical.proofs.Patterns.{row-fits}
-use mathlib.Core.Path.{sym, _∙_}
 use native.Mathlib.Omega.{arith}
 use Prim.Native.Nat.{_-_}
 use borrow.Author.Needs.{needs}

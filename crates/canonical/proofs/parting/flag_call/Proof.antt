@@ -1,8 +1,8 @@
 -- `flag_call` meets its contract. Assumes nothing.
 use Rattle.canonical.proofs.Calling.{Reached, reach-put, reach-kept, flags-call}
 use denote.Ref.{now}
-use lib.ListN.{length, length-set, set}
-use mathlib.Core.Path.{refl, ap, _∙_, _≡_, sym}
+use lib.ListN.{length-set, set}
+use mathlib.Core.Path.{refl}
 use mathlib.Core.Logic.{⊎-elim}
 use native.Mathlib.Omega.{arith}
 use Prim.Native.Nat.{_+_, _-_, _*_}

@@ -1,12 +1,8 @@
 -- `flag_callers` meets its contract. The invariant: the callers passed are dirty. Assumes nothing.
 use Rattle.canonical.proofs.Worklist.{FlagLoop, flag-start, flag-same, flag-room, flag-new, flag-end}
-use Rattle.canonical.specs.Inner.Classes.{at}
-use denote.Ref.{now}
-use mathlib.Core.Path.{_≡_, sym, ap, _∙_}
 use mathlib.Core.Logic.{⊎-elim}
 use native.Mathlib.Omega.{arith}
-use Prim.Native.Nat.{ℕ, _+_, _-_, _*_, _≤_}
-use borrow.Author.Needs.{needs}
+use Prim.Native.Nat.{_-_}
 use Rattle.canonical.proofs.parting.flag_callers.Statement.{statement}
 use Rattle.canonical.proofs.parting.flag_callers.Tie as tie
 

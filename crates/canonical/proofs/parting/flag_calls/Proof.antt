@@ -1,6 +1,5 @@
 -- `flag_calls` meets its contract. The invariant: the calls passed are flagged. Assumes nothing.
 use Rattle.canonical.proofs.Calling.{CallsLoop, no-calls, next-flagged, next-other, all-calls}
-use mathlib.Core.Path.{sym, _∙_}
 use mathlib.Core.Logic.{⊎-elim}
 use native.Mathlib.Omega.{arith}
 use Prim.Native.Nat.{_-_}

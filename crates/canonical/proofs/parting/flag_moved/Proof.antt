@@ -3,7 +3,7 @@ use Rattle.canonical.proofs.Worklist.{MovedLoop, moved-start, moved-sta
 use Rattle.canonical.specs.Inner.Classes.{at}
 use denote.Ref.{now}
 use lib.ListN.{length, set, length-set}
-use mathlib.Core.Path.{_≡_, sym, _∙_}
+use mathlib.Core.Path.{_≡_}
 use native.Mathlib.Omega.{arith}
 use Prim.Native.Nat.{_-_}
 use borrow.Author.Needs.{needs}

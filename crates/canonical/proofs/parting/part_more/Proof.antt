@@ -6,7 +6,6 @@ use lib.ListN.{length, length-replicate}
 use mathlib.Core.Path.{refl, sym, _∙_}
 use native.Mathlib.Omega.{arith}
 use Prim.Native.Nat.{ℕ}
-use borrow.Author.Needs.{needs}
 use Rattle.canonical.proofs.parting.part_more.Statement.{statement}
 use Rattle.canonical.proofs.parting.part_more.Tie as tie
 

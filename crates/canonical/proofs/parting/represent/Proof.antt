@@ -2,7 +2,7 @@
 use Rattle.canonical.proofs.Rounds.{cleaned-represents, clean-represents}
 use Rattle.canonical.specs.Inner.Classes.{at}
 use denote.Ref.{now}
-use lib.ListN.{length, length-set, set}
+use lib.ListN.{set}
 use mathlib.Core.Path.{_≡_, sym, ap, _∙_}
 use mathlib.Core.Logic.{⊎-elim}
 use native.Mathlib.Omega.{arith}
