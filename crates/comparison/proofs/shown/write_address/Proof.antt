@@ -71,7 +71,7 @@ loop-again c =
     let P = c .before .before .before .before .before .before .before .pre in
     let l = c .before .before .before .loop in
     let C = l .inv .1 (P .states) (P .children) (P .to) (P .body) in
-    (length-set (l .place) (l .w - 1) (l .between + 1) ∙ l .inv .0, λ n r to B. climbing-up B (l .inv .1 n r to B) (c .before .before .loop-test .taken) (c .before .mark-rank .ensures) (c .if1 .taken) refl (omega (arith, climbing-room (P .body) C, P .room)))
+    (length-set (l .place) (l .w - 1) (l .between + 1) ∙ l .inv .0, λ n r to B. climbing-up B (l .inv .1 n r to B) (omega (arith, c .before .before .loop-test .taken)) (c .before .mark-rank .ensures) (c .if1 .taken) refl (omega (arith, climbing-room (P .body) C, P .room)))
 
 add-between : tie.Need-add-between Inv-loop μ-loop
 add-between c =
@@ -89,7 +89,7 @@ loop-less-2 c = search needs
 loop-again-2 : tie.Need-loop-again-2 Inv-loop μ-loop
 loop-again-2 c =
     let l = c .before .before .before .loop in
-    (l .inv .0, λ n r to B. climbing-past B (l .inv .1 n r to B) (c .before .before .loop-test .taken) (c .before .mark-rank .ensures) (c .if1 .left))
+    (l .inv .0, λ n r to B. climbing-past B (l .inv .1 n r to B) (omega (arith, c .before .before .loop-test .taken)) (c .before .mark-rank .ensures) (c .if1 .left))
 
 same-length : tie.Need-same-length Inv-loop μ-loop
 same-length c = c .before .loop .inv .0
