@@ -217,6 +217,78 @@ fn samples() {
     assert_eq!(memory, before);
 }
 
+/// The samples once more, number by number: the head, every record, where each body stands. The 34th record
+/// stays as it was.
+#[test]
+fn records_of_samples() {
+    let mut tally = Tally::default();
+    for (size, head, held) in [
+        (60, Head { held: 2, used: 56, answered: 3 }, &[(0, 6), (6, 21), (27, 29)][..]),
+        (55, Head { held: 1, used: 27, answered: 2 }, &[(0, 6), (6, 21)]),
+        (26, Head { held: 0, used: 6, answered: 0 }, &[(0, 6)]),
+    ] {
+        let mut memory = Memory::new(RECORDS + 1, size);
+        let mut records = vec![Record::default(); RECORDS];
+        records.push(memory.records()[RECORDS]);
+        for (record, &(start, size)) in records.iter_mut().zip(held) {
+            *record = Record { start, size };
+        }
+        assert_eq!(make(&mut tally, &mut memory, S), Ok(()));
+        let _ = [T, T_PRIME, U].map(|file| enter(&mut tally, &mut memory, file));
+        assert_eq!((memory.head, memory.records()), (head, &records[..]));
+        for number in 0..RECORDS + 3 {
+            let (start, size) = if number > 0 { *held.get(number).unwrap_or(&(0, 0)) } else { (0, 0) };
+            let from = memory.area().as_ptr() as usize + start;
+            let part = body(&mut tally, &mut memory, number);
+            assert_eq!(part.len(), size);
+            assert!(size == 0 || part.as_ptr() as usize == from);
+        }
+    }
+}
+
+/// Files that are refused leave the registry as it was.
+#[test]
+fn refused_files() {
+    let mut tally = Tally::default();
+    let mut memory = Memory::new(RECORDS + 1, 60);
+    assert_eq!(make(&mut tally, &mut memory, S), Ok(()));
+    for entries in [&[][..], &[T], &[T, U]] {
+        entries.iter().for_each(|file| assert!(enter(&mut tally, &mut memory, file).is_ok()));
+        let before = memory.clone();
+        assert_eq!(enter(&mut tally, &mut memory, &[1, 0, 3]), Err(4));
+        assert_eq!(enter(&mut tally, &mut memory, &[0, 0, 1, 1, 0]), Err(5));
+        assert_eq!(make(&mut tally, &mut memory, &[1, 1, 1, 0]), Err(2));
+        assert_eq!(memory, before);
+    }
+}
+
+/// Heads that do not fit the records, and the last answer that can be counted.
+#[test]
+fn heads_of_samples() {
+    let mut tally = Tally::default();
+    let mut whole = Memory::new(RECORDS + 1, 60);
+    assert_eq!(make(&mut tally, &mut whole, S), Ok(()));
+    assert_eq!([T, T_PRIME, U].map(|file| enter(&mut tally, &mut whole, file)), [Ok(1), Ok(1), Ok(2)]);
+    let as_made = whole.head;
+    assert_eq!(as_made, Head { held: 2, used: 56, answered: 3 });
+    for head in [Head { held: 33, ..as_made }, Head { used: 55, ..as_made }, Head { answered: u64::MAX, ..as_made }] {
+        let mut memory = whole.clone();
+        memory.head = head;
+        let before = memory.clone();
+        assert_eq!(enter(&mut tally, &mut memory, T), Err(9), "{head:?}");
+        assert_eq!(memory, before);
+        bodies(&mut tally, &mut memory);
+    }
+    let mut memory = whole.clone();
+    memory.head.held = 33;
+    assert!(body(&mut tally, &mut memory, 1).is_empty());
+    let mut memory = whole.clone();
+    memory.head.answered = u64::MAX - 1;
+    assert_eq!(enter(&mut tally, &mut memory, T), Ok(1));
+    whole.head.answered = u64::MAX;
+    assert_eq!(memory, whole);
+}
+
 /// Records past the 33rd are neither read nor altered, and fewer are no registry.
 #[test]
 fn numbers_of_records() {
