@@ -1,179 +1,247 @@
-//! The program `sheets` end to end: run in folders of its own, and what it prints compared to the byte.
-//!
-//! The text is proved of the function that makes it. That the program reads the three files, each whole and
-//! each in its place, and writes that text and no other, no contract can say: this says it. The text that is
-//! expected is made here from the answers of the wrapper.
+//! Runs the program `sheets` in folders of its own, and compares what it prints with document 01's text, made here from
+//! what the library answers. It covers what no contract says: which file is read into which place, and how far.
 mod generate;
 
-use caplune::{clean, compare, Comparison, ADDRESS_AREA, TREE_AREA};
-use generate::alike::{any, small_alphabets, small_transducer};
-use generate::samples::{CONSTANT, S, T, T_PRIME, U};
+use caplune::{Comparison, Difference, ADDRESS_AREA, TREE_AREA};
+use generate::alike::{any, chain, chain_alphabets, small_alphabets, small_transducer};
+use generate::rows::{row_alphabets, Row};
+use generate::samples::*;
 use generate::Random;
 use std::fs;
-use std::os::unix::fs::PermissionsExt;
 use std::path::{Path, PathBuf};
-use std::process::{Command, Stdio};
+use std::process::Command;
+use std::sync::atomic::{AtomicUsize, Ordering};
 
-/// The longest stock, and the longest sheet.
-const STOCK: usize = 1 + 16 + 1 + 64;
-const SHEET: usize = 20_483;
-
-/// A folder that is removed when it is done with.
+/// A folder below the system's temporary ones, removed at the end.
 struct Folder(PathBuf);
 
 impl Folder {
-    fn new(name: &str) -> Self {
-        let path = std::env::temp_dir().join(format!("caplune-sheets-{}-{name}", std::process::id()));
-        let _ = fs::remove_dir_all(&path);
-        fs::create_dir(&path).expect("a folder is made");
-        Folder(path)
+    fn new() -> Self {
+        static MADE: AtomicUsize = AtomicUsize::new(0);
+        let name = format!("caplune-sheets-{}-{}", std::process::id(), MADE.fetch_add(1, Ordering::Relaxed));
+        let folder = Folder(std::env::temp_dir().join(name));
+        fs::create_dir(&folder.0).expect("a new folder");
+        folder
     }
 
-    fn with(self, name: &str, bytes: &[u8]) -> Self {
-        fs::write(self.0.join(name), bytes).expect("a file is written");
-        self
+    /// With these three files.
+    fn with(stock: &[u8], first: &[u8], second: &[u8]) -> Self {
+        let folder = Folder::new();
+        for (name, bytes) in [("stock", stock), ("first", first), ("second", second)] {
+            fs::write(folder.file(name), bytes).expect("a new file");
+        }
+        folder
     }
 
-    /// A folder with these three files.
-    fn of(name: &str, stock: &[u8], first: &[u8], second: &[u8]) -> Self {
-        Folder::new(name).with("stock", stock).with("first", first).with("second", second)
+    fn file(&self, name: &str) -> PathBuf {
+        self.0.join(name)
     }
 
-    /// What `sheets` prints here. It ends with status 0 and writes no error.
-    fn prints(&self) -> String {
+    /// What the program prints here. It ends well whatever it finds, and says nothing else.
+    fn run(&self) -> String {
         let program = Path::new(env!("CARGO_MANIFEST_DIR")).join("../target/bin/sheets");
-        assert!(program.exists(), "{} is missing: run `rt check sheets` first", program.display());
-        let ran = Command::new(program).current_dir(&self.0).stdin(Stdio::null()).output().expect("sheets runs");
-        assert!(ran.status.success(), "{:?}", ran.status);
-        assert_eq!(ran.stderr, b"");
-        String::from_utf8(ran.stdout).expect("the text is ASCII")
+        assert!(program.is_file(), "target/bin/sheets is missing: `rt check sheets` proves and builds it");
+        let program = program.canonicalize().expect("a path");
+        let ended = Command::new(program).current_dir(&self.0).output().expect("the program runs");
+        assert_eq!((ended.status.code(), &ended.stderr[..]), (Some(0), &[][..]));
+        String::from_utf8(ended.stdout).expect("the text is ASCII")
     }
 }
 
 impl Drop for Folder {
     fn drop(&mut self) {
+        // a folder that is left behind fails no test
         let _ = fs::remove_dir_all(&self.0);
     }
 }
 
-/// Numbers with something between them.
-fn joined(numbers: &[u8], between: &str) -> String {
-    numbers.iter().map(u8::to_string).collect::<Vec<_>>().join(between)
+fn printed(stock: &[u8], first: &[u8], second: &[u8]) -> String {
+    Folder::with(stock, first, second).run()
 }
 
-/// The code of a block: a letter and a digit.
-fn code(block: u8) -> String {
-    format!("{}{}", char::from(b'A' + block / 8), block % 8 + 1)
+fn numbers(bytes: &[u8], between: &str) -> String {
+    bytes.iter().map(u8::to_string).collect::<Vec<_>>().join(between)
 }
 
-/// The text that 01 asks for.
+/// Eight blocks to a letter.
+fn block(symbol: u8) -> String {
+    format!("{}{}", char::from(b'A' + symbol / 8), 1 + symbol % 8)
+}
+
+/// The text of the paper, from what the library answers.
 fn text(stock: &[u8], first: &[u8], second: &[u8]) -> String {
-    let (mut tree, mut address) = (vec![0; TREE_AREA], vec![0; ADDRESS_AREA]);
-    let verdict = match compare(stock, first, second, &mut tree, &mut address) {
+    let (mut tree, mut address) = ([0; TREE_AREA], [0; ADDRESS_AREA]);
+    let verdict = match caplune::compare(stock, first, second, &mut tree, &mut address) {
         Err(refusal) => return format!("refused {}\n", refusal.number()),
         Ok(Comparison::Alike) => "alike".to_string(),
-        Ok(Comparison::Differ(shown)) => {
-            let place = if shown.address.is_empty() { "-".to_string() } else { joined(shown.address, ".") };
-            format!("differ {} at {place} {} {}", joined(shown.tree, ","), code(shown.first), code(shown.second))
+        Ok(Comparison::Differ(Difference { tree, address, first, second })) => {
+            let place = if address.is_empty() { "-".to_string() } else { numbers(address, ".") };
+            format!("differ {} at {place} {} {}", numbers(tree, ","), block(first), block(second))
         }
     };
-    let form = |file: &[u8]| {
-        let form = clean(stock, file, &mut vec![0; SHEET]).expect("what is compared can be cleaned");
+    let [one, two] = [first, second].map(|file| {
+        let form = caplune::clean(stock, file, &mut [0; 20_483]).expect("the comparison took it");
         format!("{} {}", form.states, form.marks)
-    };
-    format!("first {}\nsecond {}\n{verdict}\n", form(first), form(second))
+    });
+    format!("first {one}\nsecond {two}\n{verdict}\n")
 }
 
-/// Runs `sheets` on the three files and compares what it prints.
-fn run(name: &str, stock: &[u8], first: &[u8], second: &[u8]) -> String {
-    let printed = Folder::of(name, stock, first, second).prints();
-    assert_eq!(printed, text(stock, first, second), "{name}");
-    printed
-}
+const ALIKE: &str = "first 1 7\nsecond 1 7\nalike\n";
 
 #[test]
 fn samples() {
-    assert_eq!(run("alike", S, T, T_PRIME), "first 1 7\nsecond 1 7\nalike\n");
-    assert_eq!(run("differ", S, T, U), "first 1 7\nsecond 1 11\ndiffer 1 at 1 A2 A1\n");
-    assert_eq!(run("swapped", S, U, T), "first 1 11\nsecond 1 7\ndiffer 1 at 1 A1 A2\n");
-    assert_eq!(run("top", S, CONSTANT, T), "first 0 1\nsecond 1 7\ndiffer 1 at - A2 A1\n");
+    assert_eq!(printed(S, T, T_PRIME), ALIKE);
+    assert_eq!(printed(S, T_PRIME, T), ALIKE);
+    assert_eq!(printed(S, T, U), "first 1 7\nsecond 1 11\ndiffer 1 at 1 A2 A1\n");
+    assert_eq!(printed(S, U, T), "first 1 11\nsecond 1 7\ndiffer 1 at 1 A1 A2\n");
+    assert_eq!(printed(S, CONSTANT, T), "first 0 1\nsecond 1 7\ndiffer 1 at - A2 A1\n");
+    assert_eq!(printed(&[1, 1, 1, 0], T, T), "refused 2\n");
+    assert_eq!(printed(S, &[1, 0, 3], &[0, 0, 1, 1, 0]), "refused 4\n");
+    assert_eq!(printed(S, &[0, 0, 1, 1, 0], &[1, 0, 3]), "refused 5\n");
+    assert_eq!(printed(S, &ring(65), T), "refused 7\n");
 }
 
+/// A file that is missing counts as empty.
 #[test]
 fn missing_files() {
-    assert_eq!(Folder::new("none").prints(), "refused 2\n");
-    assert_eq!(Folder::new("no-stock").with("first", T).with("second", T).prints(), "refused 2\n");
-    assert_eq!(Folder::new("no-first").with("stock", S).with("second", T).prints(), "refused 4\n");
-    assert_eq!(Folder::new("no-second").with("stock", S).with("first", T).prints(), "refused 4\n");
-    assert_eq!(run("empty", S, T, &[]), "refused 4\n");
-}
-
-#[test]
-fn longest_files() {
-    let stock: Vec<u8> = [vec![16], vec![4; 15], vec![0, 64], vec![4; 62], vec![1, 0]].concat();
-    assert_eq!(stock.len(), STOCK);
-    // no pass, and the opening the last block, which has no places
-    let leaf = [0, 0, 1, 0, 63];
-    assert_eq!(run("stock-82", &stock, &leaf, &leaf), "first 0 1\nsecond 0 1\nalike\n");
-    assert_eq!(run("stock-83", &[&stock[..], &[0]].concat(), &leaf, &leaf), "refused 2\n");
-    // 128 passes over 16 part kinds, 2,049 bodies of 4 or 3 marks, 8,192 in all: one block with one place over others
-    let marks = |count: usize| [[0, 62].repeat(count - 1), vec![0, 63]].concat();
-    let counts: Vec<usize> = (0..2049).map(|body| if body < 2045 { 4 } else { 3 }).collect();
-    assert_eq!(counts.iter().sum::<usize>(), 8192);
-    let longest: Vec<u8> = std::iter::once(128)
-        .chain(counts.iter().flat_map(|&count| [0, count as u8]))
-        .chain(counts.iter().flat_map(|&count| marks(count)))
-        .collect();
-    assert_eq!(longest.len(), SHEET);
-    let more = [&longest[..], &[0]].concat();
-    assert_eq!(run("sheet-20483", &stock, &longest, &longest), "first 0 4\nsecond 0 4\nalike\n");
-    assert_eq!(run("first-20484", &stock, &more, &longest), "refused 4\n");
-    assert_eq!(run("second-20484", &stock, &longest, &more), "refused 4\n");
-}
-
-#[test]
-fn bytes_behind() {
-    for behind in [1, 2, 100_000] {
-        let junk = [T, &vec![7; behind]].concat();
-        assert_eq!(run(&format!("first-{behind}"), S, &junk, T), "refused 4\n");
-        assert_eq!(run(&format!("second-{behind}"), S, T, &junk), "refused 4\n");
-        assert_eq!(run(&format!("stock-{behind}"), &[S, &vec![0; behind]].concat(), T, T), "refused 2\n");
+    for (names, expected) in [
+        (&["stock"][..], "refused 2\n"),
+        (&["first"], "refused 4\n"),
+        (&["second"], "refused 4\n"),
+        (&["first", "second"], "refused 4\n"),
+        (&["stock", "first", "second"], "refused 2\n"),
+    ] {
+        let folder = Folder::with(S, T, T_PRIME);
+        names.iter().for_each(|name| fs::remove_file(folder.file(name)).expect("it was there"));
+        assert_eq!(folder.run(), expected, "{names:?}");
     }
 }
 
+/// So does a folder, which cannot be read.
+#[test]
+fn folders_for_files() {
+    for (name, expected) in [("stock", "refused 2\n"), ("first", "refused 4\n"), ("second", "refused 4\n")] {
+        let folder = Folder::with(S, T, T_PRIME);
+        fs::remove_file(folder.file(name)).expect("it was there");
+        fs::create_dir(folder.file(name)).expect("a new folder");
+        assert_eq!(folder.run(), expected, "{name}");
+    }
+}
+
+/// So does a file that this user may not read; root may.
+#[cfg(unix)]
 #[test]
 fn unreadable_files() {
-    let folder = Folder::new("folder").with("first", T).with("second", T);
-    fs::create_dir(folder.0.join("stock")).expect("a folder is made");
-    assert_eq!(folder.prints(), "refused 2\n");
-    let locked = Folder::of("locked", S, T, T);
-    let first = locked.0.join("first");
-    fs::set_permissions(&first, fs::Permissions::from_mode(0)).expect("the permissions are changed");
-    // root reads it all the same
-    let expected = if fs::read(&first).is_ok() { text(S, T, T) } else { "refused 4\n".to_string() };
-    assert_eq!(locked.prints(), expected);
+    use std::os::unix::fs::PermissionsExt;
+    for (name, refused) in [("stock", "refused 2\n"), ("first", "refused 4\n"), ("second", "refused 4\n")] {
+        let folder = Folder::with(S, T, T_PRIME);
+        fs::set_permissions(folder.file(name), fs::Permissions::from_mode(0)).expect("it is ours");
+        let readable = fs::read(folder.file(name)).is_ok();
+        assert_eq!(folder.run(), if readable { ALIKE } else { refused }, "{name}");
+    }
+}
+
+/// 16 part kinds and 64 block kinds, the most there are: 82 bytes. All part kinds and the last two block
+/// kinds have no places.
+fn longest_stock() -> Vec<u8> {
+    [vec![16], vec![0; 16], vec![64], vec![1; 62], vec![0, 0]].concat()
+}
+
+#[test]
+fn lengths_of_stocks() {
+    let (stock, one, two) = (longest_stock(), [0, 0, 1, 0, 62], [0, 0, 1, 0, 63]);
+    assert_eq!(stock.len(), 82);
+    assert_eq!(printed(&stock, &one, &one), "first 0 1\nsecond 0 1\nalike\n");
+    let differ = printed(&stock, &one, &two);
+    assert!(differ.ends_with(" at - H7 H8\n"), "{differ}");
+    assert_eq!(differ, text(&stock, &one, &two));
+    for more in [1, 2, 100_000] {
+        assert_eq!(printed(&[&stock[..], &vec![0; more]].concat(), &one, &one), "refused 2\n");
+        assert_eq!(printed(&[S, &vec![0; more]].concat(), T, T), "refused 2\n");
+    }
+}
+
+/// 128 passes, all lines and all marks that there may be: 20,483 bytes.
+#[test]
+fn lengths_of_sheets() {
+    let (stock, line) = (longest_stock(), [[0, 0].repeat(3), vec![0, 63]].concat());
+    let mut terms = vec![&line[..]; 2_047];
+    terms.extend([&line[4..], &line[4..]]);
+    let (longest, short) = (file(128, &terms), [0, 0, 1, 0, 62]);
+    assert_eq!(longest.len(), 20_483);
+    let differ = printed(&stock, &longest, &short);
+    assert!(differ.starts_with("first 0 4\nsecond 0 1\ndiffer "), "{differ}");
+    assert_eq!(differ, text(&stock, &longest, &short));
+    assert_eq!(printed(&stock, &short, &longest), text(&stock, &short, &longest));
+    assert_eq!(printed(&stock, &longest, &longest), "first 0 4\nsecond 0 4\nalike\n");
+    for more in [1, 2, 100_000] {
+        let longer = [&longest[..], &vec![0; more]].concat();
+        assert_eq!(printed(&stock, &longer, &longest), "refused 4\n");
+        assert_eq!(printed(&stock, &longest, &longer), "refused 4\n");
+    }
+}
+
+/// What stands behind a sheet is no part of it, and is not passed over.
+#[test]
+fn bytes_behind() {
+    for more in [1, 2, 100_000] {
+        let longer = [T, &vec![0; more]].concat();
+        assert_eq!(printed(S, &longer, T), "refused 4\n");
+        assert_eq!(printed(S, T, &longer), "refused 4\n");
+        assert_eq!(printed(S, &longer, &[0, 0, 1, 1, 0]), "refused 4\n");
+    }
+}
+
+/// The text is the library's verdict, both ways round.
+fn compared(stock: &[u8], first: &[u8], second: &[u8]) -> String {
+    for (first, second) in [(second, first), (first, second)] {
+        assert_eq!(printed(stock, first, second), text(stock, first, second), "{stock:?} {first:?} {second:?}");
+    }
+    text(stock, first, second)
 }
 
 #[test]
 fn generated_pairs() {
-    let mut random = Random::new(20);
     let (mut alike, mut differ, mut refused) = (0, 0, 0);
-    for round in 0..300 {
-        let (alphabets, first) = any(&mut random);
-        let second = match round % 3 {
-            0 => first.alike(&mut random, &alphabets, 3),
-            1 => first.with_one_mark_changed(&mut random, &alphabets).unwrap_or_else(|| first.clone()),
-            _ => {
-                let alphabets = small_alphabets(&mut random);
-                small_transducer(&mut random, &alphabets, 3, 8)
-            }
+    for seed in 0..160 {
+        let mut random = Random::new(seed + 25_000_000);
+        let (alphabets, one) = if seed % 2 == 0 {
+            any(&mut random)
+        } else {
+            let alphabets = small_alphabets(&mut random);
+            let one = small_transducer(&mut random, &alphabets, 5, 7);
+            (alphabets, one)
         };
-        let printed = run(&format!("pair-{round}"), &alphabets.file(), &first.file(), &second.file());
-        match printed.lines().last().and_then(|line| line.split(' ').next()) {
-            Some("alike") => alike += 1,
-            Some("differ") => differ += 1,
-            _ => refused += 1,
+        let two = match seed % 8 {
+            0 | 1 => one.alike(&mut random, &alphabets, 6),
+            3 => small_transducer(&mut random, &alphabets, 5, 7),
+            _ => one.with_one_mark_changed(&mut random, &alphabets).unwrap_or_else(|| one.clone()),
+        };
+        let mut second = two.file();
+        if seed % 20 == 18 {
+            generate::damage(&mut random, &mut second);
         }
+        let verdict = compared(&alphabets.file(), &one.file(), &second);
+        alike += usize::from(verdict.ends_with("alike\n"));
+        differ += usize::from(verdict.contains("differ "));
+        refused += usize::from(verdict.starts_with("refused "));
     }
-    assert!(alike > 20 && differ > 20 && refused > 5, "{alike} {differ} {refused}");
+    println!("{alike} alike, {differ} differ, {refused} refused");
+    assert_eq!(alike + differ + refused, 160);
+    assert!(alike > 24 && differ > 36 && refused > 5);
+}
+
+/// The largest designs and places that the comparison shows.
+#[test]
+fn late_differences() {
+    for states in [1, 2, 64, 128] {
+        compared(&chain_alphabets().file(), &chain(states, 2, 1).file(), &chain(states, 2, 2).file());
+    }
+    for states in [2, 40, 126] {
+        let rows = [Row::last_marked(states, 1), Row::last_marked(states, 0)];
+        let [one, two] = rows.each_ref().map(|row| row.telling(3, 1).file());
+        compared(&row_alphabets(4).file(), &one, &two);
+        let [one, two] = rows.each_ref().map(|row| row.long().file());
+        compared(&row_alphabets(4).file(), &one, &two);
+    }
 }
