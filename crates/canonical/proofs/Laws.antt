@@ -12,7 +12,7 @@ use Rattle.theory.proofs.Equivalences.{equivalent-trans}
 use Rattle.theory.proofs.Existence.{normal-trimmed}
 use Rattle.theory.proofs.Identity.{identical-equivalent}
 use Rattle.theory.proofs.NormalForms.{normal-unique}
-use Rattle.formats.specs.Alphabets.{Leaf, inputs, outputs, alphabetCheck}
+use Rattle.formats.specs.Alphabets.{Leaf, Alphabets, inputs, outputs, alphabetCheck}
 use Rattle.formats.specs.Code.{marks}
 use Rattle.formats.specs.Refusal.{accepted, done, Holds}
 use Rattle.formats.specs.Sheet.{file, countBytes, bodyBytes, terms, bodiesOf, Encodes, Sheet, sheetCheck}
@@ -112,15 +112,19 @@ cleaned {stock} {s} {before} {after} r {v} J e =
     let long : length (file (v .0) counts bytes) ≤ length before = omega (arith, file-short (inputs stock) (v .0) counts bytes (F .alphabets .ins .few) C, w .0 .0) in
     record { counts = counts; bytes = bytes; normal = F; begins = written-take (file (v .0) counts bytes) before after (v .2) (O .size) long (O .wrote) }
 
-module _ {stock s s′ : List ℕ} {k k′ : ℕ} {counts bytes counts′ bytes′ : List ℕ} (F : NormalFile stock s k counts bytes) (F′ : NormalFile stock s′ k′ counts′ bytes′) where
-  -- the transducers of two files are alike if two of them are
-  pub sheets-alike : Alike (inputs stock) (F .machine) (F′ .machine) ↔ SewAlike stock s s′
-  sheets-alike =
-      let l = F .alphabets .leaf in
-      let few = F .alphabets .ins .few in (
-        λ a. record { alike = λ n n′ M M′ S S′. equivalent-alike l .0 (equivalent-trans (same-equivalent few l S (F .sheet)) (equivalent-trans (equivalent-alike l .1 a) (same-equivalent few l (F′ .sheet) S′))) },
-        λ a. a .alike (F .states) (F′ .states) (F .machine) (F′ .machine) (F .sheet) (F′ .sheet),
-      )
+-- whatever transducers the two files have, they are alike
+pub all-alike : {stock s s′ : List ℕ} {n n′ : ℕ} {M M′ : Transducer ℕ} → Alphabets stock → SewAlike stock s s′ → Sheet (inputs stock) (outputs stock) s n M → Sheet (inputs stock) (outputs stock) s′ n′ M′ → Alike (inputs stock) M M′
+all-alike A a S S′ =
+    let l = A .leaf in
+    let few = A .ins .few in
+    equivalent-alike l .0 (equivalent-trans (same-equivalent few l S (a .sheet)) (equivalent-trans (equivalent-alike l .1 (a .alike)) (same-equivalent few l (a .sheet′) S′)))
+
+-- the transducers of two files are alike if two of them are
+pub sheets-alike : {stock s s′ : List ℕ} {k k′ : ℕ} {counts bytes counts′ bytes′ : List ℕ} (F : NormalFile stock s k counts bytes) (F′ : NormalFile stock s′ k′ counts′ bytes′) → Alike (inputs stock) (F .machine) (F′ .machine) ↔ SewAlike stock s s′
+sheets-alike F F′ = (
+  λ a. record { states = F .states; machine = F .machine; sheet = F .sheet; states′ = F′ .states; machine′ = F′ .machine; sheet′ = F′ .sheet; alike = a },
+  λ a. all-alike (F .alphabets) a (F .sheet) (F′ .sheet),
+)
 
 -- For two files accepted for cleaning under one stock: the clean files are equal exactly if the two sew alike.
 pub cleaned-exact : {stock s s′ before after before′ after′ : List ℕ} (r r′ : Formed) {v v′ : ℕ × ℕ × ℕ} → Cleans stock s before after r → formOf r ≡ accepted v → Cleans stock s′ before′ after′ r′ → formOf r′ ≡ accepted v′ → (take (v .2) after ≡ take (v′ .2) after′) ↔ SewAlike stock s s′

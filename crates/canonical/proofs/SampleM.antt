@@ -1,28 +1,36 @@
 -- M (document 01, from section 4 of document 002), and its normal form: three states, the ⊤ of pref(q) = d(d(⊤, ⊤), d(⊤, e)).
 -- Assumes nothing.
-use Prim.Native.Nat.{ℕ, suc, _<_, _/_}
+use Prim.Native.Nat.{ℕ, suc, _+_, _-_, _*_, _<_, _/_}
 use native.Mathlib.Decide.{decLt, ℕ-discrete}
 use native.Mathlib.Omega.{arith}
 use mathlib.Core.List.{List, [], _∷_}
-use mathlib.Core.Option.{some, bind as obind}
+use mathlib.Core.Logic.{_≢_}
+use mathlib.Core.Option.{some, bind as obind, Option·elim, Option·some-injective}
 use mathlib.Core.Path.{_≡_, refl, ap, sym, _∙_}
-use lib.ListN.{getD}
+use lib.ListN.{getD, getElem?}
 use Rattle.theory.specs.Canonical.{Reduced}
+use Rattle.theory.specs.Discovered.{Discovered, Read, read-call, read-node, read-none, read-more, no-rhs, read-rhs, read-initial, read-state}
 use Rattle.theory.specs.Earliest.{Earliest, Splits}
+use Rattle.theory.specs.EarliestForm.{earliestForm, expand, opened, label}
 use Rattle.theory.specs.Equivalent.{Equivalent}
 use Rattle.theory.specs.Grammar.{Allowed, AllAllowed, rule, end, next}
-use Rattle.theory.specs.NormalForm.{NormalForm}
+use Rattle.theory.specs.Listing.{Indexes, listed}
+use Rattle.theory.specs.NormalForm.{NormalForm, Identical}
 use Rattle.theory.specs.Numbered.{Numbered, scan, scan-states, scan-rhss, scan-rhs, see, tally, only-if}
+use Rattle.theory.specs.Pref.{Prefs}
+use Rattle.theory.specs.Prefix.{Pattern}
+use Rattle.theory.specs.Registry.{found, added}
 use Rattle.theory.specs.Size.{size}
-use Rattle.theory.specs.Term.{Term, var, node, Terms, none, more, Tree, bind, count, sub, root, symbolAt}
-use Rattle.theory.specs.Transducer.{Transducer, translate, output, closed, run, pick}
+use Rattle.theory.specs.Term.{Term, var, node, Terms, none, more, Tree, bind, mapT, count, sub, root, symbolAt}
+use Rattle.theory.specs.Transducer.{Transducer, translate, output, closed, run, pick, renamed}
 use Rattle.theory.proofs.Terms.{conflict}
 use Rattle.formats.specs.Alphabets.{Alphabets, stock, inputs, outputs, Leaf}
 use Rattle.formats.specs.Code.{Ranked, flat, Call}
 use Rattle.formats.specs.Sheet.{Encodes, countBytes, markBytes, bodyBytes, each, terms}
 use Rattle.transducer.proofs.Samples.{below, leaf}
 use Rattle.prefixes.specs.Alphabet.{alphabet, childrenOf}
-use Rattle.prefixes.proofs.Samples.{pairs, M, M-machine, M-sheet, d, e, line, G}
+use Rattle.prefixes.proofs.Samples.{pairs, M, M-pref, M-machine, M-sheet, M-is-pref, d, e, line, G}
+use Rattle.earliest.specs.Answers.{EarliestFile}
 use Rattle.canonical.specs.Answers.{NormalFile}
 use Rattle.canonical.proofs.Normalizing.{encoded-wf}
 
@@ -146,3 +154,89 @@ module _ (l : Leaf (inputs pairs)) where
 
 pub M-cleans : NormalFile pairs M 3 M-counts M-bytes
 M-cleans = record { alphabets = pairs-alphabets; states = 1; machine = M-machine; sheet = M-sheet; form = M-form; normal = M-normal; encodes = M-encodes }
+
+-- ---- the earliest form: the three ⊤ of pref(q) are states as they are met, and no two of them are equivalent
+abbrev prefix : ℕ → Pattern
+prefix q = M-pref
+
+abbrev tops : List (ℕ × List ℕ)
+tops = (0, 1 ∷ 1 ∷ []) ∷ (0, 1 ∷ 2 ∷ []) ∷ (0, 2 ∷ 1 ∷ []) ∷ []
+
+-- their numbers, by their addresses
+abbrev top-number : ℕ × List ℕ → ℕ
+top-number s = 2 * getD (s .1) 0 0 + getD (s .1) 1 0 - 3
+
+tops-numbered : Indexes tops top-number
+tops-numbered = record { index = index }
+  where
+    index : (n : ℕ) (q : ℕ × List ℕ) → getElem? tops n ≡ some q → top-number q ≡ n
+    index ℕ.zero q e = ap top-number (sym (Option·some-injective _ _ e))
+    index (suc ℕ.zero) q e = ap top-number (sym (Option·some-injective _ _ e))
+    index (suc (suc ℕ.zero)) q e = ap top-number (sym (Option·some-injective _ _ e))
+    index (suc (suc (suc n))) q e = conflict (cc)
+
+-- d(p(x), q(x)), d(r(x), e) and both in d, as the calls with pref(q) put in say them
+abbrev left-half : Term (ℕ × (ℕ × List ℕ))
+left-half = d (var (1, (0, 1 ∷ 1 ∷ []))) (var (1, (0, 1 ∷ 2 ∷ [])))
+
+abbrev right-half : Term (ℕ × (ℕ × List ℕ))
+right-half = d (var (1, (0, 2 ∷ 1 ∷ []))) e
+
+left-read : Read left-half tops tops
+left-read = read-node (read-more (read-call (found {n = 0} refl)) (read-more (read-call (found {n = 1} refl)) read-none))
+
+right-read : Read right-half tops tops
+right-read = read-node (read-more (read-call (found {n = 2} refl)) (read-more (read-node read-none) read-none))
+
+both-read : Read (d left-half right-half) tops tops
+both-read = read-node (read-more left-read (read-more right-read read-none))
+
+-- read first, they are met one after the other
+first-read : Read (d left-half right-half) [] tops
+first-read = read-node (read-more (read-node (read-more (read-call (added none-yet)) (read-more (read-call (added one-yet)) read-none))) (read-more (read-node (read-more (read-call (added two-yet)) (read-more (read-node read-none) read-none))) read-none))
+  where
+    none-yet : (n : ℕ) → getElem? {A = ℕ × List ℕ} [] n ≢ some (0, 1 ∷ 1 ∷ [])
+    none-yet n e = conflict (cc)
+
+    one-yet : (n : ℕ) → getElem? {A = ℕ × List ℕ} ((0, 1 ∷ 1 ∷ []) ∷ []) n ≢ some (0, 1 ∷ 2 ∷ [])
+    one-yet ℕ.zero e = omega (arith, ap top-number (Option·some-injective _ _ e))
+    one-yet (suc n) e = conflict (cc)
+
+    two-yet : (n : ℕ) → getElem? {A = ℕ × List ℕ} ((0, 1 ∷ 1 ∷ []) ∷ (0, 1 ∷ 2 ∷ []) ∷ []) n ≢ some (0, 2 ∷ 1 ∷ [])
+    two-yet ℕ.zero e = omega (arith, ap top-number (Option·some-injective _ _ e))
+    two-yet (suc ℕ.zero) e = omega (arith, ap top-number (Option·some-injective _ _ e))
+    two-yet (suc (suc n)) e = conflict (cc)
+
+rhs-same : (p a : ℕ) → p < 3 → M-form .rhs p a ≡ listed (earliestForm M-machine prefix) tops top-number .rhs p a
+unfolding M-machine line M-form form-rhs on-pair earliestForm expand opened label bind sub Option·elim listed renamed mapT
+rhs-same ℕ.zero ℕ.zero h = refl
+rhs-same ℕ.zero (suc a) h = refl
+rhs-same (suc ℕ.zero) ℕ.zero h = refl
+rhs-same (suc ℕ.zero) (suc a) h = refl
+rhs-same (suc (suc ℕ.zero)) ℕ.zero h = refl
+rhs-same (suc (suc ℕ.zero)) (suc a) h = refl
+rhs-same (suc (suc (suc p))) a h = absurd (omega arith)
+
+module _ (l : Leaf (inputs pairs)) where
+  prefs : Prefs (G l) M-machine (λ q. q < 1) prefix
+  prefs ℕ.zero h = M-is-pref l
+  prefs (suc q) h = absurd (omega arith)
+
+  met : Discovered (G l) (earliestForm M-machine prefix) tops
+  unfolding M-machine line earliestForm expand opened label bind sub alphabet childrenOf inputs
+  met = read-state (read-state (read-state (read-initial first-read) refl (read-rhs (read-rhs no-rhs refl left-read) refl (read-node read-none))) refl (read-rhs (read-rhs no-rhs refl right-read) refl (read-node read-none))) refl (read-rhs (read-rhs no-rhs refl both-read) refl (read-node read-none))
+
+  form-same : Identical (G l) M-form (listed (earliestForm M-machine prefix) tops top-number) 3 3
+  unfolding M-machine line M-form form-rhs on-pair earliestForm expand opened label bind sub Option·elim listed renamed mapT alphabet childrenOf inputs
+  form-same = record { number = refl; initial = refl; sort = below 3 _ (refl, (refl, (refl, tt))); rhs = λ p a sorts h k. rhs-same p a h }
+
+pub M-trims : EarliestFile pairs M 3 M-counts M-bytes
+M-trims = record {
+  alphabets = pairs-alphabets;
+  states = 1;
+  machine = M-machine;
+  sheet = M-sheet;
+  form = M-form;
+  trimmed = let l = pairs-alphabets .leaf in record { prefix = prefix; prefs = prefs l; states = tops; number = top-number; numbers = tops-numbered; met = met l; form = form-same l };
+  encodes = M-encodes;
+}

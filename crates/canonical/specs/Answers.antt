@@ -18,9 +18,15 @@ use Rattle.earliest.specs.declared.earliest.Formed.{Formed}
 pub record Alike (ins : List ℕ) (M M′ : Transducer ℕ) : Type 0 where
   pub plans : (d : Tree) → Ranked (λ x. ⊥) ins d → translate M d ≡ translate M′ d
 
--- the transducers of two files are (01: two sheets sew alike)
+-- the files s and s′ are those of two transducers that are (01: two sheets sew alike)
 pub record SewAlike (stock s s′ : List ℕ) : Type 0 where
-  pub alike : (n n′ : ℕ) (M M′ : Transducer ℕ) → Sheet (inputs stock) (outputs stock) s n M → Sheet (inputs stock) (outputs stock) s′ n′ M′ → Alike (inputs stock) M M′
+  pub states : ℕ
+  pub machine : Transducer ℕ
+  pub sheet : Sheet (inputs stock) (outputs stock) s states machine
+  pub states′ : ℕ
+  pub machine′ : Transducer ℕ
+  pub sheet′ : Sheet (inputs stock) (outputs stock) s′ states′ machine′
+  pub alike : Alike (inputs stock) machine machine′
 
 -- k, the counts and the marks are those of the normal form (01: clean sheet) of the transducer of the file s
 pub record NormalFile (stock s : List ℕ) (k : ℕ) (counts bytes : List ℕ) : Type 0 where

@@ -188,7 +188,10 @@ module _ {stock s s′ ins ins′ counts counts′ bytes bytes′ : List ℕ} {n
       rw (← u .0, ← u .1, ← u .2) (S .encodes)
 
   files-found : (tree tree′ address address′ : List ℕ) (v : Option (ℕ × ℕ × ℕ × ℕ)) → FoundParts stock n counts bytes n′ counts′ bytes′ tree tree′ address address′ v → Found stock s s′ tree tree′ address address′ v
-  files-found tree tree′ address address′ nothing F = (record { alike = λ m m′ M M′ S S′. F .0 M M′ (sheet-parts O S) (sheet-parts O′ S′) }, F .1, F .2)
+  files-found tree tree′ address address′ nothing F =
+      let S = opened-sheet O in
+      let S′ = opened-sheet O′ in
+      (record { states = n; machine = O .machine; sheet = S; states′ = n′; machine′ = O′ .machine; sheet′ = S′; alike = F .0 (O .machine) (O′ .machine) (sheet-parts O S) (sheet-parts O′ S′) }, F .1, F .2)
   files-found tree tree′ address address′ (some v) F = record { shown = F .0; place = F .1 .0; written = F .1 .1 .0; differ = λ m m′ M M′ S S′. F .1 .1 .1 M M′ (sheet-parts O S) (sheet-parts O′ S′) }
 
   pub files-compared : {tree tree′ address address′ : List ℕ} → treeArea ≤ length tree → addressArea ≤ length address → (x : Comparison) → ComparesParts stock n counts bytes n′ counts′ bytes′ tree tree′ address address′ x → Compares stock s s′ tree tree′ address address′ x
@@ -215,14 +218,10 @@ symbols-same : {x y : Option (ℕ × ℕ)} {b b′ r r′ : ℕ} → x ≡ some 
 symbols-same {b = b} {b′} {r} {r′} p q e = let w : _≡_ {A = ℕ × ℕ} (b, r) (b′, r′) = cc in ap (λ (z : ℕ × ℕ). z .0) w
 
 -- files that differ do not sew alike: two output trees have two symbols at one address
-pub differ-unlike : {stock s s′ tree tree′ address address′ : List ℕ} {m n b b′ : ℕ} → Holds (pairCheck stock s s′) → Differ stock s s′ tree tree′ address address′ m n b b′ → SewAlike stock s s′ → ⊥
-unfolding Holds
-differ-unlike h D A =
-    let S = h .1 .1 .0 in
-    let S′ = h .1 .1 .1 .1 .0 in
-    let d = D .differ (S .0) (S′ .0) (S .1 .0) (S′ .1 .0) (S .1 .1) (S′ .1 .1) in
-    let t = A .alike (S .0) (S′ .0) (S .1 .0) (S′ .1 .0) (S .1 .1) (S′ .1 .1) .plans (D .shown) (d .ranked) in
-    d .unlike (symbols-same (d .left) (d .right) (ap (λ x. symbolAt x (D .place)) t))
+pub differ-unlike : {stock s s′ tree tree′ address address′ : List ℕ} {m n b b′ : ℕ} → Differ stock s s′ tree tree′ address address′ m n b b′ → SewAlike stock s s′ → ⊥
+differ-unlike D A =
+    let d = D .differ (A .states) (A .states′) (A .machine) (A .machine′) (A .sheet) (A .sheet′) in
+    d .unlike (symbols-same (d .left) (d .right) (ap (λ x. symbolAt x (D .place)) (A .alike .plans (D .shown) (d .ranked))))
 
 -- ---- the marks of the alike one with fewer
 module _ {stock s s′ tree tree′ address address′ : List ℕ} {r : Comparison} (J : Compares stock s s′ tree tree′ address address′ r) where
@@ -266,7 +265,7 @@ module _ {stock s s′ tree tree′ address address′ : List ℕ} {r : Comparis
   -- they differ
   pub shorter-differ : {m n b b′ : ℕ} → r ≡ compared.Differ m n b b′ → HandsShorter stock s s′ []
   unfolding Holds
-  shorter-differ e = let w = accepted-holds (rw e at J) in inl (w .0 .1, inr (differ-unlike (w .0 .1) (w .1), refl))
+  shorter-differ e = let w = accepted-holds (rw e at J) in inl (w .0 .1, inr (differ-unlike (w .1), refl))
 
   -- or are refused
   pub shorter-refused : treeArea ≤ length tree → addressArea ≤ length address → {x : Refusal} → r ≡ compared.Refused x → HandsShorter stock s s′ []

@@ -20,14 +20,13 @@ use Rattle.comparison.specs.declared.compare.Comparison.{Comparison}
 use Rattle.comparison.proofs.Comparing.{differ-unlike}
 
 -- what is found says which
-found-exact : {stock s s′ : List ℕ} (tree tree′ address address′ : List ℕ) (v : Option (ℕ × ℕ × ℕ × ℕ)) → Holds (pairCheck stock s s′) → Found stock s s′ tree tree′ address address′ v → (v ≡ nothing) ↔ SewAlike stock s s′
-found-exact tree tree′ address address′ nothing h F = (λ e. F .0, λ a. refl)
-found-exact tree tree′ address address′ (some v) h F = (λ e. conflict (cc), λ a. absurd (differ-unlike h F a))
+found-exact : {stock s s′ : List ℕ} (tree tree′ address address′ : List ℕ) (v : Option (ℕ × ℕ × ℕ × ℕ)) → Found stock s s′ tree tree′ address address′ v → (v ≡ nothing) ↔ SewAlike stock s s′
+found-exact tree tree′ address address′ nothing F = (λ e. F .0, λ a. refl)
+found-exact tree tree′ address address′ (some v) F = (λ e. conflict (cc), λ a. absurd (differ-unlike F a))
 
 -- Of two files accepted for comparison under one stock: the answer is alike exactly if the two sew alike.
 pub compare-exact : {stock s s′ tree tree′ address address′ : List ℕ} (r : Comparison) {v : Option (ℕ × ℕ × ℕ × ℕ)} → Compares stock s s′ tree tree′ address address′ r → comparedAs r ≡ accepted v → (v ≡ nothing) ↔ SewAlike stock s s′
-unfolding Holds
-compare-exact {stock} {s} {s′} {tree} {tree′} {address} {address′} r {v} J e = let w = accepted-holds (rw e at J) in found-exact tree tree′ address address′ v (w .0 .1) (w .1)
+compare-exact {stock} {s} {s′} {tree} {tree′} {address} {address′} r {v} J e = found-exact tree tree′ address address′ v (accepted-holds (rw e at J) .1)
 
 -- bodies of which the first has a mark have bytes
 bytes-some : (bs : List (List Mark)) → 1 ≤ length bs → 1 ≤ length (getD bs 0 []) → 1 ≤ length (bodyBytes bs)

@@ -20,7 +20,7 @@ use Rattle.earliest.specs.Answers.{formCheck, formOf, FileOf}
 use Rattle.earliest.specs.declared.earliest.Formed.{Formed}
 use Rattle.earliest.specs.declared.earliest.Formed.the-variants as formed
 use Rattle.canonical.specs.Answers.{NormalFile, Cleans}
-use Rattle.canonical.proofs.Laws.{clean-exact, sheets-alike, cleaned}
+use Rattle.canonical.proofs.Laws.{clean-exact, sheets-alike, cleaned, all-alike}
 use Rattle.registry.specs.Answers.{Kept, CleanFile, NotHeld, Room, HasPlace, Gives, numberOf}
 use Rattle.registry.specs.Book.{recordAt, body, Chained}
 use Rattle.registry.specs.Inner.Steps.{clean, Placed, Finds, Ready, Adds, Counts, refusedBy, refusedAsk, unchanged, Asks, StepsWith, Places}
@@ -109,7 +109,7 @@ clean-unique C C′ =
     let F = C .normal in
     let F′ = C′ .normal in
     let S = sheets-alike F F .0 (record { plans = λ d r. refl }) in
-    C .coded ∙ clean-exact F F′ .1 (S .alike (F .states) (F′ .states) (F .machine) (F′ .machine) (F .sheet) (F′ .sheet)) ∙ sym (C′ .coded)
+    C .coded ∙ clean-exact F F′ .1 (all-alike (F .alphabets) S (F .sheet) (F′ .sheet)) ∙ sym (C′ .coded)
 
 -- ---- a check that holds is passed
 pub passed : {A Kept : Type 0} {Good : A → Type 0} {k : ℕ} {P : Type 0} {rest : Checks} {r : Outcome A} → P → Judged Kept Good (check k P rest) r → Judged Kept Good rest r

@@ -3,21 +3,28 @@
 use Prim.Native.Nat.{ℕ, _*_, _≤_}
 use native.Mathlib.Omega.{arith}
 use mathlib.Core.List.{List, List·Memᴰ, List·Memᴰ·head, List·Memᴰ·tail, [], _∷_}
-use mathlib.Core.Path.{_≡_, refl, sym, subst}
+use mathlib.Core.Path.{_≡_, refl, sym, ap, subst}
 use lib.ListN.{length}
 use Rattle.theory.specs.Size.{size}
 use Rattle.theory.specs.Term.{Tree}
+use Rattle.formats.specs.Alphabets.{Alphabets, alphabetCheck}
 use Rattle.formats.specs.Code.{code}
-use Rattle.formats.specs.Sheet.{file}
+use Rattle.formats.specs.Refusal.{done, Holds}
+use Rattle.formats.specs.Sheet.{file, sheetCheck}
+use Rattle.formats.proofs.Sheets.{sheet-counted}
+use Rattle.formats.specs.Tree.{treeCheck}
+use Rattle.transducer.specs.Answers.{translated, roomCheck}
 use Rattle.transducer.specs.Output.{Output}
+use Rattle.transducer.proofs.Laws.{must-translate}
 use Rattle.transducer.proofs.Samples.{S, T, S-alphabets, T-machine, T-sheet, T-not-linear, leaf-design, chain-design, T-output, on-leaf, on-chain, room-chain}
 use Rattle.prefixes.proofs.Samples.{pairs, M, M-pref, M-machine, M-sheet, M-is-pref}
 use Rattle.earliest.specs.Answers.{EarliestFile}
 use Rattle.canonical.specs.Answers.{NormalFile}
-use Rattle.canonical.proofs.SampleM.{M-cleans}
-use Rattle.canonical.proofs.SampleTrimmed.{T′-trims}
-use Rattle.canonical.proofs.Samples.{leaf-cleans, T-cleans, T-marks, T′, T′-cleans, U, U-cleans}
-use Rattle.table.specs.Table.{Row, translates, fits, not-linear, prefix, cleans, normal, earliest, registers, Says, rows}
+use Rattle.canonical.proofs.Laws.{clean-accepted}
+use Rattle.canonical.proofs.SampleM.{M-cleans, M-trims}
+use Rattle.canonical.proofs.SampleTrimmed.{T′-trims, U-trims}
+use Rattle.canonical.proofs.Samples.{leaf-file, leaf-cleans, T-cleans, T-marks, T′, T′-cleans, U, U-cleans}
+use Rattle.table.specs.Table.{Row, translates, fits, not-linear, prefix, cleans, normal, earliest, registers, Clean, Says, rows}
 use Rattle.table.proofs.Differences.{T-U-differ}
 use Rattle.table.proofs.Registers.{possible, three-registered}
 
@@ -26,17 +33,50 @@ module _ {stock sheet : List ℕ} where
   gives : {design plan : List ℕ} {t : Tree} → Output stock sheet design t → code t ≡ plan → Says (translates stock sheet design plan)
   gives O e = (_, (O, e))
 
-  has-room : {design : List ℕ} {t : Tree} {k : ℕ} → Output stock sheet design t → size t ≤ k → Says (fits stock sheet design k)
-  has-room O h = (_, (O, h))
+  -- where there is an output, every file is right, and an area with room for it is long enough
+  room-holds : {design : List ℕ} {t : Tree} → Alphabets stock → Output stock sheet design t → (area : List ℕ) → size t ≤ length area → Holds (alphabetCheck stock (sheetCheck stock sheet (treeCheck stock design (roomCheck stock sheet design area done))))
+  unfolding Holds
+  room-holds {t = t} A O area h = (A, (sheet-counted (O .is-sheet), ((O .states, (O .machine, O .is-sheet)), ((O .input, O .is-tree), ((t, (O, h)), tt)))))
 
-  form-is : {k : ℕ} {counts bytes clean : List ℕ} → NormalFile stock sheet k counts bytes → file k counts bytes ≡ clean → Says (cleans stock sheet clean)
-  form-is F e = (_, (_, (_, (F, e))))
+  has-room : {design : List ℕ} {t : Tree} {k : ℕ} → Alphabets stock → Output stock sheet design t → size t ≤ k → Says (fits stock sheet design k)
+  has-room {t = t} A O h = record {
+    checks = λ area e. room-holds A O area (omega (arith, e, h));
+    answer = λ before after r e J. (size t, ap translated (must-translate A O before after r (omega (arith, e, h)) J .0));
+  }
 
-  form-has : {k : ℕ} {counts bytes : List ℕ} (marks : ℕ) → NormalFile stock sheet k counts bytes → length bytes ≡ 2 * marks → Says (normal stock sheet k marks)
-  form-has marks F e = (_, (_, (F, e)))
+  -- a transducer whose earliest form is within the limits is accepted for cleaning
+  clean-form : {k n : ℕ} {counts bytes cs bs : List ℕ} → NormalFile stock sheet k counts bytes → EarliestFile stock sheet n cs bs → Clean stock sheet k counts bytes
+  unfolding Holds
+  clean-form F E = record { checks = (E .alphabets, (sheet-counted (E .sheet), ((E .states, (E .machine, E .sheet)), ((_, (_, (_, E))), tt)))); normal = F }
+
+  form-is : {k : ℕ} {counts bytes clean : List ℕ} → Clean stock sheet k counts bytes → file k counts bytes ≡ clean → Says (cleans stock sheet clean)
+  form-is C e = (_, (_, (_, (C, e))))
+
+  form-has : {k : ℕ} {counts bytes : List ℕ} (marks : ℕ) → Clean stock sheet k counts bytes → length bytes ≡ 2 * marks → Says (normal stock sheet k marks)
+  form-has marks C e = (_, (_, (C, e)))
+
+  -- so is one that is its own normal form
+  clean-self : {k : ℕ} {counts bytes : List ℕ} → NormalFile stock sheet k counts bytes → file k counts bytes ≡ sheet → Clean stock sheet k counts bytes
+  clean-self F e = record { checks = rw e at (clean-accepted F); normal = F }
 
   early-has : {k : ℕ} {counts bytes : List ℕ} → EarliestFile stock sheet k counts bytes → Says (earliest stock sheet k)
   early-has F = (_, (_, F))
+
+-- the clean files of the rows
+T-clean : Clean S T _ _ _
+T-clean = clean-self T-cleans (T-sheet .coded)
+
+T′-clean : Clean S T′ _ _ _
+T′-clean = clean-form T′-cleans T′-trims
+
+U-is-clean : Clean S U _ _ _
+U-is-clean = clean-form U-cleans U-trims
+
+M-is-clean : Clean pairs M _ _ _
+M-is-clean = clean-form M-cleans M-trims
+
+leaf-clean : Clean S leaf-file _ _ _
+leaf-clean = clean-self leaf-cleans refl
 
 M-shares : Says (prefix pairs M 0 M-pref)
 M-shares = (1, (M-machine, (M-sheet, omega arith, M-is-pref)))
@@ -58,19 +98,19 @@ all-rows =
     S-alphabets
     also gives (T-output leaf-design) on-leaf
     also gives (T-output chain-design) on-chain
-    also has-room (T-output chain-design) room-chain
-    also form-is T-cleans (T-sheet .coded)
-    also form-is T′-cleans (T-sheet .coded)
+    also has-room S-alphabets (T-output chain-design) room-chain
+    also form-is T-clean (T-sheet .coded)
+    also form-is T′-clean (T-sheet .coded)
     also early-has T′-trims
-    also form-has 7 T′-cleans T-marks
+    also form-has 7 T′-clean T-marks
     also T-U-differ
-    also form-is U-cleans refl
-    also form-has 11 U-cleans refl
+    also form-is U-is-clean refl
+    also form-has 11 U-is-clean refl
     also M-shares
-    also form-is M-cleans refl
-    also form-has 23 M-cleans refl
-    also form-is leaf-cleans refl
-    also form-has 1 leaf-cleans refl
+    also form-is M-is-clean refl
+    also form-has 23 M-is-clean refl
+    also form-is leaf-clean refl
+    also form-has 1 leaf-clean refl
     also T-calls-twice
     also T-T′-U-registered
     also no-more

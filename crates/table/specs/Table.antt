@@ -1,23 +1,26 @@
 -- The starred samples of document 01 as rows of one table: what a row may say, what that comes to by the definitions that the promises are made of, and the rows.
-use Prim.Native.Nat.{ℕ, _*_, _≤_, _<_}
+use Prim.Native.Nat.{ℕ, _*_, _<_}
 use mathlib.Core.List.{List, [], _∷_, map}
 use mathlib.Core.Option.{Option, some}
 use mathlib.Core.Path.{_≡_}
 use lib.ListN.{length}
 use Rattle.theory.specs.Pref.{IsPref}
 use Rattle.theory.specs.Prefix.{Pattern}
-use Rattle.theory.specs.Size.{size}
 use Rattle.theory.specs.Term.{Tree}
 use Rattle.theory.specs.Transducer.{Transducer}
-use Rattle.formats.specs.Alphabets.{Alphabets, Leaf, inputs, outputs}
+use Rattle.formats.specs.Alphabets.{Alphabets, Leaf, inputs, outputs, alphabetCheck}
 use Rattle.formats.specs.Code.{code}
-use Rattle.formats.specs.Sheet.{Sheet, file}
+use Rattle.formats.specs.Refusal.{accepted, done, Holds}
+use Rattle.formats.specs.Sheet.{Sheet, file, sheetCheck}
+use Rattle.formats.specs.Tree.{treeCheck}
+use Rattle.transducer.specs.Answers.{translated, roomCheck, Translates}
+use Rattle.transducer.specs.declared.translate.Translation.{Translation}
 use Rattle.transducer.specs.Linear.{Linear}
 use Rattle.transducer.specs.Output.{Output}
 use Rattle.transducer.proofs.Samples.{S, T}
 use Rattle.prefixes.specs.Alphabet.{alphabet}
 use Rattle.prefixes.proofs.Samples.{pairs, M, M-pref}
-use Rattle.earliest.specs.Answers.{EarliestFile}
+use Rattle.earliest.specs.Answers.{EarliestFile, formCheck}
 use Rattle.canonical.specs.Answers.{NormalFile}
 use Rattle.canonical.proofs.SampleM.{M-clean}
 use Rattle.canonical.proofs.Samples.{leaf-file, T′, U, U-clean}
@@ -30,15 +33,15 @@ pub data Row : Type 0 where
   alphabets : (stock : List ℕ) → Row
   -- the transducer of the sheet gives this plan on the design
   translates : (stock sheet design plan : List ℕ) → Row
-  -- what it gives fits an area of k bytes
+  -- with an area of k bytes the translation (01: sewing) is accepted
   fits : (stock sheet design : List ℕ) (k : ℕ) → Row
   -- the transducer of the sheet is not linear (01: single)
   not-linear : (stock sheet : List ℕ) → Row
   -- pref(q) of this state of the transducer of the sheet is the pattern (01: its head)
   prefix : (stock sheet : List ℕ) (state : ℕ) (pattern : Pattern) → Row
-  -- the sheet cleans to this file, the file of its normal form
+  -- the sheet is accepted for cleaning, and cleans to this file, the file of its normal form
   cleans : (stock sheet clean : List ℕ) → Row
-  -- the normal form has this many states and marks (01: passes and marks of the clean sheet)
+  -- the sheet is accepted for cleaning, and its normal form has this many states and marks (01: passes and marks of the clean sheet)
   normal : (stock sheet : List ℕ) (states marks : ℕ) → Row
   -- the earliest form has this many states (01: passes of the trimmed sheet)
   earliest : (stock sheet : List ℕ) (states : ℕ) → Row
@@ -70,14 +73,24 @@ pub record Registers (stock : List ℕ) (room : ℕ) (entered : List (List ℕ �
   pub one : (log : List (List ℕ × Option ℕ)) × ((b : Book) × (Entries stock log b × (length (b .area) ≡ room) × (map (λ e. e .0) log ≡ map (λ e. e .0) entered)))
   pub every : (log : List (List ℕ × Option ℕ)) (b : Book) → Entries stock log b → length (b .area) ≡ room → map (λ e. e .0) log ≡ map (λ e. e .0) entered → Registered entered used answered log b
 
+-- whatever area of k bytes is lent, a translation that keeps its promise is accepted
+pub record Fits (stock sheet design : List ℕ) (k : ℕ) : Type 0 where
+  pub checks : (area : List ℕ) → length area ≡ k → Holds (alphabetCheck stock (sheetCheck stock sheet (treeCheck stock design (roomCheck stock sheet design area done))))
+  pub answer : (before after : List ℕ) (r : Translation) → length before ≡ k → Translates stock sheet design before after r → (n : ℕ) × (translated r ≡ accepted n)
+
+-- the file of the normal form of the transducer of the sheet, which is accepted for cleaning
+pub record Clean (stock sheet : List ℕ) (k : ℕ) (counts bytes : List ℕ) : Type 0 where
+  pub checks : Holds (alphabetCheck stock (sheetCheck stock sheet (formCheck stock sheet done)))
+  pub normal : NormalFile stock sheet k counts bytes
+
 abbrev pub Says : Row → Type 0
 Says (alphabets stock) = Alphabets stock
 Says (translates stock sheet design plan) = (t : Tree) × (Output stock sheet design t × (code t ≡ plan))
-Says (fits stock sheet design k) = (t : Tree) × (Output stock sheet design t × (size t ≤ k))
+Says (fits stock sheet design k) = Fits stock sheet design k
 Says (not-linear stock sheet) = (n : ℕ) × ((M : Transducer ℕ) × (Sheet (inputs stock) (outputs stock) sheet n M × (Linear (length (inputs stock)) n M → ⊥)))
 Says (prefix stock sheet state pattern) = (n : ℕ) × ((M : Transducer ℕ) × (Sheet (inputs stock) (outputs stock) sheet n M × (state < n) × ((l : Leaf (inputs stock)) → IsPref (alphabet (inputs stock) l) M state pattern)))
-Says (cleans stock sheet clean) = (k : ℕ) × ((counts : List ℕ) × ((bytes : List ℕ) × (NormalFile stock sheet k counts bytes × (file k counts bytes ≡ clean))))
-Says (normal stock sheet states marks) = (counts : List ℕ) × ((bytes : List ℕ) × (NormalFile stock sheet states counts bytes × (length bytes ≡ 2 * marks)))
+Says (cleans stock sheet clean) = (k : ℕ) × ((counts : List ℕ) × ((bytes : List ℕ) × (Clean stock sheet k counts bytes × (file k counts bytes ≡ clean))))
+Says (normal stock sheet states marks) = (counts : List ℕ) × ((bytes : List ℕ) × (Clean stock sheet states counts bytes × (length bytes ≡ 2 * marks)))
 Says (earliest stock sheet states) = (counts : List ℕ) × ((bytes : List ℕ) × EarliestFile stock sheet states counts bytes)
 Says (differ stock first second design place b b′) = DifferOn stock first second design place b b′
 Says (registers stock room entered used answered) = Registers stock room entered used answered
