@@ -11,6 +11,7 @@ use Rattle.theory.specs.Compose.{assoc, compose}
 use Rattle.theory.specs.Discovered.{ReadRhs, ReadStates, Discovered}
 use Rattle.theory.specs.Equivalent.{Equivalent}
 use Rattle.theory.specs.Grammar.{Grammar, Allowed, rule, AllAllowed, end, next}
+use Rattle.theory.specs.Inner.Follows.{Follows}
 use Rattle.theory.specs.Joined.{OutputsIn, Joined}
 use Rattle.theory.specs.Listing.{Indexes, listed}
 use Rattle.theory.specs.NormalForm.{Identical}
@@ -19,7 +20,7 @@ use Rattle.theory.specs.Term.{Term, var, node, Terms, none, more, Tree, 
 use Rattle.theory.specs.Transducer.{Transducer, output, translate, run, runs, pick, renamed}
 use Rattle.theory.specs.Vars.{AllVars, one, each, EachVars, done, both}
 use Rattle.theory.specs.Wf.{Wf, Fits, nth}
-use Rattle.theory.proofs.Accessibility.{accessible-initial, accessible-rhs, accessible-equivalent, accessible-wf, accessible-same, Follows, coded-accessible, coded-follows-stage, coded-follows-states, pairCode, pairName, pair-back}
+use Rattle.theory.proofs.Accessibility.{accessible-initial, accessible-rhs, accessible-equivalent, accessible-wf, accessible-same, coded-accessible, coded-follows-stage, coded-follows-states, pairCode, pairName, pair-back}
 use Rattle.theory.proofs.Composition.{compose-translate, compose-wf}
 use Rattle.theory.proofs.Listings.{all-both}
 use Rattle.theory.proofs.Morphism.{Maps, renamed-id}

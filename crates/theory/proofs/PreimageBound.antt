@@ -17,11 +17,12 @@ use Rattle.theory.specs.Reached.{Reached}
 use Rattle.theory.specs.Matched.{At, here, Matched, demand, symbol, MatchedAll, matched-none, matched-more, Demand, this, inside, Demands, at-head, at-tail, Child, called, idle, Children, no-child, one-child, Chosen, Justified, Saturated}
 use Rattle.theory.specs.Preimage.{Preimage, Makes}
 use Rattle.theory.specs.Size.{size, sizes, levels, deepest}
+use Rattle.theory.specs.Sum.{sum}
 use Rattle.theory.specs.Term.{Term, var, node, Terms, none, more, Tree}
 use Rattle.theory.specs.Transducer.{Transducer}
 use Rattle.theory.specs.Weight.{oneIf, calls}
 use Rattle.theory.specs.Wf.{Wf}
-use Rattle.theory.proofs.Bounded.{sum, sum-le, sum-lt}
+use Rattle.theory.proofs.Bounded.{sum-le, sum-lt}
 use Rattle.theory.proofs.Demands.{matched-map, matched-all-map, matched-at, matched-vars, matched-subtrees, at-inside}
 use Rattle.theory.proofs.Preimages.{children-map, children-exist, makes-step, preimage-step, preimage-exact, child-map}
 use Rattle.theory.proofs.Reach.{reached-wf, reached-valid}

@@ -23,7 +23,7 @@ use Rattle.theory.specs.Trimmed.{Trimmed}
 use Rattle.theory.specs.Vars.{AllVars}
 use Rattle.theory.specs.Wf.{Wf}
 use Rattle.theory.proofs.Accessibility.{accessible-by, follows-stage, follows-states}
-pub use Rattle.theory.proofs.Accessibility.{Follows}
+use Rattle.theory.specs.Inner.Follows.{Follows}
 use Rattle.theory.proofs.Discovery.{discovered-numbered}
 use Rattle.theory.proofs.EarlyForm.{early-wf}
 use Rattle.theory.proofs.Equivalences.{equivalent-trans, equiv-splits}

@@ -5,8 +5,8 @@ use mathlib.Core.Path.{_≡_}
 use lib.ListN.{length, getD, take, replicate}
 use lib.Seq.{sets, slice}
 use Rattle.theory.specs.Grammar.{leafOf}
+use Rattle.theory.specs.Inner.Leaves.{put}
 use Rattle.theory.specs.Term.{Tree, node}
-use Rattle.theory.proofs.Leaves.{put}
 use Rattle.formats.specs.Alphabets.{Ranks, Leaf}
 use Rattle.formats.specs.Code.{Mark, code}
 use Rattle.formats.specs.Inner.Decode.{forest, first, Whole}
