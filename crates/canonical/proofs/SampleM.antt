@@ -19,10 +19,11 @@ use Rattle.theory.specs.Transducer.{Transducer, translate, output, closed, run,
 use Rattle.theory.proofs.Terms.{conflict}
 use Rattle.formats.specs.Alphabets.{Alphabets, stock, inputs, outputs, Leaf}
 use Rattle.formats.specs.Code.{Ranked, flat, Call}
+use Rattle.formats.specs.Samples.{pairs, M, d, e}
 use Rattle.formats.specs.Sheet.{Encodes, countBytes, markBytes, bodyBytes, each, terms}
 use Rattle.transducer.proofs.Samples.{below, leaf}
 use Rattle.prefixes.specs.Alphabet.{alphabet, childrenOf}
-use Rattle.prefixes.proofs.Samples.{pairs, M, M-machine, M-sheet, d, e, line, G}
+use Rattle.prefixes.proofs.Samples.{M-machine, M-sheet, line, G}
 use Rattle.canonical.specs.Answers.{NormalFile}
 use Rattle.canonical.proofs.Normalizing.{encoded-wf}
 
@@ -36,10 +37,6 @@ pairs-alphabets = record {
 }
 
 -- ---- the normal form
--- M clean: initial term d(d(p(x), q(x)), d(r(x), e)); p(a(x, y)) = d(p(x), q(x)), q(a(x, y)) = d(r(x), e), r(a(x, y)) = d(d(p(x), q(x)), d(r(x), e)), and each gives e on e
-abbrev pub M-clean : List ℕ
-M-clean = 3 ∷ 0 ∷ 7 ∷ 0 ∷ 3 ∷ 0 ∷ 1 ∷ 0 ∷ 3 ∷ 0 ∷ 1 ∷ 0 ∷ 7 ∷ 0 ∷ 1 ∷ 0 ∷ 0 ∷ 0 ∷ 0 ∷ 1 ∷ 0 ∷ 1 ∷ 1 ∷ 0 ∷ 0 ∷ 1 ∷ 2 ∷ 0 ∷ 1 ∷ 0 ∷ 0 ∷ 1 ∷ 0 ∷ 1 ∷ 1 ∷ 0 ∷ 1 ∷ 0 ∷ 0 ∷ 1 ∷ 2 ∷ 0 ∷ 1 ∷ 0 ∷ 1 ∷ 0 ∷ 0 ∷ 0 ∷ 0 ∷ 1 ∷ 0 ∷ 1 ∷ 1 ∷ 0 ∷ 0 ∷ 1 ∷ 2 ∷ 0 ∷ 1 ∷ 0 ∷ 1 ∷ []
-
 abbrev pub M-counts : List ℕ
 M-counts = 0 ∷ 7 ∷ 0 ∷ 3 ∷ 0 ∷ 1 ∷ 0 ∷ 3 ∷ 0 ∷ 1 ∷ 0 ∷ 7 ∷ 0 ∷ 1 ∷ []
 

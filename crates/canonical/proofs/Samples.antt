@@ -20,16 +20,14 @@ use Rattle.theory.proofs.NormalForms.{normal-self}
 use Rattle.theory.proofs.Terms.{conflict}
 use Rattle.formats.specs.Alphabets.{inputs, outputs, Leaf}
 use Rattle.formats.specs.Code.{Ranked, flat, Call}
+use Rattle.formats.specs.Samples.{leaf-file, T′, U, S, T}
 use Rattle.formats.specs.Sheet.{Encodes, Sheet, countBytes, markBytes, bodyBytes, each, terms}
-use Rattle.transducer.proofs.Samples.{S, T, S-alphabets, T-machine, T-sheet, twice, line, below, leaf, chain}
+use Rattle.transducer.proofs.Samples.{S-alphabets, T-machine, T-sheet, twice, line, below, leaf, chain}
 use Rattle.prefixes.specs.Alphabet.{alphabet, childrenOf}
 use Rattle.canonical.specs.Answers.{NormalFile}
 use Rattle.canonical.proofs.Normalizing.{encoded-wf}
 
 -- ---- no state: the initial term is e
-abbrev pub leaf-file : List ℕ
-leaf-file = 0 ∷ 0 ∷ 1 ∷ 0 ∷ 1 ∷ []
-
 unfoldable leaf-machine : Transducer ℕ
 leaf-machine = record { sort = λ q. 0; initial = node 1 none; rhs = λ q a. node 1 none }
 
@@ -111,16 +109,6 @@ unfolding T-machine twice line inputs flat markBytes bodyBytes each terms
 T-marks = sym (ap length (T-sheet .encodes .marks-coded))
 
 -- ---- T' and U: q(a(x)) = f(q(x), q(x)), q(e) = f(e, e), with the initial terms q(x) and f(q(x), q(x))
-abbrev pub T′ : List ℕ
-T′ = 1 ∷ 0 ∷ 1 ∷ 0 ∷ 3 ∷ 0 ∷ 3 ∷ 1 ∷ 0 ∷ 0 ∷ 0 ∷ 1 ∷ 0 ∷ 1 ∷ 0 ∷ 0 ∷ 0 ∷ 0 ∷ 1 ∷ 0 ∷ 1 ∷ []
-
-abbrev pub U : List ℕ
-U = 1 ∷ 0 ∷ 3 ∷ 0 ∷ 3 ∷ 0 ∷ 3 ∷ 0 ∷ 0 ∷ 1 ∷ 0 ∷ 1 ∷ 0 ∷ 0 ∷ 0 ∷ 1 ∷ 0 ∷ 1 ∷ 0 ∷ 0 ∷ 0 ∷ 0 ∷ 1 ∷ 0 ∷ 1 ∷ []
-
--- U clean: T with the initial term f(f(q(x), q(x)), f(q(x), q(x)))
-abbrev pub U-clean : List ℕ
-U-clean = 1 ∷ 0 ∷ 7 ∷ 0 ∷ 3 ∷ 0 ∷ 1 ∷ 0 ∷ 0 ∷ 0 ∷ 0 ∷ 1 ∷ 0 ∷ 1 ∷ 0 ∷ 0 ∷ 0 ∷ 1 ∷ 0 ∷ 1 ∷ 0 ∷ 0 ∷ 0 ∷ 1 ∷ 0 ∷ 1 ∷ 0 ∷ 0 ∷ 1 ∷ []
-
 abbrev pub U-counts : List ℕ
 U-counts = 0 ∷ 7 ∷ 0 ∷ 3 ∷ 0 ∷ 1 ∷ []
 

@@ -8,15 +8,16 @@ use lib.ListN.{length}
 use Rattle.theory.specs.Size.{size}
 use Rattle.theory.specs.Term.{Tree}
 use Rattle.formats.specs.Code.{code}
+use Rattle.formats.specs.Samples.{S, T, pairs, M, M-pref, T′, U}
 use Rattle.formats.specs.Sheet.{file}
 use Rattle.transducer.specs.Output.{Output}
-use Rattle.transducer.proofs.Samples.{S, T, S-alphabets, T-machine, T-sheet, T-not-linear, leaf-design, chain-design, T-output, on-leaf, on-chain, room-chain}
-use Rattle.prefixes.proofs.Samples.{pairs, M, M-pref, M-machine, M-sheet, M-is-pref}
+use Rattle.transducer.proofs.Samples.{S-alphabets, T-machine, T-sheet, T-not-linear, leaf-design, chain-design, T-output, on-leaf, on-chain, room-chain}
+use Rattle.prefixes.proofs.Samples.{M-machine, M-sheet, M-is-pref}
 use Rattle.earliest.specs.Answers.{EarliestFile}
 use Rattle.canonical.specs.Answers.{NormalFile}
 use Rattle.canonical.proofs.SampleM.{M-cleans}
 use Rattle.canonical.proofs.SampleTrimmed.{T′-trims}
-use Rattle.canonical.proofs.Samples.{leaf-cleans, T-cleans, T-marks, T′, T′-cleans, U, U-cleans}
+use Rattle.canonical.proofs.Samples.{leaf-cleans, T-cleans, T-marks, T′-cleans, U-cleans}
 use Rattle.table.specs.Table.{Row, translates, fits, not-linear, prefix, cleans, normal, earliest, registers, Says, rows}
 use Rattle.table.proofs.Differences.{T-U-differ}
 use Rattle.table.proofs.Registers.{possible, three-registered}

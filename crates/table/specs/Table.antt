@@ -11,16 +11,13 @@ use Rattle.theory.specs.Term.{Tree}
 use Rattle.theory.specs.Transducer.{Transducer}
 use Rattle.formats.specs.Alphabets.{Alphabets, Leaf, inputs, outputs}
 use Rattle.formats.specs.Code.{code}
+use Rattle.formats.specs.Samples.{S, T, pairs, M, M-pref, leaf-file, T′, U, U-clean, M-clean}
 use Rattle.formats.specs.Sheet.{Sheet, file}
 use Rattle.transducer.specs.Linear.{Linear}
 use Rattle.transducer.specs.Output.{Output}
-use Rattle.transducer.proofs.Samples.{S, T}
 use Rattle.prefixes.specs.Alphabet.{alphabet}
-use Rattle.prefixes.proofs.Samples.{pairs, M, M-pref}
 use Rattle.earliest.specs.Answers.{EarliestFile}
 use Rattle.canonical.specs.Answers.{NormalFile}
-use Rattle.canonical.proofs.SampleM.{M-clean}
-use Rattle.canonical.proofs.Samples.{leaf-file, T′, U, U-clean}
 use Rattle.comparison.specs.Answers.{Difference}
 use Rattle.registry.specs.Calls.{Book, Entries}
 
