@@ -9,7 +9,8 @@ use lib.ListN.{length, getD, take, drop, length-replicate, length-drop, drop-of-
 use lib.Seq.{sets, slice, length-slice, take-all}
 use Rattle.theory.specs.Grammar.{Grammar, Allowed}
 use Rattle.theory.specs.Inner.Leaves.{put}
-use Rattle.theory.specs.Size.{Slim, size, levels}
+use Rattle.theory.specs.Inner.Slim.{Slim}
+use Rattle.theory.specs.Size.{size, levels}
 use Rattle.theory.specs.Term.{Term, Tree, none, more, bind, symbolAt, root}
 use Rattle.theory.specs.Transducer.{Transducer, translate, output}
 use Rattle.theory.specs.Vars.{AllVars}

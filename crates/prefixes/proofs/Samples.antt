@@ -8,8 +8,9 @@ use mathlib.Core.Path.{_≡_, refl, ap}
 use lib.ListN.{getD}
 use Rattle.theory.specs.Earliest.{Splits}
 use Rattle.theory.specs.Grammar.{Grammar, Allowed, rule, AllAllowed, end, next}
+use Rattle.theory.specs.Lcp.{Patterns}
 use Rattle.theory.specs.Pref.{IsPref}
-use Rattle.theory.specs.Prefix.{Prefix, any, keeps, no-more, also, Pattern, Patterns, Open}
+use Rattle.theory.specs.Prefix.{Prefix, any, keeps, no-more, also, Pattern, Open}
 use Rattle.theory.specs.Term.{Term, var, node, Terms, none, more, Tree, bind, count, sub, subs, root, symbolAt}
 use Rattle.theory.specs.Transducer.{Transducer, output, closed, run, pick}
 use Rattle.theory.proofs.Terms.{conflict, subs-zero}

@@ -11,9 +11,10 @@ use mathlib.Core.Path.{_≡_, refl, sym, ap, _∙_, fun-ext}
 use lib.ListN.{length, getD}
 use borrow.Author.Count.{below-more}
 use Rattle.theory.specs.EarliestForm.{expand, opened}
+use Rattle.theory.specs.Inner.Graft.{graft}
 use Rattle.theory.specs.Inner.Total.{total}
 use Rattle.theory.specs.Lcp.{lcp}
-use Rattle.theory.specs.Pref.{graft, Prefs}
+use Rattle.theory.specs.Pref.{Prefs}
 use Rattle.theory.specs.Prefix.{Pattern}
 use Rattle.theory.specs.Size.{size}
 use Rattle.theory.specs.Term.{var}

@@ -12,8 +12,9 @@ use Rattle.theory.specs.Accessible.{Accessible, coded}
 use Rattle.theory.specs.Discovered.{ReadRhs, ReadStates, Discovered}
 use Rattle.theory.specs.Equivalent.{Equivalent}
 use Rattle.theory.specs.Grammar.{Grammar}
+use Rattle.theory.specs.Inner.Closed.{Listed, Closed}
 use Rattle.theory.specs.Inner.Follows.{Follows}
-use Rattle.theory.specs.Listing.{Indexes, Listed, Closed, listed}
+use Rattle.theory.specs.Listing.{Indexes, listed}
 use Rattle.theory.specs.NormalForm.{Identical}
 use Rattle.theory.specs.Numbered.{Numbered}
 use Rattle.theory.specs.Term.{Term}

@@ -10,10 +10,11 @@ use mathlib.Core.Option.{some}
 use lib.Dec.{eqb}
 use lib.ListN.{getElem?, length}
 use Rattle.theory.specs.Grammar.{Grammar, Allowed, rule, AllAllowed, end, next}
+use Rattle.theory.specs.Inner.Nodes.{symbol, childAt}
 use Rattle.theory.specs.Multiplicity.{contribution, callsOf, callsOn, passed, overChildren}
 use Rattle.theory.specs.Occurrences.{occurrences, occurrencesIn, total}
 use Rattle.theory.specs.Sum.{sum}
-use Rattle.theory.specs.Term.{Term, var, node, Terms, none, more, Tree, bind, binds, count, symbol, childAt}
+use Rattle.theory.specs.Term.{Term, var, node, Terms, none, more, Tree, bind, binds, count}
 use Rattle.theory.specs.Transducer.{Transducer, output, translate, runs, pick, closed}
 use Rattle.theory.specs.Vars.{AllVars, one, each, EachVars, done, both}
 use Rattle.theory.specs.Weight.{weight, weights, oneIf}

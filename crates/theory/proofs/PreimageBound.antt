@@ -11,7 +11,8 @@ use mathlib.Core.Option.{some}
 use lib.Dec.{eqb, leb}
 use lib.ListN.{length}
 use borrow.Author.Tests.{eq-eqb, ne-eqb, le-leb, lt-leb}
-use Rattle.theory.specs.Grammar.{Grammar, leafOf}
+use Rattle.theory.specs.Grammar.{Grammar}
+use Rattle.theory.specs.Inner.Leaves.{leafOf}
 use Rattle.theory.specs.Linear.{Once, Linear}
 use Rattle.theory.specs.Reached.{Reached}
 use Rattle.theory.specs.Matched.{At, here, Matched, demand, symbol, MatchedAll, matched-none, matched-more, Demand, this, inside, Demands, at-head, at-tail, Child, called, idle, Children, no-child, one-child, Chosen, Justified, Saturated}

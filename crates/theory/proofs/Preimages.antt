@@ -5,12 +5,14 @@ use mathlib.Core.Path.{_≡_, refl, ap, sym, _∙_}
 use mathlib.Core.Logic.{_⊎_, ⊎-elim, _↔_}
 use mathlib.Core.List.{List, [], _∷_}
 use mathlib.Core.Option.{some}
-use Rattle.theory.specs.Grammar.{Grammar, Allowed, rule, AllAllowed, end, next, leafOf}
+use Rattle.theory.specs.Grammar.{Grammar, Allowed, rule, AllAllowed, end, next}
+use Rattle.theory.specs.Inner.Leaves.{leafOf}
+use Rattle.theory.specs.Inner.Nodes.{childAt}
 use Rattle.theory.specs.Linear.{Once}
 use Rattle.theory.specs.Matched.{At, here, Matched, Demand, Child, called, idle, Children, no-child, one-child, Chosen, Justified, Saturated}
 use Rattle.theory.specs.Preimage.{Preimage, Makes, Made}
 use Rattle.theory.specs.Size.{size, sizes}
-use Rattle.theory.specs.Term.{Term, var, node, Terms, none, more, Tree, bind, childAt}
+use Rattle.theory.specs.Term.{Term, var, node, Terms, none, more, Tree, bind}
 use Rattle.theory.specs.Transducer.{Transducer, output, translate}
 use Rattle.theory.specs.Vars.{AllVars}
 use Rattle.theory.specs.Weight.{calls}

@@ -9,7 +9,8 @@ use lib.ListN.{length, length-append}
 use Rattle.theory.specs.Grammar.{Grammar}
 use Rattle.theory.specs.Preorder.{Visit, visit-old, visit-new, visit-node, Visits, visit-none, visit-more, VisitRhs, no-symbol, skip-symbol, visit-symbol, Preordered}
 use Rattle.theory.specs.Discovered.{read-call}
-use Rattle.theory.specs.Registry.{Distinct, added}
+use Rattle.theory.specs.Distinct.{Distinct}
+use Rattle.theory.specs.Registry.{added}
 use Rattle.theory.specs.Rule.{Stands}
 use Rattle.theory.specs.Term.{Term, var, Terms, node, none, more}
 use Rattle.theory.specs.Transducer.{Transducer}

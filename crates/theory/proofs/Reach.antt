@@ -7,9 +7,10 @@ use mathlib.Core.Option.{some}
 use lib.ListN.{getElem?}
 use Rattle.theory.specs.Discovered.{Discovered}
 use Rattle.theory.specs.Grammar.{Grammar}
+use Rattle.theory.specs.Inner.Closed.{Listed, Closed}
 use Rattle.theory.specs.Linear.{Once, Linear}
 use Rattle.theory.specs.Reached.{Reached, by-initial, by-rhs}
-use Rattle.theory.specs.Listing.{Indexes, Listed, Closed}
+use Rattle.theory.specs.Listing.{Indexes}
 use Rattle.theory.specs.Term.{Term}
 use Rattle.theory.specs.Transducer.{Transducer}
 use Rattle.theory.specs.Vars.{AllVars}

@@ -11,12 +11,15 @@ use Rattle.theory.specs.Canonical.{Canonical}
 use Rattle.theory.specs.Discovered.{Discovered}
 use Rattle.theory.specs.Equivalent.{Equivalent, EquivStates}
 use Rattle.theory.specs.Grammar.{Grammar}
-use Rattle.theory.specs.Listing.{Indexes, Closed, Listed, listed}
-use Rattle.theory.specs.NormalForm.{Identical, NormalForm, CodesForm}
+use Rattle.theory.specs.Inner.Closed.{Closed, Listed}
+use Rattle.theory.specs.Inner.CodesForm.{CodesForm}
+use Rattle.theory.specs.Inner.Keeps.{Keeps}
+use Rattle.theory.specs.Listing.{Indexes, listed}
+use Rattle.theory.specs.NormalForm.{Identical, NormalForm}
 use Rattle.theory.specs.Numbered.{Numbered}
 use Rattle.theory.specs.Orders.{firstMeeting}
 use Rattle.theory.specs.Reached.{Reached, by-initial, by-rhs, AllReached}
-use Rattle.theory.specs.Registry.{Keeps, History}
+use Rattle.theory.specs.Registry.{History}
 use Rattle.theory.specs.Rule.{Order, IsRule, Renumbers, countUp, NumberedBy, NormalFormBy, CodesFormBy}
 use Rattle.theory.specs.Term.{Term, Terms, var, sub, subs, mapT}
 use Rattle.theory.specs.Transducer.{Transducer, renamed}

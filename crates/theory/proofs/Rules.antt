@@ -8,7 +8,7 @@ use mathlib.Core.Option.{some}
 use lib.ListN.{getElem?, length}
 use Rattle.theory.specs.Discovered.{Discovered}
 use Rattle.theory.specs.Grammar.{Grammar}
-use Rattle.theory.specs.Listing.{Closed, Listed}
+use Rattle.theory.specs.Inner.Closed.{Closed, Listed}
 use Rattle.theory.specs.Orders.{firstMeeting, depthFirst, orderOf}
 use Rattle.theory.specs.Preorder.{Preordered}
 use Rattle.theory.specs.Reached.{Reached, by-initial, by-rhs}

@@ -6,10 +6,10 @@ use mathlib.Core.List.{List, [], _∷_, map}
 use mathlib.Core.Option.{some}
 use lib.ListN.{getElem?}
 use Rattle.theory.specs.Canonical.{Canonical}
+use Rattle.theory.specs.Distinct.{Distinct}
 use Rattle.theory.specs.Equivalent.{Equivalent}
 use Rattle.theory.specs.Grammar.{Grammar}
 use Rattle.theory.specs.Reached.{Reached}
-use Rattle.theory.specs.Registry.{Distinct}
 use Rattle.theory.specs.Transducer.{Transducer, renamed}
 use Rattle.theory.specs.Wf.{Wf}
 

@@ -4,8 +4,7 @@ use mathlib.Core.List.{List, [], _∷_}
 use mathlib.Core.Path.{_≡_}
 use lib.ListN.{length, getD, take, replicate}
 use lib.Seq.{sets, slice}
-use Rattle.theory.specs.Grammar.{leafOf}
-use Rattle.theory.specs.Inner.Leaves.{put}
+use Rattle.theory.specs.Inner.Leaves.{put, leafOf}
 use Rattle.theory.specs.Term.{Tree, node}
 use Rattle.formats.specs.Alphabets.{Ranks, Leaf}
 use Rattle.formats.specs.Code.{Mark, code}

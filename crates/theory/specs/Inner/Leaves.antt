@@ -1,8 +1,17 @@
--- Children that are leaves, all but perhaps one.
+-- Leaves: the leaf of a sort, and children that are leaves, all but perhaps one.
 use Prim.Native.Nat.{ℕ, suc}
 use mathlib.Core.List.{List, [], _∷_}
-use Rattle.theory.specs.Grammar.{Grammar, leafOf}
-use Rattle.theory.specs.Term.{Tree, Terms, none, more}
+use Rattle.theory.specs.Grammar.{Grammar}
+use Rattle.theory.specs.Term.{Tree, node, Terms, none, more}
+
+-- the tree that is the leaf of sort s alone
+unfoldable pub leafOf : Grammar → ℕ → Tree
+leafOf G s = node (G .leaf s) none
+
+-- all children are leaves
+pub data Leaves : Terms ⊥ → Type 0 where
+  no-leaf : Leaves none
+  one-leaf : {k : ℕ} {ds : Terms ⊥} → Leaves ds → Leaves (more (node k none) ds)
 
 -- children of these sorts: d is the i-th, from 1, and all others are leaves (so all, if i is 0)
 unfoldable pub put : Grammar → List ℕ → ℕ → Tree → Terms ⊥

@@ -4,8 +4,8 @@ use mathlib.Core.Path.{_≡_}
 use mathlib.Core.Logic.{_≢_}
 use mathlib.Core.List.{List}
 use mathlib.Core.Option.{some}
-use Rattle.theory.specs.Grammar.{Grammar, leafOf}
-use Rattle.theory.specs.Inner.Leaves.{put}
+use Rattle.theory.specs.Grammar.{Grammar}
+use Rattle.theory.specs.Inner.Leaves.{leafOf, put}
 use Rattle.theory.specs.Term.{Symbol, Terms, node, count, var, Tree}
 use Rattle.theory.specs.Transducer.{Transducer}
 
