@@ -12,10 +12,11 @@ use Rattle.theory.specs.Earliest.{Earliest, Splits}
 use Rattle.theory.specs.Equivalent.{Equivalent}
 use Rattle.theory.specs.Grammar.{Allowed, AllAllowed, rule, end, next}
 use Rattle.theory.specs.NormalForm.{NormalForm}
-use Rattle.theory.specs.Numbered.{Numbered, scan, scan-states, scan-rhss, scan-rhs, see, tally, only-if}
 use Rattle.theory.specs.Size.{size}
 use Rattle.theory.specs.Term.{Term, var, node, Terms, none, more, Tree, bind, count, sub, root, symbolAt}
 use Rattle.theory.specs.Transducer.{Transducer, translate, output, closed, run, pick}
+use Rattle.theory.proofs.Numbers.{scanned-numbered}
+use Rattle.theory.proofs.Scanning.{scan, scan-states, scan-rhss, scan-rhs, see, tally, only-if, Scanned}
 use Rattle.theory.proofs.Terms.{conflict}
 use Rattle.formats.specs.Alphabets.{Alphabets, stock, inputs, outputs, Leaf}
 use Rattle.formats.specs.Code.{Ranked, flat, Call}
@@ -130,16 +131,16 @@ module _ (l : Leaf (inputs pairs)) where
   unfolding M-form form-rhs on-pair leaf pair bind output closed run pick symbolAt root sub count
   M-earliest = below 3 _ (split refl refl, (split refl refl, (split refl refl, tt)))
 
-  M-numbered : Numbered (G l) M-form 3
-  unfolding M-form form-rhs on-pair alphabet childrenOf inputs Numbered scan see tally scan-states scan-rhss scan-rhs only-if obind decLt ℕ-discrete
-  M-numbered = refl
+  M-scanned : Scanned (G l) M-form 3
+  unfolding M-form form-rhs on-pair alphabet childrenOf inputs Scanned scan see tally scan-states scan-rhss scan-rhs only-if obind decLt ℕ-discrete
+  M-scanned = refl
 
   M-reduced : Reduced (G l) M-form (λ q. q < 3)
   unfolding M-form
   M-reduced q r h k s = sym (told q h) ∙ (ap (λ t. size t / 8) (s .output pair-left pair-left-allowed) ∙ told r k)
 
   M-normal : NormalForm (G l) M-machine M-form 3
-  M-normal = record { equivalent = M-equivalent; canonical = record { wf = encoded-wf (pairs-alphabets .ins .few) l M-encodes; earliest = M-earliest; reduced = M-reduced }; numbered = M-numbered }
+  M-normal = record { equivalent = M-equivalent; canonical = record { wf = encoded-wf (pairs-alphabets .ins .few) l M-encodes; earliest = M-earliest; reduced = M-reduced }; numbered = scanned-numbered _ _ _ M-scanned }
 
 pub M-cleans : NormalFile pairs M 3 M-counts M-bytes
 M-cleans = record { alphabets = pairs-alphabets; states = 1; machine = M-machine; sheet = M-sheet; form = M-form; normal = M-normal; encodes = M-encodes }

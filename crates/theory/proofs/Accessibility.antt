@@ -21,13 +21,14 @@ use Rattle.theory.specs.Term.{Term}
 use Rattle.theory.specs.Transducer.{Transducer, renamed}
 use Rattle.theory.specs.Vars.{AllVars}
 use Rattle.theory.specs.Wf.{Wf, Fits}
-use Rattle.theory.proofs.Discovery.{Every, rhs-valid, states-valid, states-distinct, discovered-closed, discovered-numbered, distinct-indexes, indexOf}
+use Rattle.theory.proofs.Discovery.{Every, rhs-valid, states-valid, states-distinct, discovered-closed, distinct-indexes, indexOf}
 use Rattle.theory.proofs.DiscoveryExists.{Finite, discovered-exists}
 use Rattle.theory.proofs.Equivalences.{equivalent-trans}
-use Rattle.theory.proofs.Identity.{identical-refl, identical-sym, identical-trans, identical-wf, identical-equivalent, identical-numbered}
+use Rattle.theory.proofs.Identity.{identical-refl, identical-sym, identical-trans, identical-wf, identical-equivalent}
 use Rattle.theory.proofs.Listings.{all-renamed, listed-sort, listed-rhs, listed-wf, listed-equivalent}
 use Rattle.theory.proofs.Lists.{Extends, get-lt, get-some}
 use Rattle.theory.proofs.Morphism.{Maps, renamed-id}
+use Rattle.theory.proofs.Numbers.{discovered-numbered, identical-numbered}
 use Rattle.theory.proofs.Readings.{get-map, renamed-twice, renamed-ext, states-extend, stage-extends, rhs-mapped, states-mapped, discovered-mapped, listed-identical}
 use Rattle.theory.proofs.Vars.{all-map}
 

@@ -1,9 +1,9 @@
 -- The input tree that is built by following the chosen symbols is small: it has an inner node for a pair of a state and a subtree, and for no pair two.
-use Prim.Native.Nat.{ℕ, suc, _+_, _*_, _-_, _≤_, _<_, max}
+use Prim.Native.Nat.{ℕ, suc, _+_, _*_, _-_, _≤_, _<_}
 use native.Mathlib.Decide.{ℕ-discrete, decLt}
-use native.Mathlib.Nat.{mul-add, mul-suc, mul-zero, mul-one, mul-le-mul-left, mul-le-mul}
+use native.Mathlib.Nat.{mul-add, mul-suc, mul-zero, mul-le-mul-left, mul-le-mul}
 use native.Mathlib.Omega.{arith}
-use mathlib.Core.Path.{_≡_, refl, ap, sym, _∙_}
+use mathlib.Core.Path.{_≡_, refl, ap}
 use mathlib.Core.Logic.{_↔_, by-cases}
 use mathlib.Core.Bool.{Bool, true, false}
 use mathlib.Core.List.{List, [], _∷_}
@@ -21,7 +21,7 @@ use Rattle.theory.specs.Size.{size, sizes, levels, deepest}
 use Rattle.theory.specs.Sum.{sum}
 use Rattle.theory.specs.Term.{Term, var, node, Terms, none, more, Tree}
 use Rattle.theory.specs.Transducer.{Transducer}
-use Rattle.theory.specs.Weight.{oneIf, calls}
+use Rattle.theory.specs.Weight.{oneIf}
 use Rattle.theory.specs.Wf.{Wf}
 use Rattle.theory.proofs.Bounded.{sum-le, sum-lt}
 use Rattle.theory.proofs.Demands.{matched-map, matched-all-map, matched-at, matched-vars, matched-subtrees, at-inside}

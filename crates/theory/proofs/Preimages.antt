@@ -12,11 +12,11 @@ use Rattle.theory.specs.Linear.{Once}
 use Rattle.theory.specs.Matched.{At, here, Matched, Demand, Child, called, idle, Children, no-child, one-child, Chosen, Justified, Saturated}
 use Rattle.theory.specs.Preimage.{Preimage, Makes, Made}
 use Rattle.theory.specs.Size.{size, sizes}
-use Rattle.theory.specs.Term.{Term, var, node, Terms, none, more, Tree, bind}
+use Rattle.theory.specs.Term.{Term, node, Terms, none, more, Tree}
 use Rattle.theory.specs.Transducer.{Transducer, output, translate}
 use Rattle.theory.specs.Vars.{AllVars}
 use Rattle.theory.specs.Weight.{calls}
-use Rattle.theory.specs.Wf.{Wf, Fits, nth}
+use Rattle.theory.specs.Wf.{Wf, nth}
 use Rattle.theory.proofs.Demands.{matched-map, matched-by, matched-at, matched-vars, bind-matched, matched-bind, demand-calls, demand-once, find-demand, matched-subtrees, calls-at}
 use Rattle.theory.proofs.Leaves.{leaf-allowed}
 use Rattle.theory.proofs.Runs.{call, fill, output-node, call-at, by-tree, translate-fill, initial-sort}

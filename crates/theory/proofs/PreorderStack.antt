@@ -18,7 +18,8 @@ use Rattle.theory.specs.Vars.{one}
 use Rattle.theory.proofs.Discovery.{callsOf, callsIn, Every, read-every}
 use Rattle.theory.proofs.DiscoveryExists.{pigeon-list}
 use Rattle.theory.proofs.Lists.{enter-distinct}
-use Rattle.theory.proofs.Rules.{finite-below, count-length}
+use Rattle.theory.proofs.Numbers.{count-length}
+use Rattle.theory.proofs.Rules.{finite-below}
 
 -- reading a list of calls depth first
 pub data VisitCalls {Q : Type 0} (G : Grammar) (M : Transducer Q) : List (ℕ × Q) → List Q → List Q → Type 0 where
