@@ -16,20 +16,22 @@ use Rattle.theory.specs.Equivalent.{Equivalent}
 use Rattle.theory.specs.Grammar.{Allowed, AllAllowed, rule, end, next}
 use Rattle.theory.specs.Listing.{Indexes, listed}
 use Rattle.theory.specs.NormalForm.{NormalForm, Identical}
-use Rattle.theory.specs.Numbered.{Numbered, scan, scan-states, scan-rhss, scan-rhs, see, tally, only-if}
 use Rattle.theory.specs.Pref.{Prefs}
 use Rattle.theory.specs.Prefix.{Pattern}
 use Rattle.theory.specs.Registry.{found, added}
 use Rattle.theory.specs.Size.{size}
 use Rattle.theory.specs.Term.{Term, var, node, Terms, none, more, Tree, bind, mapT, count, sub, root, symbolAt}
 use Rattle.theory.specs.Transducer.{Transducer, translate, output, closed, run, pick, renamed}
+use Rattle.theory.proofs.Numbers.{scanned-numbered}
+use Rattle.theory.proofs.Scanning.{scan, scan-states, scan-rhss, scan-rhs, see, tally, only-if, Scanned}
 use Rattle.theory.proofs.Terms.{conflict}
 use Rattle.formats.specs.Alphabets.{Alphabets, stock, inputs, outputs, Leaf}
 use Rattle.formats.specs.Code.{Ranked, flat, Call}
+use Rattle.formats.specs.Samples.{pairs, M, d, e, M-pref}
 use Rattle.formats.specs.Sheet.{Encodes, countBytes, markBytes, bodyBytes, each, terms}
 use Rattle.transducer.proofs.Samples.{below, leaf}
 use Rattle.prefixes.specs.Alphabet.{alphabet, childrenOf}
-use Rattle.prefixes.proofs.Samples.{pairs, M, M-pref, M-machine, M-sheet, M-is-pref, d, e, line, G}
+use Rattle.prefixes.proofs.Samples.{M-machine, M-sheet, M-is-pref, line, G}
 use Rattle.earliest.specs.Answers.{EarliestFile}
 use Rattle.canonical.specs.Answers.{NormalFile}
 use Rattle.canonical.proofs.Normalizing.{encoded-wf}
@@ -44,10 +46,6 @@ pairs-alphabets = record {
 }
 
 -- ---- the normal form
--- M clean: initial term d(d(p(x), q(x)), d(r(x), e)); p(a(x, y)) = d(p(x), q(x)), q(a(x, y)) = d(r(x), e), r(a(x, y)) = d(d(p(x), q(x)), d(r(x), e)), and each gives e on e
-abbrev pub M-clean : List ℕ
-M-clean = 3 ∷ 0 ∷ 7 ∷ 0 ∷ 3 ∷ 0 ∷ 1 ∷ 0 ∷ 3 ∷ 0 ∷ 1 ∷ 0 ∷ 7 ∷ 0 ∷ 1 ∷ 0 ∷ 0 ∷ 0 ∷ 0 ∷ 1 ∷ 0 ∷ 1 ∷ 1 ∷ 0 ∷ 0 ∷ 1 ∷ 2 ∷ 0 ∷ 1 ∷ 0 ∷ 0 ∷ 1 ∷ 0 ∷ 1 ∷ 1 ∷ 0 ∷ 1 ∷ 0 ∷ 0 ∷ 1 ∷ 2 ∷ 0 ∷ 1 ∷ 0 ∷ 1 ∷ 0 ∷ 0 ∷ 0 ∷ 0 ∷ 1 ∷ 0 ∷ 1 ∷ 1 ∷ 0 ∷ 0 ∷ 1 ∷ 2 ∷ 0 ∷ 1 ∷ 0 ∷ 1 ∷ []
-
 abbrev pub M-counts : List ℕ
 M-counts = 0 ∷ 7 ∷ 0 ∷ 3 ∷ 0 ∷ 1 ∷ 0 ∷ 3 ∷ 0 ∷ 1 ∷ 0 ∷ 7 ∷ 0 ∷ 1 ∷ []
 
@@ -141,16 +139,16 @@ module _ (l : Leaf (inputs pairs)) where
   unfolding M-form form-rhs on-pair leaf pair bind output closed run pick symbolAt root sub count
   M-earliest = below 3 _ (split refl refl, (split refl refl, (split refl refl, tt)))
 
-  M-numbered : Numbered (G l) M-form 3
-  unfolding M-form form-rhs on-pair alphabet childrenOf inputs Numbered scan see tally scan-states scan-rhss scan-rhs only-if obind decLt ℕ-discrete
-  M-numbered = refl
+  M-scanned : Scanned (G l) M-form 3
+  unfolding M-form form-rhs on-pair alphabet childrenOf inputs Scanned scan see tally scan-states scan-rhss scan-rhs only-if obind decLt ℕ-discrete
+  M-scanned = refl
 
   M-reduced : Reduced (G l) M-form (λ q. q < 3)
   unfolding M-form
   M-reduced q r h k s = sym (told q h) ∙ (ap (λ t. size t / 8) (s .output pair-left pair-left-allowed) ∙ told r k)
 
   M-normal : NormalForm (G l) M-machine M-form 3
-  M-normal = record { equivalent = M-equivalent; canonical = record { wf = encoded-wf (pairs-alphabets .ins .few) l M-encodes; earliest = M-earliest; reduced = M-reduced }; numbered = M-numbered }
+  M-normal = record { equivalent = M-equivalent; canonical = record { wf = encoded-wf (pairs-alphabets .ins .few) l M-encodes; earliest = M-earliest; reduced = M-reduced }; numbered = scanned-numbered _ _ _ M-scanned }
 
 pub M-cleans : NormalFile pairs M 3 M-counts M-bytes
 M-cleans = record { alphabets = pairs-alphabets; states = 1; machine = M-machine; sheet = M-sheet; form = M-form; normal = M-normal; encodes = M-encodes }

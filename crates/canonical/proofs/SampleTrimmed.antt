@@ -21,12 +21,13 @@ use Rattle.theory.proofs.Identity.{identical-refl}
 use Rattle.theory.proofs.Terms.{conflict}
 use Rattle.formats.specs.Alphabets.{inputs, outputs, Leaf}
 use Rattle.formats.specs.Code.{Ranked, flat, Call}
+use Rattle.formats.specs.Samples.{S, T′, U}
 use Rattle.formats.specs.Sheet.{Encodes, countBytes, markBytes, bodyBytes, each, terms}
-use Rattle.transducer.proofs.Samples.{S, S-alphabets, below, leaf, chain}
+use Rattle.transducer.proofs.Samples.{S-alphabets, below, leaf, chain}
 use Rattle.prefixes.specs.Alphabet.{alphabet, childrenOf}
 use Rattle.prefixes.proofs.Samples.{EachOpen, at-open}
 use Rattle.earliest.specs.Answers.{EarliestFile}
-use Rattle.canonical.proofs.Samples.{T′, T′-sheet, U, U-sheet, one-state, once, late, f, G, leaf-allowed, chain-allowed, doubles}
+use Rattle.canonical.proofs.Samples.{T′-sheet, U-sheet, one-state, once, late, f, G, leaf-allowed, chain-allowed, doubles}
 
 -- T' and U by their initial terms
 abbrev machine : Term (ℕ × ℕ) → Transducer ℕ

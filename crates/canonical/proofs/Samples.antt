@@ -12,24 +12,23 @@ use Rattle.theory.specs.Earliest.{Earliest}
 use Rattle.theory.specs.Equivalent.{Equivalent}
 use Rattle.theory.specs.Grammar.{Grammar, Allowed, AllAllowed, rule, end, next}
 use Rattle.theory.specs.NormalForm.{NormalForm}
-use Rattle.theory.specs.Numbered.{Numbered, scan, scan-states, scan-rhss, scan-rhs, see, tally, only-if}
 use Rattle.theory.specs.Term.{Term, var, node, Terms, none, more, Tree, bind, count, sub, root, symbolAt}
 use Rattle.theory.specs.Transducer.{Transducer, translate, output, closed, run, pick}
 use Rattle.theory.specs.Wf.{Wf}
 use Rattle.theory.proofs.NormalForms.{normal-self}
+use Rattle.theory.proofs.Numbers.{scanned-numbered}
+use Rattle.theory.proofs.Scanning.{scan, scan-states, scan-rhss, scan-rhs, see, tally, only-if, Scanned}
 use Rattle.theory.proofs.Terms.{conflict}
 use Rattle.formats.specs.Alphabets.{inputs, outputs, Leaf}
 use Rattle.formats.specs.Code.{Ranked, flat, Call}
+use Rattle.formats.specs.Samples.{leaf-file, T′, U, S, T}
 use Rattle.formats.specs.Sheet.{Encodes, Sheet, countBytes, markBytes, bodyBytes, each, terms}
-use Rattle.transducer.proofs.Samples.{S, T, S-alphabets, T-machine, T-sheet, twice, line, below, leaf, chain}
+use Rattle.transducer.proofs.Samples.{S-alphabets, T-machine, T-sheet, twice, line, below, leaf, chain}
 use Rattle.prefixes.specs.Alphabet.{alphabet, childrenOf}
 use Rattle.canonical.specs.Answers.{NormalFile}
 use Rattle.canonical.proofs.Normalizing.{encoded-wf}
 
 -- ---- no state: the initial term is e
-abbrev pub leaf-file : List ℕ
-leaf-file = 0 ∷ 0 ∷ 1 ∷ 0 ∷ 1 ∷ []
-
 unfoldable leaf-machine : Transducer ℕ
 leaf-machine = record { sort = λ q. 0; initial = node 1 none; rhs = λ q a. node 1 none }
 
@@ -42,12 +41,12 @@ leaf-encodes = record {
   marks-coded = refl;
 }
 
-leaf-numbered : (l : Leaf (inputs S)) → Numbered (alphabet (inputs S) l) leaf-machine 0
-unfolding leaf-machine Numbered scan scan-states obind
-leaf-numbered l = refl
+leaf-scanned : (l : Leaf (inputs S)) → Scanned (alphabet (inputs S) l) leaf-machine 0
+unfolding leaf-machine Scanned scan scan-states obind
+leaf-scanned l = refl
 
 leaf-normal : (l : Leaf (inputs S)) → NormalForm (alphabet (inputs S) l) leaf-machine leaf-machine 0
-leaf-normal l = normal-self (record { wf = encoded-wf (S-alphabets .ins .few) l leaf-encodes; earliest = λ q h. absurd (omega arith); reduced = λ q r h. absurd (omega arith) }) (leaf-numbered l)
+leaf-normal l = normal-self (record { wf = encoded-wf (S-alphabets .ins .few) l leaf-encodes; earliest = λ q h. absurd (omega arith); reduced = λ q r h. absurd (omega arith) }) (scanned-numbered _ _ _ (leaf-scanned l))
 
 pub leaf-cleans : NormalFile S leaf-file 0 (0 ∷ 1 ∷ []) (0 ∷ 1 ∷ [])
 leaf-cleans = record {
@@ -94,13 +93,13 @@ module _ (l : Leaf (inputs S)) where
   T-canonical : (t : Term (ℕ × ℕ)) → Wf G (one-state t line) (λ q. q < 1) → Canonical G (one-state t line) (λ q. q < 1)
   T-canonical t W = record { wf = W; earliest = T-earliest t; reduced = λ q r h k s. omega arith }
 
-  T-numbered : Numbered G T-machine 1
-  unfolding T-machine twice line alphabet childrenOf inputs Numbered scan see tally scan-states scan-rhss scan-rhs only-if obind decLt ℕ-discrete
-  T-numbered = refl
+  T-scanned : Scanned G T-machine 1
+  unfolding T-machine twice line alphabet childrenOf inputs Scanned scan see tally scan-states scan-rhss scan-rhs only-if obind decLt ℕ-discrete
+  T-scanned = refl
 
   T-normal : NormalForm G T-machine T-machine 1
   unfolding one-state T-machine
-  T-normal = normal-self (T-canonical twice (encoded-wf (S-alphabets .ins .few) l (T-sheet .encodes))) T-numbered
+  T-normal = normal-self (T-canonical twice (encoded-wf (S-alphabets .ins .few) l (T-sheet .encodes))) (scanned-numbered _ _ _ T-scanned)
 
 pub T-cleans : NormalFile S T 1 (T-sheet .counts) (T-sheet .bytes)
 T-cleans = record { alphabets = S-alphabets; states = 1; machine = T-machine; sheet = T-sheet; form = T-machine; normal = T-normal; encodes = T-sheet .encodes }
@@ -111,16 +110,6 @@ unfolding T-machine twice line inputs flat markBytes bodyBytes each terms
 T-marks = sym (ap length (T-sheet .encodes .marks-coded))
 
 -- ---- T' and U: q(a(x)) = f(q(x), q(x)), q(e) = f(e, e), with the initial terms q(x) and f(q(x), q(x))
-abbrev pub T′ : List ℕ
-T′ = 1 ∷ 0 ∷ 1 ∷ 0 ∷ 3 ∷ 0 ∷ 3 ∷ 1 ∷ 0 ∷ 0 ∷ 0 ∷ 1 ∷ 0 ∷ 1 ∷ 0 ∷ 0 ∷ 0 ∷ 0 ∷ 1 ∷ 0 ∷ 1 ∷ []
-
-abbrev pub U : List ℕ
-U = 1 ∷ 0 ∷ 3 ∷ 0 ∷ 3 ∷ 0 ∷ 3 ∷ 0 ∷ 0 ∷ 1 ∷ 0 ∷ 1 ∷ 0 ∷ 0 ∷ 0 ∷ 1 ∷ 0 ∷ 1 ∷ 0 ∷ 0 ∷ 0 ∷ 0 ∷ 1 ∷ 0 ∷ 1 ∷ []
-
--- U clean: T with the initial term f(f(q(x), q(x)), f(q(x), q(x)))
-abbrev pub U-clean : List ℕ
-U-clean = 1 ∷ 0 ∷ 7 ∷ 0 ∷ 3 ∷ 0 ∷ 1 ∷ 0 ∷ 0 ∷ 0 ∷ 0 ∷ 1 ∷ 0 ∷ 1 ∷ 0 ∷ 0 ∷ 0 ∷ 1 ∷ 0 ∷ 1 ∷ 0 ∷ 0 ∷ 0 ∷ 1 ∷ 0 ∷ 1 ∷ 0 ∷ 0 ∷ 1 ∷ []
-
 abbrev pub U-counts : List ℕ
 U-counts = 0 ∷ 7 ∷ 0 ∷ 3 ∷ 0 ∷ 1 ∷ []
 
@@ -198,19 +187,19 @@ module _ (l : Leaf (inputs S)) where
   T′-equivalent = record { translation = λ d ok. doubles once twice ok 0 }
 
   T′-normal : NormalForm (G l) (one-state once late) T-machine 1
-  T′-normal = record { equivalent = T′-equivalent; canonical = T-normal l .canonical; numbered = T-numbered l }
+  T′-normal = record { equivalent = T′-equivalent; canonical = T-normal l .canonical; numbered = scanned-numbered _ _ _ (T-scanned l) }
 
   U-equivalent : Equivalent (G l) (one-state (f once once) late) U-form
   unfolding one-state U-form bind translate
   U-equivalent = record { translation = λ d ok. ap (λ u. f u u) (doubles (f once once) (f (f once once) (f once once)) ok 0) }
 
-  U-numbered : Numbered (G l) U-form 1
-  unfolding U-form one-state twice line alphabet childrenOf inputs Numbered scan see tally scan-states scan-rhss scan-rhs only-if obind decLt ℕ-discrete
-  U-numbered = refl
+  U-scanned : Scanned (G l) U-form 1
+  unfolding U-form one-state twice line alphabet childrenOf inputs Scanned scan see tally scan-states scan-rhss scan-rhs only-if obind decLt ℕ-discrete
+  U-scanned = refl
 
   U-normal : NormalForm (G l) (one-state (f once once) late) U-form 1
   unfolding U-form
-  U-normal = record { equivalent = U-equivalent; canonical = T-canonical l _ (encoded-wf (S-alphabets .ins .few) l U-encodes); numbered = U-numbered }
+  U-normal = record { equivalent = U-equivalent; canonical = T-canonical l _ (encoded-wf (S-alphabets .ins .few) l U-encodes); numbered = scanned-numbered _ _ _ U-scanned }
 
 pub T′-cleans : NormalFile S T′ 1 (T-sheet .counts) (T-sheet .bytes)
 T′-cleans = record { alphabets = S-alphabets; states = 1; machine = one-state once late; sheet = T′-sheet; form = T-machine; normal = T′-normal; encodes = T-sheet .encodes }

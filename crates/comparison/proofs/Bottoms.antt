@@ -9,14 +9,17 @@ use mathlib.Core.Logic.{_≢_, by-cases}
 use mathlib.Core.Option.{some}
 use mathlib.Core.Path.{_≡_, refl, sym, ap, ap₂, _∙_, subst}
 use lib.ListN.{length, getD}
-use Rattle.theory.specs.Grammar.{Grammar, Allowed, AllAllowed, leafOf}
-use Rattle.theory.specs.Size.{Slim, levels}
-use Rattle.theory.specs.Term.{Term, Terms, Tree, var, node, none, more, count, bind, symbol}
+use Rattle.theory.specs.Grammar.{Grammar, Allowed, AllAllowed}
+use Rattle.theory.specs.Inner.Leaves.{put, leafOf}
+use Rattle.theory.specs.Inner.Nodes.{symbol}
+use Rattle.theory.specs.Inner.Slim.{Slim}
+use Rattle.theory.specs.Size.{levels}
+use Rattle.theory.specs.Term.{Term, Terms, Tree, var, node, none, more, count, bind}
 use Rattle.theory.specs.Transducer.{Transducer, output}
 use Rattle.theory.specs.Vars.{AllVars, each, EachVars, both}
 use Rattle.theory.specs.Wf.{Fits, nth}
 use Rattle.theory.proofs.Along.{Along, here, under, Alongs, first, later}
-use Rattle.theory.proofs.Leaves.{put, put-allowed, put-leaves, call-put, call-other}
+use Rattle.theory.proofs.Leaves.{put-allowed, put-leaves, call-put, call-other}
 use Rattle.theory.proofs.OtherRoot.{falls-levels, falls-other}
 use Rattle.theory.proofs.Runs.{fill, call, output-node}
 use Rattle.theory.proofs.Slim.{leaf-slim}

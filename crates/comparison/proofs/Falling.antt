@@ -10,9 +10,12 @@ use lib.ListN.{length, getD, set, replicate, length-set}
 use lib.Seq.{take-suc-set, getD-set-same, getD-set-other, length-slice}
 use borrow.Author.Count.{below-more}
 use Rattle.theory.specs.Earliest.{Earliest}
-use Rattle.theory.specs.Term.{Term, var, count, bind, symbol}
-use Rattle.theory.proofs.Leaves.{put, call-put}
-use Rattle.theory.proofs.OtherRoot.{CallsOnly, fall-root, fall-call, only-call, all-found}
+use Rattle.theory.specs.Inner.Leaves.{put}
+use Rattle.theory.specs.Inner.Nodes.{symbol}
+use Rattle.theory.specs.Inner.OtherRoot.{CallsOnly, fall-root, fall-call}
+use Rattle.theory.specs.Term.{Term, var, count, bind}
+use Rattle.theory.proofs.Leaves.{call-put}
+use Rattle.theory.proofs.OtherRoot.{only-call, all-found}
 use Rattle.theory.proofs.Runs.{output-node}
 use Rattle.theory.proofs.Terms.{count-binds}
 use Rattle.formats.specs.Alphabets.{Leaf}

@@ -11,8 +11,8 @@ use mathlib.Core.Path.{_≡_, refl, sym, ap, ap₂, _∙_}
 use lib.Dec.{eqb}
 use lib.ListN.{length, getD, replicate}
 use borrow.Author.Tests.{eqb-false, ne-eqb}
+use Rattle.theory.specs.Inner.OtherRoot.{RootOther, CallsOnly, Sound, Complete}
 use Rattle.theory.specs.Term.{Term, Terms, var, node, count, Symbol}
-use Rattle.theory.proofs.OtherRoot.{RootOther, CallsOnly, Sound, Complete}
 use Rattle.theory.proofs.Terms.{conflict}
 use Rattle.formats.specs.Alphabets.{Leaf}
 use Rattle.formats.specs.Code.{Mark, flat, marks, Ranked, Call}

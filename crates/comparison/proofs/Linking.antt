@@ -7,11 +7,11 @@ use mathlib.Core.Option.{some}
 use mathlib.Core.Path.{_≡_, refl, ap₂, subst}
 use lib.ListN.{length, getD, replicate}
 use Rattle.theory.specs.Grammar.{Grammar}
+use Rattle.theory.specs.Inner.Leaves.{put}
 use Rattle.theory.specs.Term.{Tree, var, node}
 use Rattle.theory.specs.Transducer.{Transducer}
 use Rattle.theory.proofs.Along.{Along, Are, Clash}
 use Rattle.theory.proofs.Clash.{Shown}
-use Rattle.theory.proofs.Leaves.{put}
 use Rattle.theory.proofs.Search.{Reach, reach-initial, reach-rhs, far}
 use Rattle.theory.proofs.Witness.{Chain, stop, go-on, Witness, witness, only-child, chain-address, chain-spot, chain-core, chain-trees, chain-last, chain-steps}
 use Rattle.formats.specs.Alphabets.{Leaf}

@@ -7,9 +7,8 @@ use mathlib.Core.Path.{_≡_, refl, sym, ap, ap₂, _∙_}
 use mathlib.Core.List.{List, [], _∷_, _++_}
 use lib.ListN.{length, getD, take, drop, set, replicate, length-set, length-append, length-replicate, drop-of-length-le}
 use lib.Seq.{sets, sets-eq, length-sets, slice, length-take-le, take-at, drop-at, take-set-le, drop-set-lt, drop-cons, getD-take}
-use Rattle.theory.specs.Grammar.{leafOf}
+use Rattle.theory.specs.Inner.Leaves.{put, leafOf}
 use Rattle.theory.specs.Term.{Tree, Terms}
-use Rattle.theory.proofs.Leaves.{put}
 use Rattle.formats.specs.Alphabets.{Leaf}
 use Rattle.formats.specs.Code.{code, flat, flats}
 use Rattle.formats.specs.Inner.Layout.{markAt, pairs}

@@ -8,14 +8,16 @@ use mathlib.Core.Path.{_≡_, refl, sym, ap, _∙_, subst}
 use lib.ListN.{length, getD, take, drop, length-replicate, length-drop, drop-of-length-le}
 use lib.Seq.{sets, slice, length-slice, take-all}
 use Rattle.theory.specs.Grammar.{Grammar, Allowed}
-use Rattle.theory.specs.Size.{Slim, size, levels}
+use Rattle.theory.specs.Inner.Leaves.{put}
+use Rattle.theory.specs.Inner.Slim.{Slim}
+use Rattle.theory.specs.Size.{size, levels}
 use Rattle.theory.specs.Term.{Term, Tree, none, more, bind, symbolAt, root}
 use Rattle.theory.specs.Transducer.{Transducer, translate, output}
 use Rattle.theory.specs.Vars.{AllVars}
 use Rattle.theory.specs.Wf.{Wf, Fits}
 use Rattle.theory.proofs.Along.{Along, here, along-bind, along-end, along-sub}
 use Rattle.theory.proofs.Clash.{Shown}
-use Rattle.theory.proofs.Leaves.{put, call-put}
+use Rattle.theory.proofs.Leaves.{call-put}
 use Rattle.theory.proofs.Runs.{fill, output-node, translate-fill}
 use Rattle.theory.proofs.Slim.{slim-size}
 use Rattle.theory.proofs.Terms.{root-some}

@@ -11,7 +11,8 @@ use lib.ListN.{length, getD, take}
 use lib.Seq.{getD-drop, getD-take}
 use borrow.Author.Tests.{ltb-true, lt-ltb, le-ltb, le-leb, ne-eqb}
 use Rattle.theory.specs.EarliestForm.{opened, expand}
-use Rattle.theory.specs.Prefix.{Pattern, Patterns}
+use Rattle.theory.specs.Lcp.{Patterns}
+use Rattle.theory.specs.Prefix.{Pattern}
 use Rattle.theory.specs.Term.{Term, var, node, Terms, none, more, count, bind, mapT}
 use Rattle.theory.specs.Transducer.{renamed}
 use Rattle.theory.specs.Vars.{AllVars}

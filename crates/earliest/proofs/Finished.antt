@@ -9,7 +9,8 @@ use mathlib.Core.Option.{some}
 use lib.ListN.{length, getD, getElem?}
 use Rattle.theory.specs.Discovered.{ReadStates, read-initial, read-state, Discovered}
 use Rattle.theory.specs.Grammar.{Grammar}
-use Rattle.theory.specs.Listing.{Indexes, Listed, Closed, listed}
+use Rattle.theory.specs.Inner.Closed.{Listed, Closed}
+use Rattle.theory.specs.Listing.{Indexes, listed}
 use Rattle.theory.specs.NormalForm.{Identical}
 use Rattle.theory.specs.Term.{Term, var, node, Terms, none, more, bind, binds, mapT}
 use Rattle.theory.specs.Transducer.{Transducer, renamed}

@@ -9,7 +9,8 @@ use lib.Dec.{ltb, leb}
 use lib.ListN.{length, getD, drop, take, length-drop, length-append}
 use lib.Seq.{slice, take-at}
 use borrow.Author.Tests.{lt-ltb, le-ltb}
-use Rattle.theory.specs.Prefix.{Patterns, Prefixes, keeps, no-more, also}
+use Rattle.theory.specs.Lcp.{Patterns}
+use Rattle.theory.specs.Prefix.{Prefixes, keeps, no-more, also}
 use Rattle.theory.specs.Term.{var, node, Terms, none, more, count}
 use Rattle.theory.proofs.Terms.{conflict}
 use Rattle.formats.specs.Code.{flat}

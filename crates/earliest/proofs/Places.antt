@@ -13,7 +13,8 @@ use lib.ListN.{length, getD, List·getD-append}
 use lib.Seq.{getD-append-add}
 use borrow.Author.Tests.{lt-ltb, le-ltb}
 use Rattle.theory.specs.EarliestForm.{label, labels}
-use Rattle.theory.specs.Prefix.{Pattern, Patterns, Open, Prefix, any, keeps, Prefixes, no-more, also}
+use Rattle.theory.specs.Lcp.{Patterns}
+use Rattle.theory.specs.Prefix.{Pattern, Open, Prefix, any, keeps, Prefixes, no-more, also}
 use Rattle.theory.specs.Term.{Term, var, node, Terms, none, more, count, bind, binds, mapT, sub, subs}
 use Rattle.theory.proofs.Terms.{sub-here, sub-bind, count-binds}
 use Rattle.formats.specs.Code.{Ranked, AllRanked, flat, flats}

@@ -13,10 +13,11 @@ use borrow.Author.Tests.{lt-ltb, le-ltb, ltb-false}
 use lib.Dec.{ltb}
 use lib.ListN.{length, getD, getElem?, take, set, length-set, length-append, List·getD-append, length-map}
 use lib.Seq.{sets, getD-set-same, getD-set-other, take-suc, take-suc-set, take-all, length-take-le, length-sets, getD-append-add}
+use Rattle.theory.specs.Inner.ReadCalls.{ReadCalls, no-call, one-call}
 use Rattle.theory.specs.Registry.{found, added}
 use Rattle.theory.specs.Term.{Term, var, node, Terms, none, more, bind, binds, mapT}
 use Rattle.theory.specs.Transducer.{renamed}
-use Rattle.theory.proofs.Discovery.{ReadCalls, no-call, one-call, callsOf, callsIn}
+use Rattle.theory.proofs.Discovery.{callsOf, callsIn}
 use Rattle.theory.proofs.Terms.{conflict}
 use Rattle.formats.specs.Code.{Ranked, AllRanked, Call, flat, flats, marks}
 use Rattle.formats.specs.Sheet.{markBytes}

@@ -10,8 +10,9 @@ use mathlib.Core.Option.{some}
 use lib.ListN.{length, getD, getElem?, take, drop}
 use lib.Seq.{length-take-le, slice}
 use Rattle.theory.specs.Discovered.{Read, ReadRhs, no-rhs, read-rhs, ReadStates, read-initial, read-state}
+use Rattle.theory.specs.Inner.ReadCalls.{ReadCalls}
 use Rattle.theory.specs.Term.{Term, var}
-use Rattle.theory.proofs.Discovery.{ReadCalls, calls-read, rhs-extends, states-valid}
+use Rattle.theory.proofs.Discovery.{calls-read, rhs-extends, states-valid}
 use Rattle.theory.proofs.Terms.{bind-var}
 use Rattle.formats.specs.Alphabets.{Leaf}
 use Rattle.formats.specs.Code.{Ranked, Call}

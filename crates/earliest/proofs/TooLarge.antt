@@ -11,11 +11,11 @@ use mathlib.Core.List.{List, []}
 use mathlib.Core.Option.{some}
 use lib.ListN.{length, getD, getElem?}
 use Rattle.theory.specs.Discovered.{read-initial}
+use Rattle.theory.specs.Inner.Follows.{Follows}
+use Rattle.theory.specs.Inner.ReadCalls.{ReadCalls}
 use Rattle.theory.specs.Transducer.{Transducer}
-use Rattle.theory.proofs.Discovery.{ReadCalls}
 use Rattle.theory.proofs.DiscoveryExists.{read}
 use Rattle.theory.proofs.Lists.{get-lt}
-use Rattle.theory.proofs.Trimming.{Follows}
 use Rattle.formats.specs.Alphabets.{Leaf}
 use Rattle.formats.specs.Inner.Decode.{letters, unknown}
 use Rattle.formats.specs.Inner.Layout.{bodyNumber, bodyCount, offset}

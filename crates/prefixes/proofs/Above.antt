@@ -8,8 +8,9 @@ use mathlib.Core.Logic.{_≢_, by-cases}
 use mathlib.Core.Option.{some}
 use mathlib.Core.Path.{_≡_, refl, sym, ap, _∙_}
 use lib.ListN.{length, getD, replicate}
+use Rattle.theory.specs.Inner.Graft.{graft}
 use Rattle.theory.specs.Lcp.{lcp, lcps}
-use Rattle.theory.specs.Pref.{graft, Prefs}
+use Rattle.theory.specs.Pref.{Prefs}
 use Rattle.theory.specs.Prefix.{Pattern, Prefix, any, keeps, Prefixes, no-more, also}
 use Rattle.theory.specs.Term.{Term, Terms, var, bind, binds, mapT}
 use Rattle.theory.specs.Transducer.{Transducer}

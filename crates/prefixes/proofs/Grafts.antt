@@ -13,9 +13,9 @@ use lib.ListN.{length, getD, take, drop, set, length-append, length-set, List·g
 use lib.Seq.{slice, slice-empty, length-slice, length-take-le, getD-take, getD-drop, take-add, drop-at, take-take, take-suc-set, drop-drop, take-append-le, take-append-add, sets, sets-eq, length-sets, getD-set-same, getD-set-other}
 use borrow.Rule.Slice.PartMut.{putMid, postOf, same-len-mid, mid-len, take-put, drop-put}
 use borrow.Author.Tests.{lt-ltb, le-ltb, eqb-true}
-use Rattle.theory.specs.Lcp.{lcp}
-use Rattle.theory.specs.Pref.{graft}
-use Rattle.theory.specs.Prefix.{Pattern, Patterns, Prefix, any, keeps, Prefixes, no-more, also}
+use Rattle.theory.specs.Inner.Graft.{graft}
+use Rattle.theory.specs.Lcp.{lcp, Patterns}
+use Rattle.theory.specs.Prefix.{Pattern, Prefix, any, keeps, Prefixes, no-more, also}
 use Rattle.theory.specs.Term.{Term, var, node, Terms, none, more, count, bind, binds}
 use Rattle.theory.proofs.Lcps.{lcp-left}
 use Rattle.theory.proofs.Prefixes.{prefixes-count}

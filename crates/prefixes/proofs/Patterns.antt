@@ -13,8 +13,7 @@ use lib.ListN.{length, getD, drop, take, set, length-drop, length-set, drop-of-l
 use lib.Seq.{drop-drop, drop-set-lt, set-getD, take-suc-set}
 use borrow.Author.Tests.{ltb-true, ltb-false, lt-ltb, le-ltb, leb-true, eqb-true}
 use Rattle.theory.specs.Term.{var, node, Terms, none, more, count}
-use Rattle.theory.specs.Prefix.{Patterns}
-use Rattle.theory.specs.Lcp.{lcp, lcps}
+use Rattle.theory.specs.Lcp.{lcp, lcps, Patterns}
 use Rattle.theory.proofs.Lcps.{lcp-keeps, lcp-cuts}
 use Rattle.theory.proofs.Terms.{conflict}
 use Rattle.formats.specs.Code.{flat, flats}

@@ -8,36 +8,18 @@ use mathlib.Core.Path.{_≡_, refl, ap}
 use lib.ListN.{getD}
 use Rattle.theory.specs.Earliest.{Splits}
 use Rattle.theory.specs.Grammar.{Grammar, Allowed, rule, AllAllowed, end, next}
+use Rattle.theory.specs.Lcp.{Patterns}
 use Rattle.theory.specs.Pref.{IsPref}
-use Rattle.theory.specs.Prefix.{Prefix, any, keeps, no-more, also, Pattern, Patterns, Open}
+use Rattle.theory.specs.Prefix.{Prefix, any, keeps, no-more, also, Pattern, Open}
 use Rattle.theory.specs.Term.{Term, var, node, Terms, none, more, Tree, bind, count, sub, subs, root, symbolAt}
 use Rattle.theory.specs.Transducer.{Transducer, output, closed, run, pick}
 use Rattle.theory.proofs.Terms.{conflict, subs-zero}
 use Rattle.formats.specs.Alphabets.{inputs, outputs, Leaf}
 use Rattle.formats.specs.Code.{Ranked, flat, Call}
+use Rattle.formats.specs.Samples.{pairs, M, d, e, M-pref}
 use Rattle.formats.specs.Sheet.{Sheet, countBytes, markBytes, bodyBytes, each, terms}
 use Rattle.transducer.proofs.Samples.{below, leaf}
 use Rattle.prefixes.specs.Alphabet.{alphabet, childrenOf}
-
--- ---- the files
--- two input symbols, a with two children and the leaf e; two output symbols, d with two children and the leaf e
-abbrev pub pairs : List ℕ
-pairs = 2 ∷ 2 ∷ 0 ∷ 2 ∷ 2 ∷ 0 ∷ []
-
--- initial term q(x); q(a(x, y)) = d(q(x), d(q(x), e)), q(e) = d(d(e, e), d(e, e))
-abbrev pub M : List ℕ
-M = 1 ∷ 0 ∷ 1 ∷ 0 ∷ 5 ∷ 0 ∷ 7 ∷ 1 ∷ 0 ∷ 0 ∷ 0 ∷ 1 ∷ 0 ∷ 0 ∷ 0 ∷ 1 ∷ 0 ∷ 0 ∷ 1 ∷ 0 ∷ 0 ∷ 0 ∷ 0 ∷ 0 ∷ 1 ∷ 0 ∷ 1 ∷ 0 ∷ 0 ∷ 0 ∷ 1 ∷ 0 ∷ 1 ∷ []
-
--- d(s, t) and e, as output terms
-abbrev pub d : {A : Type 0} → Term A → Term A → Term A
-d s t = node 0 (more s (more t none))
-
-abbrev pub e : {A : Type 0} → Term A
-e = node 1 none
-
--- pref(q) is d(d(⊤, ⊤), d(⊤, e))
-abbrev pub M-pref : Pattern
-M-pref = d (d (var tt) (var tt)) (d (var tt) e)
 
 -- ---- P holds of each address where the pattern has ⊤: so of whatever address is open
 abbrev mutual

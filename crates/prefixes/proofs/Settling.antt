@@ -11,8 +11,10 @@ use mathlib.Core.Path.{_≡_, refl, sym, ap, _∙_, fun-ext}
 use lib.ListN.{length, getD}
 use borrow.Author.Count.{below-more}
 use Rattle.theory.specs.EarliestForm.{expand, opened}
+use Rattle.theory.specs.Inner.Graft.{graft}
+use Rattle.theory.specs.Inner.Total.{total}
 use Rattle.theory.specs.Lcp.{lcp}
-use Rattle.theory.specs.Pref.{graft, Prefs}
+use Rattle.theory.specs.Pref.{Prefs}
 use Rattle.theory.specs.Prefix.{Pattern}
 use Rattle.theory.specs.Size.{size}
 use Rattle.theory.specs.Term.{var}
@@ -21,7 +23,7 @@ use Rattle.theory.specs.Wf.{Wf}
 use Rattle.theory.proofs.Cut.{lcp-graft}
 use Rattle.theory.proofs.Lcps.{lcp-left}
 use Rattle.theory.proofs.Prefixes.{prefix-trans}
-use Rattle.theory.proofs.PrefsExist.{total, total-falls}
+use Rattle.theory.proofs.PrefsExist.{total-falls}
 use Rattle.theory.proofs.Sizes.{lcp-same, lcp-smaller}
 use Rattle.theory.proofs.Terms.{conflict}
 use Rattle.formats.specs.Alphabets.{Leaf}

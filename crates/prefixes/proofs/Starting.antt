@@ -9,7 +9,7 @@ use mathlib.Core.Path.{_≡_, refl, sym, ap, _∙_}
 use lib.ListN.{length, getD, take, drop, length-map, length-set}
 use lib.Seq.{slice, slice-empty, length-slice, length-take-le, take-at, drop-at, take-take, take-append-le, sets, sets-eq, length-sets, getD-set-same, getD-set-other}
 use borrow.Author.Count.{below-more}
-use Rattle.theory.specs.Pref.{graft}
+use Rattle.theory.specs.Inner.Graft.{graft}
 use Rattle.theory.specs.Term.{var, mapT}
 use Rattle.theory.proofs.Cut.{cut-start, forget-self}
 use Rattle.theory.proofs.Prefs.{common-above}

@@ -2,13 +2,12 @@
 use Prim.Native.Nat.{ℕ, _<_}
 use mathlib.Core.Bool.{Bool, true, false}
 use mathlib.Core.List.{List}
-use mathlib.Core.Option.{Option, some, none as nothing}
+use mathlib.Core.Option.{Option, some, none as nothing, Option·none-ne-some}
 use mathlib.Core.Path.{_≡_, refl, ap, _∙_}
 use lib.Dec.{ltb}
 use lib.ListN.{length, getD, replicate}
 use borrow.Author.Tests.{ltb-true, lt-ltb}
 use Rattle.theory.specs.Grammar.{Grammar}
-use Rattle.theory.proofs.Terms.{conflict}
 use Rattle.formats.specs.Alphabets.{Leaf}
 
 abbrev pub sortsIf : Bool → ℕ → Option (List ℕ)
@@ -25,7 +24,7 @@ children-inside ins a {sorts} e = go (ltb a (length ins)) refl e
   where
     go : (b : Bool) → ltb a (length ins) ≡ b → sortsIf b (getD ins a 0) ≡ some sorts → (a < length ins) × (sorts ≡ replicate (getD ins a 0) 0)
     go true h e = (ltb-true _ _ h, (cc))
-    go false h e = conflict (cc)
+    go false h e = absurd (Option·none-ne-some _ e)
 
 -- and all of them are
 pub children-of : (ins : List ℕ) (a : ℕ) → a < length ins → childrenOf ins a ≡ some (replicate (getD ins a 0) 0)

@@ -6,7 +6,8 @@ use mathlib.Core.List.{List, [], _∷_, List·Memᴰ, List·Memᴰ·head, List·
 use mathlib.Core.Logic.{_↔_, ⊎-elim}
 use mathlib.Core.Option.{some, Option, none as nothing}
 use mathlib.Core.Path.{_≡_, refl, sym, ap, subst, _∙_}
-use Rattle.theory.specs.Registry.{Entry, accepted, refused, History, begun, entered, Keeps}
+use Rattle.theory.specs.Inner.Keeps.{Keeps, Entry, accepted, refused}
+use Rattle.theory.specs.Registry.{History, begun, entered}
 use Rattle.theory.proofs.Registry.{numbers-exact}
 use Rattle.theory.proofs.Terms.{conflict}
 use Rattle.canonical.specs.Answers.{SewAlike}

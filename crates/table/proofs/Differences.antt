@@ -8,8 +8,9 @@ use Rattle.theory.specs.Term.{bind, count, sub, root, symbolAt}
 use Rattle.theory.specs.Transducer.{translate, output, closed, run, pick}
 use Rattle.formats.specs.Alphabets.{inputs, outputs}
 use Rattle.formats.specs.Code.{Ranked, flat, code}
-use Rattle.transducer.proofs.Samples.{S, T, T-machine, T-sheet, twice, line, leaf}
-use Rattle.canonical.proofs.Samples.{U, U-sheet, one-state, once, late, f}
+use Rattle.formats.specs.Samples.{S, T, U}
+use Rattle.transducer.proofs.Samples.{T-machine, T-sheet, twice, line, leaf}
+use Rattle.canonical.proofs.Samples.{U-sheet, one-state, once, late, f}
 use Rattle.comparison.specs.Answers.{Difference}
 use Rattle.table.specs.Table.{DifferOn}
 

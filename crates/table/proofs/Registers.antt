@@ -8,11 +8,12 @@ use mathlib.Core.Path.{_≡_, refl, sym, ap, ap₂, _∙_}
 use lib.ListN.{length, getD}
 use Rattle.theory.specs.Registry.{begun, entered}
 use Rattle.formats.specs.Refusal.{Holds}
-use Rattle.transducer.proofs.Samples.{S, T, S-alphabets, T-sheet}
+use Rattle.formats.specs.Samples.{S, T, T′, U, U-clean}
+use Rattle.transducer.proofs.Samples.{S-alphabets, T-sheet}
 use Rattle.earliest.specs.Answers.{EarliestFile}
 use Rattle.canonical.proofs.Laws.{clean-accepted}
 use Rattle.canonical.proofs.SampleTrimmed.{T′-trims, U-trims}
-use Rattle.canonical.proofs.Samples.{T-cleans, T′, T′-cleans, U, U-clean, U-cleans}
+use Rattle.canonical.proofs.Samples.{T-cleans, T′-cleans, U-cleans}
 use Rattle.registry.specs.Answers.{Lowest, NotHeld, Room, Known, Added}
 use Rattle.registry.specs.Book.{body, Chained}
 use Rattle.registry.specs.declared.book.Record.{Record}

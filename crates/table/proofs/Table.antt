@@ -10,20 +10,21 @@ use Rattle.theory.specs.Term.{Tree}
 use Rattle.formats.specs.Alphabets.{Alphabets, alphabetCheck}
 use Rattle.formats.specs.Code.{code}
 use Rattle.formats.specs.Refusal.{done, Holds}
+use Rattle.formats.specs.Samples.{S, T, pairs, M, M-pref, leaf-file, T′, U}
 use Rattle.formats.specs.Sheet.{file, sheetCheck}
 use Rattle.formats.proofs.Sheets.{sheet-counted}
 use Rattle.formats.specs.Tree.{treeCheck}
 use Rattle.transducer.specs.Answers.{translated, roomCheck}
 use Rattle.transducer.specs.Output.{Output}
 use Rattle.transducer.proofs.Laws.{must-translate}
-use Rattle.transducer.proofs.Samples.{S, T, S-alphabets, T-machine, T-sheet, T-not-linear, leaf-design, chain-design, T-output, on-leaf, on-chain, room-chain}
-use Rattle.prefixes.proofs.Samples.{pairs, M, M-pref, M-machine, M-sheet, M-is-pref}
+use Rattle.transducer.proofs.Samples.{S-alphabets, T-machine, T-sheet, T-not-linear, leaf-design, chain-design, T-output, on-leaf, on-chain, room-chain}
+use Rattle.prefixes.proofs.Samples.{M-machine, M-sheet, M-is-pref}
 use Rattle.earliest.specs.Answers.{EarliestFile}
 use Rattle.canonical.specs.Answers.{NormalFile}
 use Rattle.canonical.proofs.Laws.{clean-accepted}
 use Rattle.canonical.proofs.SampleM.{M-cleans, M-trims}
 use Rattle.canonical.proofs.SampleTrimmed.{T′-trims, U-trims}
-use Rattle.canonical.proofs.Samples.{leaf-file, leaf-cleans, T-cleans, T-marks, T′, T′-cleans, U, U-cleans}
+use Rattle.canonical.proofs.Samples.{leaf-cleans, T-cleans, T-marks, T′-cleans, U-cleans}
 use Rattle.table.specs.Table.{Row, translates, fits, not-linear, prefix, cleans, normal, earliest, registers, Clean, Says, rows}
 use Rattle.table.proofs.Differences.{T-U-differ}
 use Rattle.table.proofs.Registers.{possible, three-registered}

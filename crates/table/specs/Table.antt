@@ -11,19 +11,16 @@ use Rattle.theory.specs.Transducer.{Transducer}
 use Rattle.formats.specs.Alphabets.{Alphabets, Leaf, inputs, outputs, alphabetCheck}
 use Rattle.formats.specs.Code.{code}
 use Rattle.formats.specs.Refusal.{accepted, done, Holds}
+use Rattle.formats.specs.Samples.{pairs, M, M-pref}
 use Rattle.formats.specs.Sheet.{Sheet, file, sheetCheck}
 use Rattle.formats.specs.Tree.{treeCheck}
 use Rattle.transducer.specs.Answers.{translated, roomCheck, Translates}
 use Rattle.transducer.specs.declared.translate.Translation.{Translation}
 use Rattle.transducer.specs.Linear.{Linear}
 use Rattle.transducer.specs.Output.{Output}
-use Rattle.transducer.proofs.Samples.{S, T}
 use Rattle.prefixes.specs.Alphabet.{alphabet}
-use Rattle.prefixes.proofs.Samples.{pairs, M, M-pref}
 use Rattle.earliest.specs.Answers.{EarliestFile, formCheck}
 use Rattle.canonical.specs.Answers.{NormalFile}
-use Rattle.canonical.proofs.SampleM.{M-clean}
-use Rattle.canonical.proofs.Samples.{leaf-file, T′, U, U-clean}
 use Rattle.comparison.specs.Answers.{Difference}
 use Rattle.registry.specs.Calls.{Book, Entries}
 

@@ -12,20 +12,23 @@ use Rattle.theory.specs.Accessible.{Accessible, coded}
 use Rattle.theory.specs.Discovered.{ReadRhs, ReadStates, Discovered}
 use Rattle.theory.specs.Equivalent.{Equivalent}
 use Rattle.theory.specs.Grammar.{Grammar}
-use Rattle.theory.specs.Listing.{Indexes, Listed, Closed, listed}
+use Rattle.theory.specs.Inner.Closed.{Listed, Closed}
+use Rattle.theory.specs.Inner.Follows.{Follows}
+use Rattle.theory.specs.Listing.{Indexes, listed}
 use Rattle.theory.specs.NormalForm.{Identical}
 use Rattle.theory.specs.Numbered.{Numbered}
 use Rattle.theory.specs.Term.{Term}
 use Rattle.theory.specs.Transducer.{Transducer, renamed}
 use Rattle.theory.specs.Vars.{AllVars}
 use Rattle.theory.specs.Wf.{Wf, Fits}
-use Rattle.theory.proofs.Discovery.{Every, rhs-valid, states-valid, states-distinct, discovered-closed, discovered-numbered, distinct-indexes, indexOf}
+use Rattle.theory.proofs.Discovery.{Every, rhs-valid, states-valid, states-distinct, discovered-closed, distinct-indexes, indexOf}
 use Rattle.theory.proofs.DiscoveryExists.{Finite, discovered-exists}
 use Rattle.theory.proofs.Equivalences.{equivalent-trans}
-use Rattle.theory.proofs.Identity.{identical-refl, identical-sym, identical-trans, identical-wf, identical-equivalent, identical-numbered}
+use Rattle.theory.proofs.Identity.{identical-refl, identical-sym, identical-trans, identical-wf, identical-equivalent}
 use Rattle.theory.proofs.Listings.{all-renamed, listed-sort, listed-rhs, listed-wf, listed-equivalent}
 use Rattle.theory.proofs.Lists.{Extends, get-lt, get-some}
 use Rattle.theory.proofs.Morphism.{Maps, renamed-id}
+use Rattle.theory.proofs.Numbers.{discovered-numbered, identical-numbered}
 use Rattle.theory.proofs.Readings.{get-map, renamed-twice, renamed-ext, states-extend, stage-extends, rhs-mapped, states-mapped, discovered-mapped, listed-identical}
 use Rattle.theory.proofs.Vars.{all-map}
 
@@ -92,13 +95,6 @@ module _ {Q : Type 0} {G : Grammar} {M : Transducer Q} {N : Transducer ℕ} {k :
 -- What is identical to an accessible part of M is one.
 pub accessible-form : {Q : Type 0} {G : Grammar} {M : Transducer Q} {N N′ : Transducer ℕ} {k k′ : ℕ} → Identical G N N′ k k′ → Accessible G M N k → Accessible G M N′ k′
 accessible-form i A = record { states = A .states; number = A .number; numbers = A .numbers; met = A .met; form = identical-trans (identical-sym i) (A .form) }
-
--- N goes on from what is listed: its states below the length of L have the right-hand sides of those of L, renamed
-pub record Follows (G : Grammar) (E : Transducer ℕ) (L : List ℕ) (N : Transducer ℕ) (k : ℕ) : Type 0 where
-  pub name : ℕ → ℕ
-  pub few : length L ≤ k
-  pub initial : N .initial ≡ renamed name (E .initial)
-  pub rhs : (j c b : ℕ) (sorts : List ℕ) → getElem? L j ≡ some c → G .children (E .sort c) b ≡ some sorts → N .rhs j b ≡ renamed name (E .rhs c b)
 
 -- a list that goes on is no shorter
 extends-length : {I : Type 0} {R R′ : List I} → Extends R R′ → length R ≤ length R′

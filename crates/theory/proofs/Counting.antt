@@ -1,7 +1,7 @@
 -- The number of nodes with a symbol in an output tree, from the multiplicities of the states at the nodes of the input tree.
 use Prim.Native.Nat.{ℕ, suc, _+_, _*_, _≤_, _<_}
 use native.Mathlib.Decide.{ℕ-discrete, decLt}
-use native.Mathlib.Nat.{mul-add, add-mul, mul-zero, zero-mul, one-mul, mul-one, mul-comm, mul-assoc, mul-le-mul-left, le-mul-of-pos-right}
+use native.Mathlib.Nat.{mul-add, mul-zero, zero-mul, one-mul, mul-comm, mul-assoc, le-mul-of-pos-right}
 use native.Mathlib.Omega.{arith}
 use mathlib.Core.Path.{_≡_, refl, ap, sym, _∙_}
 use mathlib.Core.Logic.{by-cases}
@@ -10,16 +10,17 @@ use mathlib.Core.Option.{some}
 use lib.Dec.{eqb}
 use lib.ListN.{getElem?, length}
 use Rattle.theory.specs.Grammar.{Grammar, Allowed, rule, AllAllowed, end, next}
+use Rattle.theory.specs.Inner.Nodes.{symbol, childAt}
 use Rattle.theory.specs.Multiplicity.{contribution, callsOf, callsOn, passed, overChildren}
 use Rattle.theory.specs.Occurrences.{occurrences, occurrencesIn, total}
 use Rattle.theory.specs.Sum.{sum}
-use Rattle.theory.specs.Term.{Term, var, node, Terms, none, more, Tree, bind, binds, count, symbol, childAt}
-use Rattle.theory.specs.Transducer.{Transducer, output, translate, runs, pick, closed}
+use Rattle.theory.specs.Term.{Term, var, node, Terms, none, more, Tree, bind, binds, count}
+use Rattle.theory.specs.Transducer.{Transducer, output, translate, runs, pick}
 use Rattle.theory.specs.Vars.{AllVars, one, each, EachVars, done, both}
 use Rattle.theory.specs.Weight.{weight, weights, oneIf}
 use Rattle.theory.specs.Wf.{Wf, Fits, nth}
 use Rattle.theory.proofs.OpenRuns.{all-vars}
-use Rattle.theory.proofs.Runs.{call, fill, output-node, by-output, initial-sort}
+use Rattle.theory.proofs.Runs.{call, output-node, by-output, initial-sort}
 use Rattle.theory.proofs.Slim.{allowed-count}
 use Rattle.theory.proofs.Sums.{sum-cong, sum-zero, sum-add, sum-times, sum-by, sum-part, sum-swap, sum-one-part}
 use Rattle.theory.proofs.Terms.{conflict}

@@ -1,31 +1,31 @@
 -- Joined transducers: what the first gives is allowed for the second; the pairs that are met; joining three either way.
 use Prim.Native.Nat.{ℕ, suc, _<_, _≤_}
 use native.Mathlib.Decide.{ℕ-discrete}
-use mathlib.Core.Path.{_≡_, refl, ap, ap₂, sym, _∙_}
+use mathlib.Core.Path.{_≡_, refl, ap, sym, _∙_}
 use mathlib.Core.HLevel.{×-discrete}
 use mathlib.Core.List.{List}
 use mathlib.Core.Option.{some}
 use lib.ListN.{getElem?, length}
-use Rattle.theory.specs.Accessible.{Accessible, coded}
+use Rattle.theory.specs.Accessible.{coded}
 use Rattle.theory.specs.Compose.{assoc, compose}
 use Rattle.theory.specs.Discovered.{ReadRhs, ReadStates, Discovered}
 use Rattle.theory.specs.Equivalent.{Equivalent}
 use Rattle.theory.specs.Grammar.{Grammar, Allowed, rule, AllAllowed, end, next}
+use Rattle.theory.specs.Inner.Follows.{Follows}
 use Rattle.theory.specs.Joined.{OutputsIn, Joined}
 use Rattle.theory.specs.Listing.{Indexes, listed}
 use Rattle.theory.specs.NormalForm.{Identical}
 use Rattle.theory.specs.OpenTrees.{AllowedOpen, blank, rule-open, AllAllowedOpen, end-open, next-open}
-use Rattle.theory.specs.Term.{Term, var, node, Terms, none, more, Tree, bind, binds, mapT}
+use Rattle.theory.specs.Term.{Term, Terms, Tree, bind, binds, mapT}
 use Rattle.theory.specs.Transducer.{Transducer, output, translate, run, runs, pick, renamed}
 use Rattle.theory.specs.Vars.{AllVars, one, each, EachVars, done, both}
 use Rattle.theory.specs.Wf.{Wf, Fits, nth}
-use Rattle.theory.proofs.Accessibility.{accessible-initial, accessible-rhs, accessible-equivalent, accessible-wf, accessible-same, Follows, coded-accessible, coded-follows-stage, coded-follows-states, pairCode, pairName, pair-back}
+use Rattle.theory.proofs.Accessibility.{accessible-initial, accessible-rhs, accessible-equivalent, accessible-wf, accessible-same, coded-accessible, coded-follows-stage, coded-follows-states, pairCode, pairName, pair-back}
 use Rattle.theory.proofs.Composition.{compose-translate, compose-wf}
 use Rattle.theory.proofs.Listings.{all-both}
 use Rattle.theory.proofs.Morphism.{Maps, renamed-id}
 use Rattle.theory.proofs.OpenRuns.{run-vars, run-fits, all-bind}
 use Rattle.theory.proofs.Runs.{by-output, initial-sort}
-use Rattle.theory.proofs.Terms.{bind-cong, conflict}
 use Rattle.theory.proofs.Vars.{all-map, bind-ext}
 
 module _ {A : Type 0} {H : Grammar} {sortOf : A → ℕ} {f : A → Tree} where

@@ -8,10 +8,11 @@ use mathlib.Core.Option.{Option, some, none as nothing, Option·some-injective, 
 use Rattle.theory.specs.Canonical.{Canonical}
 use Rattle.theory.specs.Equivalent.{Equivalent}
 use Rattle.theory.specs.Grammar.{Grammar, Allowed, AllAllowed, rule, end, next}
+use Rattle.theory.specs.Inner.Nodes.{childAt}
 use Rattle.theory.specs.NormalForm.{Identical}
 use Rattle.theory.specs.OneState.{OneState, OneStateOf, Constant, oneState, moved, copies, stepped, Factor}
 use Rattle.theory.specs.Reached.{Called}
-use Rattle.theory.specs.Term.{Term, Terms, var, node, none, bind, mapT, sub, childAt, Tree, symbolAt, root}
+use Rattle.theory.specs.Term.{Term, Terms, var, node, none, bind, mapT, sub, Tree, symbolAt, root}
 use Rattle.theory.specs.Transducer.{Transducer, translate, output}
 use Rattle.theory.specs.Vars.{AllVars, one}
 use Rattle.theory.specs.Wf.{Wf, Fits, nth}

@@ -5,16 +5,18 @@ use mathlib.Core.Path.{_≡_, refl, ap, sym, _∙_}
 use mathlib.Core.Logic.{_⊎_, ⊎-elim, _↔_}
 use mathlib.Core.List.{List, [], _∷_}
 use mathlib.Core.Option.{some}
-use Rattle.theory.specs.Grammar.{Grammar, Allowed, rule, AllAllowed, end, next, leafOf}
+use Rattle.theory.specs.Grammar.{Grammar, Allowed, rule, AllAllowed, end, next}
+use Rattle.theory.specs.Inner.Leaves.{leafOf}
+use Rattle.theory.specs.Inner.Nodes.{childAt}
 use Rattle.theory.specs.Linear.{Once}
 use Rattle.theory.specs.Matched.{At, here, Matched, Demand, Child, called, idle, Children, no-child, one-child, Chosen, Justified, Saturated}
 use Rattle.theory.specs.Preimage.{Preimage, Makes, Made}
 use Rattle.theory.specs.Size.{size, sizes}
-use Rattle.theory.specs.Term.{Term, var, node, Terms, none, more, Tree, bind, childAt}
+use Rattle.theory.specs.Term.{Term, node, Terms, none, more, Tree}
 use Rattle.theory.specs.Transducer.{Transducer, output, translate}
 use Rattle.theory.specs.Vars.{AllVars}
 use Rattle.theory.specs.Weight.{calls}
-use Rattle.theory.specs.Wf.{Wf, Fits, nth}
+use Rattle.theory.specs.Wf.{Wf, nth}
 use Rattle.theory.proofs.Demands.{matched-map, matched-by, matched-at, matched-vars, bind-matched, matched-bind, demand-calls, demand-once, find-demand, matched-subtrees, calls-at}
 use Rattle.theory.proofs.Leaves.{leaf-allowed}
 use Rattle.theory.proofs.Runs.{call, fill, output-node, call-at, by-tree, translate-fill, initial-sort}

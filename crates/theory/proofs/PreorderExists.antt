@@ -7,9 +7,10 @@ use mathlib.Core.List.{List, [], _∷_, _++_}
 use mathlib.Core.Option.{some, Option, none as nothing}
 use lib.ListN.{getElem?, length, length-append}
 use Rattle.theory.specs.Discovered.{read-call}
+use Rattle.theory.specs.Distinct.{Distinct}
 use Rattle.theory.specs.Grammar.{Grammar}
 use Rattle.theory.specs.Preorder.{Visit, visit-old, visit-new, visit-node, Visits, visit-none, visit-more, VisitRhs, no-symbol, skip-symbol, visit-symbol, Preordered}
-use Rattle.theory.specs.Registry.{Distinct, added}
+use Rattle.theory.specs.Registry.{added}
 use Rattle.theory.specs.Term.{Term, var, Terms}
 use Rattle.theory.specs.Transducer.{Transducer}
 use Rattle.theory.specs.Vars.{AllVars, one, each, EachVars, done, both}

@@ -9,7 +9,8 @@ use lib.ListN.{length, length-append}
 use Rattle.theory.specs.Grammar.{Grammar}
 use Rattle.theory.specs.Preorder.{Visit, visit-old, visit-new, visit-node, Visits, visit-none, visit-more, VisitRhs, no-symbol, skip-symbol, visit-symbol, Preordered}
 use Rattle.theory.specs.Discovered.{read-call}
-use Rattle.theory.specs.Registry.{Distinct, added}
+use Rattle.theory.specs.Distinct.{Distinct}
+use Rattle.theory.specs.Registry.{added}
 use Rattle.theory.specs.Rule.{Stands}
 use Rattle.theory.specs.Term.{Term, var, Terms, node, none, more}
 use Rattle.theory.specs.Transducer.{Transducer}
@@ -17,7 +18,8 @@ use Rattle.theory.specs.Vars.{one}
 use Rattle.theory.proofs.Discovery.{callsOf, callsIn, Every, read-every}
 use Rattle.theory.proofs.DiscoveryExists.{pigeon-list}
 use Rattle.theory.proofs.Lists.{enter-distinct}
-use Rattle.theory.proofs.Rules.{finite-below, count-length}
+use Rattle.theory.proofs.Numbers.{count-length}
+use Rattle.theory.proofs.Rules.{finite-below}
 
 -- reading a list of calls depth first
 pub data VisitCalls {Q : Type 0} (G : Grammar) (M : Transducer Q) : List (ℕ × Q) → List Q → List Q → Type 0 where

@@ -8,10 +8,12 @@ use mathlib.Core.List.{List, [], _∷_, _++_, map, map-append}
 use mathlib.Core.Option.{some}
 use lib.ListN.{length}
 use Rattle.theory.specs.Discovered.{read-call}
+use Rattle.theory.specs.Distinct.{Distinct}
 use Rattle.theory.specs.Grammar.{Grammar}
-use Rattle.theory.specs.Listing.{Indexes, Closed, Listed}
+use Rattle.theory.specs.Inner.Closed.{Closed, Listed}
+use Rattle.theory.specs.Listing.{Indexes}
 use Rattle.theory.specs.Preorder.{Visit, visit-old, visit-new, visit-node, Visits, visit-none, visit-more, VisitRhs, no-symbol, skip-symbol, visit-symbol, Preordered}
-use Rattle.theory.specs.Registry.{added, Distinct}
+use Rattle.theory.specs.Registry.{added}
 use Rattle.theory.specs.Rule.{Stands}
 use Rattle.theory.specs.Term.{Term, Terms, var, bind, binds, mapT}
 use Rattle.theory.specs.Transducer.{Transducer, renamed}

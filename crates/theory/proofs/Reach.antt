@@ -1,20 +1,20 @@
 -- The states that are reached: the least set with the states of the initial term that goes with the calls; they are those of the list in the order of first meeting.
-use Prim.Native.Nat.{ℕ, _<_, _≤_}
-use mathlib.Core.Path.{_≡_, refl}
+use Prim.Native.Nat.{ℕ}
+use mathlib.Core.Path.{_≡_}
 use mathlib.Core.Logic.{_↔_}
 use mathlib.Core.List.{List}
 use mathlib.Core.Option.{some}
 use lib.ListN.{getElem?}
 use Rattle.theory.specs.Discovered.{Discovered}
 use Rattle.theory.specs.Grammar.{Grammar}
+use Rattle.theory.specs.Inner.Closed.{Listed, Closed}
 use Rattle.theory.specs.Linear.{Once, Linear}
 use Rattle.theory.specs.Reached.{Reached, by-initial, by-rhs}
-use Rattle.theory.specs.Listing.{Indexes, Listed, Closed}
 use Rattle.theory.specs.Term.{Term}
 use Rattle.theory.specs.Transducer.{Transducer}
 use Rattle.theory.specs.Vars.{AllVars}
 use Rattle.theory.specs.Wf.{Wf, Fits}
-use Rattle.theory.proofs.Discovery.{Every, states-valid, discovered-closed}
+use Rattle.theory.proofs.Discovery.{states-valid}
 use Rattle.theory.proofs.Listings.{all-both}
 use Rattle.theory.proofs.Vars.{all-at, all-map, at-all}
 

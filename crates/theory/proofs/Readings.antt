@@ -9,7 +9,8 @@ use mathlib.Core.Option.{some}
 use lib.ListN.{getElem?, length, length-map}
 use Rattle.theory.specs.Discovered.{Read, read-call, read-node, Reads, read-none, read-more, ReadRhs, no-rhs, skip-rhs, read-rhs, ReadStates, read-initial, read-state, Discovered}
 use Rattle.theory.specs.Grammar.{Grammar}
-use Rattle.theory.specs.Listing.{Indexes, Listed, Closed, listed}
+use Rattle.theory.specs.Inner.Closed.{Listed, Closed}
+use Rattle.theory.specs.Listing.{Indexes, listed}
 use Rattle.theory.specs.NormalForm.{Identical}
 use Rattle.theory.specs.Registry.{Enter, found, added}
 use Rattle.theory.specs.Term.{Term, Terms, bind, binds, mapT, var}

@@ -8,37 +8,39 @@ use mathlib.Core.List.{List, [], _∷_, map, map-id, List·Memᴰ}
 use mathlib.Core.Option.{Option, some, Option·some-injective}
 use lib.ListN.{getElem?, length}
 use Rattle.theory.specs.Canonical.{Canonical}
-use Rattle.theory.specs.Discovered.{Discovered}
-use Rattle.theory.specs.Equivalent.{Equivalent, EquivStates}
+use Rattle.theory.specs.Equivalent.{Equivalent}
 use Rattle.theory.specs.Grammar.{Grammar}
-use Rattle.theory.specs.Listing.{Indexes, Closed, Listed, listed}
-use Rattle.theory.specs.NormalForm.{Identical, NormalForm, CodesForm}
-use Rattle.theory.specs.Numbered.{Numbered}
+use Rattle.theory.specs.Inner.Closed.{Closed, Listed}
+use Rattle.theory.specs.Inner.CodesForm.{CodesForm}
+use Rattle.theory.specs.Inner.Keeps.{Keeps}
+use Rattle.theory.specs.Listing.{Indexes, listed}
+use Rattle.theory.specs.NormalForm.{Identical, NormalForm}
+use Rattle.theory.specs.Numbered.{Numbered, countUp}
 use Rattle.theory.specs.Orders.{firstMeeting}
 use Rattle.theory.specs.Reached.{Reached, by-initial, by-rhs, AllReached}
-use Rattle.theory.specs.Registry.{Keeps, History}
-use Rattle.theory.specs.Rule.{Order, IsRule, Renumbers, countUp, NumberedBy, NormalFormBy, CodesFormBy}
+use Rattle.theory.specs.Registry.{History}
+use Rattle.theory.specs.Rule.{Order, IsRule, Renumbers, NumberedBy, NormalFormBy, CodesFormBy}
 use Rattle.theory.specs.Term.{Term, Terms, var, sub, subs, mapT}
 use Rattle.theory.specs.Transducer.{Transducer, renamed}
 use Rattle.theory.specs.Wf.{Wf}
 use Rattle.theory.proofs.Agree.{EquivValid}
-use Rattle.theory.proofs.Discovery.{Every, indexOf, distinct-indexes, discovered-numbered}
+use Rattle.theory.proofs.Discovery.{Every, distinct-indexes}
 use Rattle.theory.proofs.DiscoveryExists.{pigeon-list}
-use Rattle.theory.proofs.Equivalences.{equivalent-refl, equivalent-sym, equivalent-trans, equiv-trans, equiv-sym}
+use Rattle.theory.proofs.Equivalences.{equivalent-refl, equivalent-sym, equivalent-trans}
 use Rattle.theory.proofs.Existence.{normal-exists}
-use Rattle.theory.proofs.Identity.{identical-sym, identical-trans, identical-equivalent, identical-equiv, identical-numbered, identical-canonical}
-use Rattle.theory.proofs.Listings.{listed-sort, listed-rhs, listed-equivalent, listed-equiv, listed-canonical}
+use Rattle.theory.proofs.Identity.{identical-sym, identical-trans, identical-equivalent, identical-canonical}
+use Rattle.theory.proofs.Listings.{listed-sort, listed-rhs, listed-equivalent, listed-canonical}
 use Rattle.theory.proofs.Lists.{get-lt}
 use Rattle.theory.proofs.Match.{Match, Related, Matches, calls, nodes, nil, cons, match-bind}
 use Rattle.theory.proofs.Morphism.{renamed-id}
-use Rattle.theory.proofs.NormalForms.{normal-again, normal-self}
+use Rattle.theory.proofs.Numbers.{count-get, count-length, own-indexes, own-identical}
 use Rattle.theory.proofs.OpenRuns.{all-vars}
 use Rattle.theory.proofs.Pigeon.{pigeon}
 use Rattle.theory.proofs.Preorders.{stands-listed}
 use Rattle.theory.proofs.Readings.{mapped-identical}
 use Rattle.theory.proofs.Registry.{numbers-exact}
 use Rattle.theory.proofs.Renaming.{renaming}
-use Rattle.theory.proofs.Rules.{count-get, count-length, finite-below, reached-valid, renumbers-maps, meeting-rule}
+use Rattle.theory.proofs.Rules.{finite-below, reached-valid, renumbers-maps, meeting-rule}
 use Rattle.theory.proofs.Terms.{conflict, bind-var}
 use Rattle.theory.proofs.Vars.{at-all}
 
@@ -125,22 +127,6 @@ count-map : (f : ℕ → ℕ) (p : ℕ) (L : List ℕ) → ((k q : ℕ) → getE
 unfolding countUp
 count-map f p [] h = refl
 count-map f p (q ∷ L) h = ap₂ _∷_ (h 0 q refl ∙ omega arith) (count-map f (suc p) L (λ k r e. h (suc k) r e ∙ omega arith))
-
--- each state below n has its own number in 0, 1, …
-own-indexes : (n : ℕ) → Indexes (countUp 0 n) (λ q. q)
-own-indexes n = record { index = λ k q e. let l = get-lt (countUp 0 n) k e in Option·some-injective _ _ (sym e ∙ (count-get 0 n k (omega (arith, count-length 0 n)) ∙ ap some (omega arith))) }
-
--- listed as 0, 1, … a transducer is itself
-own-identical : {G : Grammar} (N : Transducer ℕ) (n : ℕ) → Identical G N (listed N (countUp 0 n) (λ q. q)) n (length (countUp 0 n))
-unfolding listed
-own-identical N n =
-    let here : (p : ℕ) → p < n → getElem? (countUp 0 n) p ≡ some p = λ p l. count-get 0 n p l ∙ ap some (omega arith) in
-    record {
-      number = sym (count-length 0 n);
-      initial = sym (renamed-id (N .initial));
-      sort = λ p l. sym (listed-sort N (countUp 0 n) (λ q. q) p (here p l));
-      rhs = λ p a sorts l k. sym (listed-rhs N (countUp 0 n) (λ q. q) p a (here p l) ∙ renamed-id (N .rhs p a));
-    }
 
 module _ {G : Grammar} {Lists : Order} (R : IsRule G Lists) where
   module _ {M : Transducer ℕ} {n : ℕ} {L : List ℕ} (W : Wf G M (λ q. q < n)) (r : Lists M n L) where
@@ -262,53 +248,10 @@ pub record HasFormBy {Q : Type 0} (G : Grammar) (Lists : Order) (M : Transducer 
   pub states : ℕ
   pub normal : NormalFormBy G Lists M form states
 
-module _ {G : Grammar} {N : Transducer ℕ} {n : ℕ} (C : Canonical G N (λ q. q < n)) where
-  met-indexes : {L : List ℕ} → Discovered G N L → Indexes L (indexOf ℕ-discrete L)
-  met-indexes d = distinct-indexes ℕ-discrete (meeting-rule G .once (C .wf) d)
-
-  -- a list of the states in the order of first meeting has the states of a canonical numbered transducer in their order
-  meeting-own : {L : List ℕ} → Numbered G N n → (d : Discovered G N L) → (length L ≡ n) × ((k q : ℕ) → getElem? L k ≡ some q → q ≡ k)
-  meeting-own {L} m d =
-      let R = meeting-rule G in
-      let I = met-indexes d in
-      let idx = indexOf ℕ-discrete L in
-      let valid : (q : ℕ) → Listed L idx q → q < n = λ q l. rule-valid R (C .wf) d .every (idx q) q l in
-      let c = rule-closed R (C .wf) d I in
-      let F = met-form valid c I d in
-      let i : Identical G N (listed N L idx) n (length L) = normal-again (normal-self C m) F in (
-        sym (i .number),
-        λ k q e.
-            let h : Listed L idx q = rw (I .index k q e) e in
-            let s = listed-equiv (C .wf) I c valid q h in
-            let b : k < n = rw (i .number) (get-lt L k e) in
-            let t = identical-equiv i (C .wf) k b in
-            let s′ : EquivStates G N (listed N L idx) q k = subst (λ j. EquivStates G N (listed N L idx) q j) (I .index k q e) s in
-            C .reduced q k (valid q h) b (equiv-trans s′ (equiv-sym t)),
-      )
-    where
-      met-form : {L : List ℕ} {idx : ℕ → ℕ} → ((q : ℕ) → Listed L idx q → q < n) → Closed G N L idx → Indexes L idx → Discovered G N L → NormalForm G N (listed N L idx) (length L)
-      met-form valid c I d = record {
-        equivalent = listed-equivalent (C .wf) I c valid;
-        canonical = listed-canonical (C .wf) I c valid (λ q l. C .earliest q (valid q l)) (λ p q k l. C .reduced p q (valid p k) (valid q l));
-        numbered = discovered-numbered I d;
-      }
-
-  -- A canonical transducer is numbered in the order of first meeting exactly if it is numbered by rule 1.
-  pub numbered-first : Numbered G N n ↔ NumberedBy (firstMeeting G) N n
-  numbered-first = (
-    λ m. let d = meeting-rule G .some-list N n (C .wf) in let x = meeting-own m (d .1) in subst (Discovered G N) (own-list (d .0) (x .0) (x .1)) (d .1),
-    λ d. identical-numbered (identical-sym (own-identical N n)) (discovered-numbered (own-indexes n) d),
-  )
-    where
-      own-list : (L : List ℕ) → length L ≡ n → ((k q : ℕ) → getElem? L k ≡ some q → q ≡ k) → L ≡ countUp 0 n
-      own-list L e f = sym (map-id L) ∙ (count-map (λ q. q) 0 L (λ k q s. f k q s ∙ omega arith) ∙ ap (countUp 0) e)
-
 -- The normal form of M is its normal form by rule 1.
 pub normal-first : {Q : Type 0} {G : Grammar} {M : Transducer Q} {N : Transducer ℕ} {n : ℕ} → NormalForm G M N n ↔ NormalFormBy G (firstMeeting G) M N n
-normal-first = (
-  λ F. record { equivalent = F .equivalent; canonical = F .canonical; numbered = numbered-first (F .canonical) .0 (F .numbered) },
-  λ F. record { equivalent = F .equivalent; canonical = F .canonical; numbered = numbered-first (F .canonical) .1 (F .numbered) },
-)
+unfolding Numbered
+normal-first = (λ F. record { equivalent = F .equivalent; canonical = F .canonical; numbered = F .numbered }, λ F. record { equivalent = F .equivalent; canonical = F .canonical; numbered = F .numbered })
 
 -- What codes the normal form of M codes its normal form by rule 1.
 pub codes-first : {Q I : Type 0} {G : Grammar} {M : Transducer Q} {Codes : I → Transducer ℕ → ℕ → Type 0} {x : I} → CodesForm G M Codes x ↔ CodesFormBy G (firstMeeting G) M Codes x
@@ -319,7 +262,7 @@ codes-first = (
 
 -- All states of a normal form are reached.
 pub normal-reached : {Q : Type 0} {G : Grammar} {M : Transducer Q} {N : Transducer ℕ} {n : ℕ} → NormalForm G M N n → AllReached G N n
-normal-reached {G = G} F = numbered-reached (meeting-rule G) (F .canonical .wf) (numbered-first (F .canonical) .0 (F .numbered))
+normal-reached {G = G} F = numbered-reached (meeting-rule G) (F .canonical .wf) (normal-first .0 F .numbered)
 
 -- The normal form of M, listed by a rule, is its normal form by that rule.
 pub normal-by : {Q : Type 0} {G : Grammar} {Lists : Order} (R : IsRule G Lists) {M : Transducer Q} {N : Transducer ℕ} {n : ℕ} {L : List ℕ} {idx : ℕ → ℕ} → NormalForm G M N n → Lists N n L → Indexes L idx → NormalFormBy G Lists M (listed N L idx) (length L)

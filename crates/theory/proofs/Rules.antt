@@ -1,40 +1,28 @@
 -- Rule 1, the order of first meeting, and rule 2, the depth-first order, are numbering rules.
-use Prim.Native.Nat.{ℕ, _<_, suc, _+_}
+use Prim.Native.Nat.{ℕ, _<_, suc}
 use native.Mathlib.Decide.{ℕ-discrete}
 use native.Mathlib.Omega.{arith}
-use mathlib.Core.Path.{_≡_, refl, ap, _∙_}
+use mathlib.Core.Path.{ap, _∙_}
 use mathlib.Core.List.{List}
 use mathlib.Core.Option.{some}
-use lib.ListN.{getElem?, length}
 use Rattle.theory.specs.Discovered.{Discovered}
 use Rattle.theory.specs.Grammar.{Grammar}
-use Rattle.theory.specs.Listing.{Closed, Listed}
+use Rattle.theory.specs.Inner.Closed.{Closed, Listed}
+use Rattle.theory.specs.Numbered.{countUp}
 use Rattle.theory.specs.Orders.{firstMeeting, depthFirst, orderOf}
 use Rattle.theory.specs.Preorder.{Preordered}
 use Rattle.theory.specs.Reached.{Reached, by-initial, by-rhs}
-use Rattle.theory.specs.Rule.{IsRule, Renumbers, Stands, countUp}
+use Rattle.theory.specs.Rule.{IsRule, Renumbers, Stands}
 use Rattle.theory.specs.Transducer.{Transducer}
 use Rattle.theory.specs.Wf.{Wf}
 use Rattle.theory.proofs.Discovery.{states-valid, states-distinct, discovered-closed, distinct-indexes, indexOf}
 use Rattle.theory.proofs.DiscoveryExists.{Finite, discovered-exists}
 use Rattle.theory.proofs.Morphism.{Maps}
+use Rattle.theory.proofs.Numbers.{count-get}
 use Rattle.theory.proofs.PreorderExists.{preordered-exists}
 use Rattle.theory.proofs.Preorders.{visit-same, preordered-closed, preordered-distinct, preordered-valid, preordered-mapped}
 use Rattle.theory.proofs.Readings.{discovered-unique, discovered-mapped}
 use Rattle.theory.proofs.Vars.{all-at, at-all}
-
--- the k-th number from p on is p + k
-pub count-get : (p n k : ℕ) → k < n → getElem? (countUp p n) k ≡ some (p + k)
-unfolding countUp
-count-get p ℕ.zero k l = absurd (omega arith)
-count-get p (suc n) ℕ.zero l = ap some (omega arith)
-count-get p (suc n) (suc k) l = count-get (suc p) n k (omega arith) ∙ ap some (omega arith)
-
--- there are n of them
-pub count-length : (p n : ℕ) → length (countUp p n) ≡ n
-unfolding countUp
-count-length p ℕ.zero = refl
-count-length p (suc n) = ap suc (count-length (suc p) n)
 
 -- the states below n are finitely many
 pub finite-below : (n : ℕ) → Finite (λ q. q < n) (countUp 0 n)

@@ -23,13 +23,13 @@ use Rattle.theory.specs.Trimmed.{Trimmed}
 use Rattle.theory.specs.Vars.{AllVars}
 use Rattle.theory.specs.Wf.{Wf}
 use Rattle.theory.proofs.Accessibility.{accessible-by, follows-stage, follows-states}
-pub use Rattle.theory.proofs.Accessibility.{Follows}
-use Rattle.theory.proofs.Discovery.{discovered-numbered}
+use Rattle.theory.specs.Inner.Follows.{Follows}
 use Rattle.theory.proofs.EarlyForm.{early-wf}
 use Rattle.theory.proofs.Equivalences.{equivalent-trans, equiv-splits}
-use Rattle.theory.proofs.Identity.{identical-sym, identical-trans, identical-wf, identical-equiv, identical-equivalent, identical-earliest, identical-numbered}
+use Rattle.theory.proofs.Identity.{identical-sym, identical-trans, identical-wf, identical-equiv, identical-equivalent, identical-earliest}
 use Rattle.theory.proofs.Morphism.{Maps, renamed-id}
 use Rattle.theory.proofs.NormalForms.{early-listed-equivalent, early-listed-wf, early-listed-earliest}
+use Rattle.theory.proofs.Numbers.{discovered-numbered, identical-numbered}
 use Rattle.theory.proofs.Prefs.{pref-unique}
 use Rattle.theory.proofs.Readings.{discovered-mapped, listed-identical}
 use Rattle.theory.proofs.Vars.{all-map, bind-ext}

@@ -3,7 +3,8 @@ use Prim.Native.Nat.{ℕ, suc, _+_, _<_}
 use mathlib.Core.Path.{_≡_}
 use mathlib.Core.List.{List, [], _∷_}
 use mathlib.Core.Option.{some}
-use Rattle.theory.specs.Grammar.{Grammar, leafOf}
+use Rattle.theory.specs.Grammar.{Grammar}
+use Rattle.theory.specs.Inner.Leaves.{leafOf}
 use Rattle.theory.specs.Size.{size}
 use Rattle.theory.specs.Term.{Term, var, node, Terms, none, more, Tree}
 use Rattle.theory.specs.Transducer.{Transducer}

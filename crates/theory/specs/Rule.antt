@@ -1,15 +1,16 @@
 -- Numbering rules (02, F-12): a rule lists each reached state exactly once, and would list the same states in the same order if their old numbers were changed.
-use Prim.Native.Nat.{ℕ, _<_, suc}
+use Prim.Native.Nat.{ℕ, _<_}
 use mathlib.Core.Path.{_≡_}
 use mathlib.Core.Logic.{_↔_}
-use mathlib.Core.List.{List, [], _∷_, map}
+use mathlib.Core.List.{List, map}
 use mathlib.Core.Option.{some}
 use lib.ListN.{getElem?}
 use Rattle.theory.specs.Canonical.{Canonical}
+use Rattle.theory.specs.Distinct.{Distinct}
 use Rattle.theory.specs.Equivalent.{Equivalent}
 use Rattle.theory.specs.Grammar.{Grammar}
+use Rattle.theory.specs.Numbered.{countUp}
 use Rattle.theory.specs.Reached.{Reached}
-use Rattle.theory.specs.Registry.{Distinct}
 use Rattle.theory.specs.Transducer.{Transducer, renamed}
 use Rattle.theory.specs.Wf.{Wf}
 
@@ -40,11 +41,6 @@ pub record IsRule (G : Grammar) (Lists : Order) : Type 0 where
   pub once : {M : Transducer ℕ} {n : ℕ} {L : List ℕ} → Wf G M (λ q. q < n) → Lists M n L → Distinct L
   -- with other numbers the same states stand there in the same order
   pub same-order : {M M′ : Transducer ℕ} {n : ℕ} {f : ℕ → ℕ} {L : List ℕ} → Wf G M (λ q. q < n) → Renumbers G M M′ n f → Lists M n L → Lists M′ n (map f L)
-
--- the k numbers from p on, in their order
-unfoldable pub countUp : ℕ → ℕ → List ℕ
-countUp p ℕ.zero = []
-countUp p (suc k) = p ∷ countUp (suc p) k
 
 -- M, with the states below n, is numbered by the rule: its list is 0, 1, …, n - 1
 abbrev pub NumberedBy : Order → Transducer ℕ → ℕ → Type 0

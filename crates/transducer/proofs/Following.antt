@@ -11,7 +11,8 @@ use lib.Dec.{leb}
 use lib.ListN.{length, getD, drop, take, drop-of-length-le}
 use lib.Seq.{drop-cons, length-take-le}
 use borrow.Author.Tests.{leb-true}
-use Rattle.theory.specs.Term.{Symbol, Tree, Term, var, node, Terms, none, more, count, bind, binds, childAt, sub, subs, root, symbolAt}
+use Rattle.theory.specs.Inner.Nodes.{childAt}
+use Rattle.theory.specs.Term.{Symbol, Tree, Term, var, node, Terms, none, more, count, bind, binds, sub, subs, root, symbolAt}
 use Rattle.theory.specs.Transducer.{Transducer, output, translate, run, pick}
 use Rattle.theory.specs.Vars.{AllVars}
 use Rattle.theory.proofs.Runs.{output-node, call-at, call as called-tree}

@@ -10,19 +10,11 @@ use Rattle.theory.specs.Term.{Term, var, node, none, more, Tree, bind, count}
 use Rattle.theory.specs.Transducer.{Transducer, translate, output, closed, run, pick}
 use Rattle.formats.specs.Alphabets.{Alphabets, stock, inputs, outputs}
 use Rattle.formats.specs.Code.{Ranked, flat, code, Call}
+use Rattle.formats.specs.Samples.{S, T}
 use Rattle.formats.specs.Sheet.{Sheet, countBytes, markBytes, bodyBytes, each, terms}
 use Rattle.formats.specs.Tree.{InputTree}
 use Rattle.transducer.specs.Linear.{Linear, calls}
 use Rattle.transducer.specs.Output.{Output}
-
--- ---- the files
--- two input symbols, a with one child and the leaf e; two output symbols, f with two children and the leaf e
-abbrev pub S : List ℕ
-S = 2 ∷ 1 ∷ 0 ∷ 2 ∷ 2 ∷ 0 ∷ []
-
--- initial term f(q(x), q(x)); q(a(x)) = f(q(x), q(x)), q(e) = e
-abbrev pub T : List ℕ
-T = 1 ∷ 0 ∷ 3 ∷ 0 ∷ 3 ∷ 0 ∷ 1 ∷ 0 ∷ 0 ∷ 1 ∷ 0 ∷ 1 ∷ 0 ∷ 0 ∷ 0 ∷ 1 ∷ 0 ∷ 1 ∷ 0 ∷ 0 ∷ 1 ∷ []
 
 -- ---- P holds of 0, of 1, .. and of n - 1: so of each number below n
 abbrev pub Each : ℕ → (ℕ → Type 0) → Type 0

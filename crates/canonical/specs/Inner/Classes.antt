@@ -4,9 +4,9 @@ use mathlib.Core.List.{List, [], _∷_, map}
 use mathlib.Core.Path.{_≡_}
 use lib.ListN.{length, getD}
 use Rattle.theory.specs.Earliest.{Earliest}
+use Rattle.theory.specs.Inner.Exact.{Exact}
 use Rattle.theory.specs.Quotient.{Classes}
 use Rattle.theory.specs.Wf.{Wf}
-use Rattle.theory.proofs.Classes.{Exact}
 use Rattle.formats.specs.Alphabets.{Leaf}
 use Rattle.formats.specs.Code.{Mark}
 use Rattle.formats.specs.Inner.Layout.{markAt, bodyNumber, bodyCount}

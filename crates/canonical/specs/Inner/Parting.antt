@@ -7,8 +7,8 @@ use mathlib.Core.Logic.{_⊎_}
 use mathlib.Core.Path.{_≡_}
 use lib.ListN.{length, set}
 use Rattle.theory.specs.Earliest.{Earliest}
+use Rattle.theory.specs.Inner.Exact.{Respects}
 use Rattle.theory.specs.Wf.{Wf}
-use Rattle.theory.proofs.Bisimulation.{Respects}
 use Rattle.formats.specs.Alphabets.{Leaf}
 use Rattle.formats.specs.Inner.Layout.{bodyCount, Laid}
 use Rattle.prefixes.specs.Alphabet.{alphabet}
@@ -179,7 +179,7 @@ pub record Continues (callers old new reps old′ dirty′ reps′ list′ : Lis
 -- ---- all rounds
 -- equivalent states are in one class, if the transducer is well-formed and earliest
 pub record Respecting (ins starts bytes : List ℕ) (n : ℕ) (classes : List ℕ) : Type 0 where
-  pub each : (outs : List ℕ) (l : Leaf ins) → Layout ins outs starts bytes n → (W : Wf (alphabet ins l) (machine ins outs starts bytes n) (λ q. q < n)) → (E : Earliest (alphabet ins l) (machine ins outs starts bytes n) (λ q. q < n)) → Respects W E (λ q. at classes q)
+  pub each : (outs : List ℕ) (l : Leaf ins) → Layout ins outs starts bytes n → (W : Wf (alphabet ins l) (machine ins outs starts bytes n) (λ q. q < n)) → (E : Earliest (alphabet ins l) (machine ins outs starts bytes n) (λ q. q < n)) → Respects (alphabet ins l) (machine ins outs starts bytes n) (λ q. q < n) (λ q. at classes q)
 
 -- the states of one class have the same right-hand sides up to classes too
 pub record Stable (ins starts bytes : List ℕ) (n : ℕ) (classes : List ℕ) : Type 0 where

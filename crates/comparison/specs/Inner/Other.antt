@@ -6,10 +6,10 @@ use mathlib.Core.Logic.{_≢_}
 use mathlib.Core.Path.{_≡_}
 use lib.Dec.{eqb}
 use lib.ListN.{length, getD, set}
-use Rattle.theory.specs.Term.{symbol}
+use Rattle.theory.specs.Inner.Nodes.{symbol}
+use Rattle.theory.specs.Inner.OtherRoot.{Sound, Complete, Falls}
+use Rattle.theory.specs.Sum.{sum}
 use Rattle.theory.specs.Transducer.{output}
-use Rattle.theory.proofs.Bounded.{sum}
-use Rattle.theory.proofs.OtherRoot.{Sound, Complete, Falls}
 use Rattle.formats.specs.Alphabets.{Leaf}
 use Rattle.formats.specs.Code.{Mark}
 use Rattle.formats.specs.Inner.Layout.{markAt, bodyNumber}

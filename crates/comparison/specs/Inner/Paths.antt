@@ -3,9 +3,9 @@ use Prim.Native.Nat.{ℕ, suc}
 use mathlib.Core.List.{List, [], _∷_, _++_}
 use lib.ListN.{getD, replicate}
 use Rattle.theory.specs.Grammar.{Grammar}
+use Rattle.theory.specs.Inner.Leaves.{put}
 use Rattle.theory.specs.Term.{Term, Tree, node}
 use Rattle.theory.specs.Transducer.{Transducer}
-use Rattle.theory.proofs.Leaves.{put}
 use Rattle.comparison.specs.Inner.Pairs.{pairLeft, pairRight, pairParent, pairSymbol, pairMark, pairChild}
 use Rattle.earliest.specs.Inner.Places.{place}
 

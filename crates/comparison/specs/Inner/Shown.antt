@@ -4,9 +4,8 @@ use mathlib.Core.List.{List, [], _∷_}
 use mathlib.Core.Path.{_≡_}
 use lib.ListN.{length, getD, take, replicate}
 use lib.Seq.{sets, slice}
-use Rattle.theory.specs.Grammar.{leafOf}
+use Rattle.theory.specs.Inner.Leaves.{put, leafOf}
 use Rattle.theory.specs.Term.{Tree, node}
-use Rattle.theory.proofs.Leaves.{put}
 use Rattle.formats.specs.Alphabets.{Ranks, Leaf}
 use Rattle.formats.specs.Code.{Mark, code}
 use Rattle.formats.specs.Inner.Decode.{forest, first, Whole}

@@ -8,10 +8,10 @@ use lib.ListN.{length, getD, getElem?, set}
 use lib.Seq.{sets}
 use Rattle.theory.specs.Discovered.{ReadStates, ReadRhs}
 use Rattle.theory.specs.Grammar.{Grammar}
+use Rattle.theory.specs.Inner.Follows.{Follows}
+use Rattle.theory.specs.Inner.ReadCalls.{ReadCalls}
 use Rattle.theory.specs.Term.{Term}
 use Rattle.theory.specs.Transducer.{Transducer}
-use Rattle.theory.proofs.Discovery.{ReadCalls}
-use Rattle.theory.proofs.Trimming.{Follows}
 use Rattle.formats.specs.Alphabets.{Leaf}
 use Rattle.formats.specs.Inner.Layout.{bodyNumber}
 use Rattle.formats.specs.Inner.Marked.{part}

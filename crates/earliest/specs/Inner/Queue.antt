@@ -7,7 +7,7 @@ use mathlib.Core.Path.{_≡_}
 use lib.Dec.{ltb}
 use lib.ListN.{length, getD, take}
 use lib.Seq.{sets}
-use Rattle.theory.proofs.Discovery.{ReadCalls}
+use Rattle.theory.specs.Inner.ReadCalls.{ReadCalls}
 use Rattle.theory.specs.Registry.{Enter}
 use Rattle.formats.specs.Code.{Mark}
 use Rattle.formats.specs.Sheet.{markBytes}

@@ -6,12 +6,13 @@ use mathlib.Core.Logic.{_≢_}
 use mathlib.Core.Path.{_≡_}
 use lib.ListN.{length, getD, set}
 use lib.Seq.{sets}
+use Rattle.theory.specs.Inner.Graft.{graft}
+use Rattle.theory.specs.Inner.Total.{total}
 use Rattle.theory.specs.Lcp.{lcp}
-use Rattle.theory.specs.Pref.{CommonPrefix, graft, Prefs}
+use Rattle.theory.specs.Pref.{CommonPrefix, Prefs}
 use Rattle.theory.specs.Prefix.{Pattern, Prefix}
 use Rattle.theory.specs.Term.{Term, mapT}
 use Rattle.theory.specs.Transducer.{Transducer}
-use Rattle.theory.proofs.PrefsExist.{total}
 use Rattle.formats.specs.Alphabets.{Leaf}
 use Rattle.formats.specs.Inner.Decode.{forest, first, Whole}
 use Rattle.formats.specs.Inner.Layout.{markOf, bodyCount, transducer, Laid, Wholes}
