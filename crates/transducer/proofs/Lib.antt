@@ -1,5 +1,5 @@
 -- Opening: an accepted file with its parts. Uses, Calls: the linear test. Walks, Meaning: what is written, byte by byte, is the code of the output.
--- Subtrees: the table of where each subtree ends. Noting: the sizes of what states write, and where it stands.
+-- Subtrees: the table of where each subtree ends. Noting: the sizes of what states write, and where it stands. Filling: writing as far as there is room.
 -- Outputs: the output is one tree. Translating, Following: what translation and the reader of one symbol ask and answer.
 -- Laws: what the promises come to; read it first. Samples: the samples of document 01 that are proved.
 pub mod Opening
@@ -8,6 +8,7 @@ pub mod Calls
 pub mod Walks
 pub mod Subtrees
 pub mod Noting
+pub mod Filling
 pub mod Meaning
 pub mod Outputs
 pub mod Translating

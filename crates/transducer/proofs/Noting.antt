@@ -1,17 +1,17 @@
 -- What is noted of states and trees: the sizes of what states write, and where it stands. Nothing at first, then one more.
 -- Assumes nothing.
-use Prim.Native.Nat.{ℕ, suc, _+_, _-_, _≤_, _<_}
+use Prim.Native.Nat.{ℕ, suc, _+_, _-_, _≤_, _<_, min}
 use native.Mathlib.Numerals.{add-one}
 use native.Mathlib.Omega.{arith}
 use mathlib.Core.Bool.{Bool, true, false}
-use mathlib.Core.Path.{_≡_, refl, sym, ap, _∙_}
+use mathlib.Core.Path.{_≡_, refl, sym, ap, ap₂, _∙_}
 use mathlib.Core.List.{List, [], _∷_, _++_, append-assoc}
 use lib.Dec.{eqb}
 use lib.ListN.{length, getD, set, take, drop, length-set, length-drop, replicate, length-replicate}
-use lib.Seq.{sets, sets-eq, take-at, drop-at, length-take-le, take-suc, getD-drop, drop-set-add, take-set-le, getD-set-same, getD-set-other}
+use lib.Seq.{sets, sets-eq, length-sets, take-at, drop-at, length-take-le, take-suc, getD-drop, drop-set-add, take-set-le, getD-set-same, getD-set-other}
 use borrow.Author.Tests.{eqb-true, eqb-false}
 use Rattle.formats.proofs.Writing.{sets-append}
-use Rattle.transducer.specs.Inner.Written.{applied, noteKey, Noted, StandsAt, Standing}
+use Rattle.transducer.specs.Inner.Written.{applied, noteKey, Noted, StandsAt, Standing, Limits, Wrote}
 
 zeros : (n k : ℕ) → _≡_ {A = ℕ} (getD (replicate n 0) k 0) 0
 zeros ℕ.zero k = refl
@@ -60,11 +60,13 @@ read-back w l at h =
     ∙ take-at w rest (length w) refl
 
 stands-on : {w area : List ℕ} {e at : ℕ} (v : List ℕ) → StandsAt w area e at → StandsAt w (sets area at v) e (at + length v)
-stands-on {w} {area} {e} {at} v S = record { before = omega (arith, S .before); long = S .long; there = before-sets v area (e - length w) (length w) at (omega (arith, S .before, S .long)) ∙ S .there }
+stands-on {w} {area} {e} {at} v S = record { before = omega (arith, S .before); long = S .long; there = λ h. before-sets v area (e - length w) (length w) at (omega (arith, S .before, S .long)) ∙ S .there (omega (arith, length-sets area at v)) }
 
--- what was just written stands
-just-written : (w area : List ℕ) (at : ℕ) → at + length w ≤ length area → StandsAt w (sets area at w) (at + length w) (at + length w)
-just-written w area at h = let z : at + length w - length w ≡ at = omega arith in record { before = omega arith; long = omega arith; there = rw z (read-back w area at h) }
+-- what was just written, if there was room for it, stands
+just-written : (w area : List ℕ) (at : ℕ) {area′ : List ℕ} → length area′ ≡ length area → (at + length w ≤ length area → area′ ≡ sets area at w) → StandsAt w area′ (at + length w) (at + length w)
+just-written w area at {area′} same wrote =
+    let z : at + length w - length w ≡ at = omega arith in
+    record { before = omega arith; long = omega arith; there = λ h. let r : at + length w ≤ length area = omega (arith, same) in ap₂ (λ i l. take (length w) (drop i l)) z (wrote r) ∙ read-back w area at r }
 
 module _ {ins starts bytes s : List ℕ} where
   pub nothing-standing : {keys sizes : List ℕ} (area : List ℕ) → Noted ins starts bytes s keys sizes → Standing ins starts bytes s keys sizes (replicate 4096 0) area 0
@@ -74,11 +76,15 @@ module _ {ins starts bytes s : List ℕ} where
   pub standing-on : {keys sizes places area area′ : List ℕ} {at r : ℕ} (v : List ℕ) → Standing ins starts bytes s keys sizes places area at → area′ ≡ sets area at v → r ≡ at + length v → Standing ins starts bytes s keys sizes places area′ r
   standing-on v S e f = record { noted = S .noted; all-places = S .all-places; stands = λ k q p h g i. rw (e, f) (stands-on v (S .stands k q p h g i)) }
 
-  -- what state q writes on the tree at p now stands from `at` on, up to r
+  -- it stands where it stood, if more is counted
+  pub standing-later : {keys sizes places area : List ℕ} {at r : ℕ} → Standing ins starts bytes s keys sizes places area at → at ≤ r → Standing ins starts bytes s keys sizes places area r
+  standing-later S l = record { noted = S .noted; all-places = S .all-places; stands = λ k q p h g i. let A = S .stands k q p h g i in record { before = omega (arith, A .before); long = A .long; there = A .there } }
+
+  -- what state q writes on the tree at p was written from `at` on, if there was room for it, and ends at r
   pub one-standing : {keys sizes places area′ keys′ sizes′ places′ : List ℕ} {r : ℕ} (area : List ℕ) → Standing ins starts bytes s keys sizes places area′ r → (k q p n at : ℕ) {key : ℕ} → k < 4096 → p < 4096
-      → at + length (applied ins starts bytes s q p) ≤ length area → r ≡ at + length (applied ins starts bytes s q p) → area′ ≡ sets area at (applied ins starts bytes s q p)
+      → length area′ ≡ length area → r ≡ at + length (applied ins starts bytes s q p) → (at + length (applied ins starts bytes s q p) ≤ length area → area′ ≡ sets area at (applied ins starts bytes s q p))
       → n ≡ r - at → key ≡ noteKey q p → keys′ ≡ set keys k key → sizes′ ≡ set sizes k n → places′ ≡ set places k r → Standing ins starts bytes s keys′ sizes′ places′ area′ r
-  one-standing {keys} {sizes} {places} {area′} {keys′} {sizes′} {places′} {r} area S k q p n at {key} h l room end wrote e x f g i = record {
+  one-standing {keys} {sizes} {places} {area′} {keys′} {sizes′} {places′} {r} area S k q p n at {key} h l same end wrote e x f g i = record {
     noted = one-noted (S .noted) k q p n h l (omega arith) x f g;
     all-places = ap length i ∙ length-set places k r ∙ S .all-places;
     stands = λ j t o b c d. rw i (go j t o b (sym (ap (λ v. getD v j 0) f) ∙ c) (rw i at d) (eqb j k) refl);
@@ -91,7 +97,7 @@ module _ {ins starts bytes s : List ℕ} where
           let y = ap (λ v. getD (set places k r) v 0) z ∙ getD-set-same places k r 0 (omega (arith, S .all-places)) in
           let m : t ≡ q = omega arith in
           let m′ : o ≡ p = omega arith in
-          rw (y, m, m′, end, wrote) (just-written (applied ins starts bytes s q p) area at room)
+          rw (y, m, m′, end) (just-written (applied ins starts bytes s q p) area at same wrote)
       go j t o b c d false u =
           let z = eqb-false j k u in
           let y = getD-set-other places k j r 0 z in
@@ -111,3 +117,28 @@ copy-more l from n at k {m} {m′} h g i e f =
     let z : at + length (take k D) ≡ at + k = ap (λ n. at + n) (length-take-le k D (omega arith)) in
     let s : take k D ++ (x ∷ []) ≡ take (k + 1) D = rw add-one (sym (take-suc D k 0 less)) in
     f ∙ ap (set m (at + k)) y ∙ ap (λ l. set l (at + k) x) e ∙ ap (λ i. set (sets l at (take k D)) i x) (sym z) ∙ sym (sets-append (take k D) (x ∷ []) l at) ∙ ap (sets l at) s
+
+-- what state q writes on the tree at p is noted at k: r is where it ends from `at` on, or one past the limit
+module _ {ins starts bytes s keys sizes places area : List ℕ} {at limit : ℕ} (S : Standing ins starts bytes s keys sizes places area at) (L : Limits (length area) at limit) (k q p : ℕ) {r : ℕ} (h : p < 4096) (e : getD keys k 0 ≡ noteKey q p) (f : r ≡ min (at + getD sizes k 0) (limit + 1)) where
+  size-there : getD sizes k 0 ≡ length (applied ins starts bytes s q p)
+  size-there = S .noted .right k q p h e
+
+  ends-at : r ≡ min (at + length (applied ins starts bytes s q p)) (limit + 1)
+  ends-at = f ∙ ap (λ n. min (at + n) (limit + 1)) size-there
+
+  -- there is no room for it
+  pub no-room : length area < r → Wrote (applied ins starts bytes s q p) at limit area area r × Standing ins starts bytes s keys sizes places area r
+  no-room g = (record { end = ends-at; wrote = λ l. absurd (omega (arith, ends-at, L .inside)) }, standing-later S (omega (arith, ends-at, L .low)))
+
+  -- there is, and it stands already
+  module _ (g : r ≤ length area) (i : 0 < getD places k 0) where
+    stood : StandsAt (applied ins starts bytes s q p) area (getD places k 0) at
+    stood = S .stands k q p h e i
+
+    pub copy-fits : (getD sizes k 0 ≤ getD places k 0) × (getD places k 0 - getD sizes k 0 + getD sizes k 0 ≤ at) × (at + getD sizes k 0 ≤ length area)
+    copy-fits = (omega (arith, size-there, stood .long), omega (arith, size-there, stood .long, stood .before), omega (arith, f, L .inside))
+
+    pub copied-again : {area′ : List ℕ} → area′ ≡ sets area at (take (getD sizes k 0) (drop (getD places k 0 - getD sizes k 0) area)) → Wrote (applied ins starts bytes s q p) at limit area area′ r × Standing ins starts bytes s keys sizes places area′ r
+    copied-again w =
+        let v = w ∙ ap (λ n. sets area at (take n (drop (getD places k 0 - n) area))) size-there ∙ ap (sets area at) (stood .there (omega (arith, stood .before, f, L .inside))) in
+        (record { end = ends-at; wrote = λ _. v }, standing-on (applied ins starts bytes s q p) S v (omega (arith, ends-at, L .inside)))

@@ -1,19 +1,21 @@
 // Translation (01: sewing): what the transducer of a file gives on an input tree.
 ghost use mathlib.Core.Path.{_≡_};
 ghost use Prim.Native.Nat.{_+_, _^_, _≤_, _<_, min};
-ghost use lib.ListN.{length, getD, take, drop};
+ghost use lib.ListN.{length, getD, set, take, drop};
 ghost use lib.Seq.{sets};
 ghost use Rattle.formats.specs.Inner.Layout.{bodyNumber};
 ghost use Rattle.transducer.specs.Answers.{Translates};
 ghost use Rattle.transducer.specs.Inner.Machine.{Machine, TranslatesBy};
-ghost use Rattle.transducer.specs.Inner.Written.{applied, walked, Ready, Walkable, noteKey, Noted, Standing, Wrote, Emitted};
+ghost use Rattle.transducer.specs.Inner.Written.{applied, walked, Ready, Walkable, noteKey, Noted, Standing, Limits, Wrote, Emitted};
 use crate::children::fill_ends;
 use crate::children::skip;
 use formats::alphabet::input_ranks;
 use formats::bodies::fill_starts;
+use formats::bytes::larger;
 use formats::bytes::number;
 use formats::bytes::wide;
 use formats::file::FileRead;
+use formats::file::copy_at;
 use formats::file::counts_end;
 use formats::file::read_transducer;
 use formats::refusal::Refusal;
@@ -62,108 +64,6 @@ fn added(have: usize, n: usize, limit: usize) -> usize
     }
 }
 
-// How far `have` and the symbols that state `q` gives on the tree at `p` go, or one past `limit` where they pass it. A size that
-// is known is noted, so that it is not counted again. The tree has at most `left` levels.
-fn count(
-    ins: &[u8],
-    starts: &[u16; 2050],
-    marks: &[u8],
-    s: &[u8],
-    ends: &[u16; 4096],
-    q: usize,
-    p: usize,
-    left: usize,
-    have: usize,
-    limit: usize,
-    keys: &mut [u32; 4096],
-    sizes: &mut [usize; 4096],
-) -> usize
-    requires { ⌜ Ready (now ins) (now starts) (now marks) (now s) (now ends) q p left × (have ≤ limit) × (limit + 1 < 2 ^ 64) × Noted (now ins) (now starts) (now marks) (now s) (now keys) (now sizes) ⌝ }
-    ensures size { λ r. ⌜ r ≡ min (have + length (applied (now (ins .entry)) (now (starts .entry)) (now (marks .entry)) (now (s .entry)) q p)) (limit + 1) ⌝ }
-    ensures noted { λ _. ⌜ Noted (now (ins .entry)) (now (starts .entry)) (now (marks .entry)) (now (s .entry)) (now (keys .exit)) (now (sizes .exit)) ⌝ }
-{
-    let k = slot(q, p);
-    let key = note_key(q, p);
-    if keys[k] == key {
-        return added(have, sizes[k], limit);
-    }
-    let b = body_at(ins, s, q, p);
-    let from = number(starts[b]);
-    let to = number(starts[b + 1]);
-    let r = tally(
-        ins,
-        starts,
-        marks,
-        s,
-        ends,
-        from,
-        to,
-        p + 1,
-        left - 1,
-        have,
-        limit,
-        keys,
-        sizes,
-    );
-    if r <= limit {
-        keys[k] = key;
-        sizes[k] = r - have;
-    }
-    r
-}
-
-// The same of the marks number `from` up to `to`, over the trees that stand from `below` on.
-fn tally(
-    ins: &[u8],
-    starts: &[u16; 2050],
-    marks: &[u8],
-    s: &[u8],
-    ends: &[u16; 4096],
-    from: usize,
-    to: usize,
-    below: usize,
-    left: usize,
-    have: usize,
-    limit: usize,
-    keys: &mut [u32; 4096],
-    sizes: &mut [usize; 4096],
-) -> usize
-    requires { ⌜ Walkable (now ins) (now starts) (now marks) (now s) (now ends) from to below left × (have ≤ limit) × (limit + 1 < 2 ^ 64) × Noted (now ins) (now starts) (now marks) (now s) (now keys) (now sizes) ⌝ }
-    ensures size { λ r. ⌜ r ≡ min (have + length (walked (now (ins .entry)) (now (starts .entry)) (now (marks .entry)) (now (s .entry)) below from to)) (limit + 1) ⌝ }
-    ensures noted { λ _. ⌜ Noted (now (ins .entry)) (now (starts .entry)) (now (marks .entry)) (now (s .entry)) (now (keys .exit)) (now (sizes .exit)) ⌝ }
-{
-    let mut n = have;
-    let mut j = from;
-    while j < to {
-        if n > limit {
-            return n;
-        }
-        let i = wide(marks[2 * j]);
-        let x = wide(marks[2 * j + 1]);
-        j += 1;
-        if i == 0 {
-            n += 1;
-            continue;
-        }
-        let p = skip(ends, below, i - 1);
-        n = count(
-            ins,
-            starts,
-            marks,
-            s,
-            ends,
-            x,
-            p,
-            left,
-            n,
-            limit,
-            keys,
-            sizes,
-        );
-    }
-    n
-}
-
 // Copies the `n` symbols from `from` on to `at`, behind them.
 fn copy_within(out: &mut [u8], from: usize, n: usize, at: usize)
     requires { ⌜ (from + n ≤ at) × (at + n ≤ length (now out)) ⌝ }
@@ -176,8 +76,17 @@ fn copy_within(out: &mut [u8], from: usize, n: usize, at: usize)
     }
 }
 
-// Writes what state `q` gives on the tree at `p`, from `at` on, where there is room for it, and says where that ends. What was
-// written before is copied from where it stands. The tree has at most `left` levels.
+// Writes one symbol at `at`, where there is room for it.
+fn put(out: &mut [u8], at: usize, x: u8)
+    ensures { λ _. ⌜ now (out .exit) ≡ set (now (out .entry)) at x ⌝ }
+{
+    if at < out.len() {
+        out[at] = x;
+    }
+}
+
+// Writes what state `q` gives on the tree at `p`, from `at` on, if there is room for it, and says where that ends, or one past
+// `limit` where it passes that. What is noted to stand in `out` is copied from there. The tree has at most `left` levels.
 fn apply(
     ins: &[u8],
     starts: &[u16; 2050],
@@ -192,18 +101,23 @@ fn apply(
     places: &mut [usize; 4096],
     out: &mut [u8],
     at: usize,
+    limit: usize,
 ) -> usize
-    requires { ⌜ Ready (now ins) (now starts) (now marks) (now s) (now ends) q p left × Standing (now ins) (now starts) (now marks) (now s) (now keys) (now sizes) (now places) (now out) at × (at + length (applied (now ins) (now starts) (now marks) (now s) q p) ≤ length (now out)) ⌝ }
-    ensures wrote { λ r. ⌜ Wrote (applied (now (ins .entry)) (now (starts .entry)) (now (marks .entry)) (now (s .entry)) q p) at (now (out .entry)) (now (out .exit)) r ⌝ }
+    requires { ⌜ Ready (now ins) (now starts) (now marks) (now s) (now ends) q p left × Standing (now ins) (now starts) (now marks) (now s) (now keys) (now sizes) (now places) (now out) at × Limits (length (now out)) at limit ⌝ }
+    ensures wrote { λ r. ⌜ Wrote (applied (now (ins .entry)) (now (starts .entry)) (now (marks .entry)) (now (s .entry)) q p) at limit (now (out .entry)) (now (out .exit)) r ⌝ }
     ensures standing { λ r. ⌜ Standing (now (ins .entry)) (now (starts .entry)) (now (marks .entry)) (now (s .entry)) (now (keys .exit)) (now (sizes .exit)) (now (places .exit)) (now (out .exit)) r ⌝ }
 {
     let k = slot(q, p);
     let key = note_key(q, p);
     if keys[k] == key {
+        let n = sizes[k];
+        let e = added(at, n, limit);
+        if e > out.len() {
+            return e;
+        }
         if places[k] > 0 {
-            let n = sizes[k];
             copy_within(out, places[k] - n, n, at);
-            return at + n;
+            return e;
         }
     }
     let b = body_at(ins, s, q, p);
@@ -224,10 +138,13 @@ fn apply(
         places,
         out,
         at,
+        limit,
     );
-    keys[k] = key;
-    sizes[k] = r - at;
-    places[k] = r;
+    if r <= limit {
+        keys[k] = key;
+        sizes[k] = r - at;
+        places[k] = r;
+    }
     r
 }
 
@@ -247,19 +164,23 @@ fn walk(
     places: &mut [usize; 4096],
     out: &mut [u8],
     at: usize,
+    limit: usize,
 ) -> usize
-    requires { ⌜ Walkable (now ins) (now starts) (now marks) (now s) (now ends) from to below left × Standing (now ins) (now starts) (now marks) (now s) (now keys) (now sizes) (now places) (now out) at × (at + length (walked (now ins) (now starts) (now marks) (now s) below from to) ≤ length (now out)) ⌝ }
-    ensures wrote { λ r. ⌜ Wrote (walked (now (ins .entry)) (now (starts .entry)) (now (marks .entry)) (now (s .entry)) below from to) at (now (out .entry)) (now (out .exit)) r ⌝ }
+    requires { ⌜ Walkable (now ins) (now starts) (now marks) (now s) (now ends) from to below left × Standing (now ins) (now starts) (now marks) (now s) (now keys) (now sizes) (now places) (now out) at × Limits (length (now out)) at limit ⌝ }
+    ensures wrote { λ r. ⌜ Wrote (walked (now (ins .entry)) (now (starts .entry)) (now (marks .entry)) (now (s .entry)) below from to) at limit (now (out .entry)) (now (out .exit)) r ⌝ }
     ensures standing { λ r. ⌜ Standing (now (ins .entry)) (now (starts .entry)) (now (marks .entry)) (now (s .entry)) (now (keys .exit)) (now (sizes .exit)) (now (places .exit)) (now (out .exit)) r ⌝ }
 {
     let mut w = at;
     let mut j = from;
     while j < to {
+        if w > limit {
+            return w;
+        }
         let i = wide(marks[2 * j]);
         let x = marks[2 * j + 1];
         j += 1;
         if i == 0 {
-            out[w] = x;
+            put(out, w, x);
             w += 1;
             continue;
         }
@@ -277,13 +198,51 @@ fn walk(
             places,
             out,
             w,
+            limit,
         );
     }
     w
 }
 
-// Writes what the marks number 0 up to `to` give over the whole input tree of `left` levels, if there is room: it is counted
-// before the first symbol is written.
+// Walks the marks number 0 up to `to` over the whole input tree of `left` levels, where nothing is noted to stand in `out` yet.
+fn fill(
+    ins: &[u8],
+    starts: &[u16; 2050],
+    marks: &[u8],
+    s: &[u8],
+    ends: &[u16; 4096],
+    to: usize,
+    left: usize,
+    keys: &mut [u32; 4096],
+    sizes: &mut [usize; 4096],
+    out: &mut [u8],
+    limit: usize,
+) -> usize
+    requires { ⌜ Walkable (now ins) (now starts) (now marks) (now s) (now ends) 0 to 0 left × Noted (now ins) (now starts) (now marks) (now s) (now keys) (now sizes) × Limits (length (now out)) 0 limit ⌝ }
+    ensures wrote { λ r. ⌜ Wrote (walked (now (ins .entry)) (now (starts .entry)) (now (marks .entry)) (now (s .entry)) 0 0 to) 0 limit (now (out .entry)) (now (out .exit)) r ⌝ }
+    ensures noted { λ _. ⌜ Noted (now (ins .entry)) (now (starts .entry)) (now (marks .entry)) (now (s .entry)) (now (keys .exit)) (now (sizes .exit)) ⌝ }
+{
+    let mut places = [0usize; 4096];
+    walk(
+        ins,
+        starts,
+        marks,
+        s,
+        ends,
+        0,
+        to,
+        0,
+        left,
+        keys,
+        sizes,
+        &mut places,
+        out,
+        0,
+        limit,
+    )
+}
+
+// Writes what they give, if there is room: to a place of its own first, where an output of at most 8,192 symbols is copied from.
 fn emit(
     ins: &[u8],
     starts: &[u16; 2050],
@@ -299,40 +258,39 @@ fn emit(
 {
     let mut keys = [0u32; 4096];
     let mut sizes = [0usize; 4096];
-    let n = tally(
+    let mut short = [0u8; 8192];
+    let n = fill(
         ins,
         starts,
         marks,
         s,
         ends,
-        0,
         to,
-        0,
         left,
-        0,
-        out.len(),
         &mut keys,
         &mut sizes,
+        &mut short,
+        larger(out.len(), 8192),
     );
     if n > out.len() {
         return n;
     }
-    let mut places = [0usize; 4096];
-    walk(
+    if n <= 8192 {
+        copy_at(&short[0..n], out, 0);
+        return n;
+    }
+    fill(
         ins,
         starts,
         marks,
         s,
         ends,
-        0,
         to,
-        0,
         left,
         &mut keys,
         &mut sizes,
-        &mut places,
         out,
-        0,
+        out.len(),
     )
 }
 

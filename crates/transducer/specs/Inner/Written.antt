@@ -1,5 +1,5 @@
 -- What a state writes on an input tree, byte by byte: the marks of its right-hand side in order, and for each call what the state called writes.
-use Prim.Native.Nat.{ℕ, suc, _+_, _-_, _*_, _<_, _≤_}
+use Prim.Native.Nat.{ℕ, suc, _+_, _-_, _*_, _^_, _<_, _≤_, min}
 use mathlib.Core.List.{List, [], _∷_, _++_}
 use mathlib.Core.Path.{_≡_}
 use lib.ListN.{length, getD, take, drop}
@@ -103,11 +103,11 @@ pub record Noted (ins starts bytes s keys sizes : List ℕ) : Type 0 where
   pub wide : length sizes ≡ 4096
   pub right : (k q p : ℕ) → p < 4096 → getD keys k 0 ≡ noteKey q p → getD sizes k 0 ≡ length (applied ins starts bytes s q p)
 
--- w stands in the area, ends at e, and that is not behind `at`
+-- w ends at e, which is not behind `at`, and stands there if the area is that long
 pub record StandsAt (w area : List ℕ) (e at : ℕ) : Type 0 where
   pub before : e ≤ at
   pub long : length w ≤ e
-  pub there : take (length w) (drop (e - length w) area) ≡ w
+  pub there : e ≤ length area → take (length w) (drop (e - length w) area) ≡ w
 
 -- what was written so far, up to `at`: the place at k is where the output of q and p ends, where the key at k is that of q and p; 0 if it does not stand yet
 pub record Standing (ins starts bytes s keys sizes places area : List ℕ) (at : ℕ) : Type 0 where
@@ -115,10 +115,16 @@ pub record Standing (ins starts bytes s keys sizes places area : List ℕ) (at :
   pub all-places : length places ≡ 4096
   pub stands : (k q p : ℕ) → p < 4096 → getD keys k 0 ≡ noteKey q p → 0 < getD places k 0 → StandsAt (applied ins starts bytes s q p) area (getD places k 0) at
 
--- w was written from `at` on, where there was room for it, up to r
-pub record Wrote (w : List ℕ) (at : ℕ) (before after : List ℕ) (r : ℕ) : Type 0 where
-  pub end : r ≡ at + length w
-  pub wrote : after ≡ sets before at w
+-- counting goes from `at` up to the limit, which is not inside an area of this length
+pub record Limits (room at limit : ℕ) : Type 0 where
+  pub low : at ≤ limit
+  pub inside : room ≤ limit
+  pub small : limit + 1 < 2 ^ 64
+
+-- w was written from `at` on, if there was room for it: r is where it ends, or one past the limit
+pub record Wrote (w : List ℕ) (at limit : ℕ) (before after : List ℕ) (r : ℕ) : Type 0 where
+  pub end : r ≡ min (at + length w) (limit + 1)
+  pub wrote : at + length w ≤ length before → after ≡ sets before at w
 
 -- w was written from the start of the area, if there is room for it: how much that is, or more than there is room for
 pub record Emitted (w before after : List ℕ) (r : ℕ) : Type 0 where

@@ -1,28 +1,69 @@
 -- `emit` meets its contract. Assumes nothing.
-use mathlib.Core.Path.{refl}
+use Prim.Native.Nat.{ℕ}
 use native.Mathlib.Omega.{arith}
-use denote.Ref.{now}
-use Rattle.transducer.proofs.Noting.{nothing-noted, nothing-standing}
 use borrow.Author.Needs.{needs}
+use denote.Ref.{now}
+use lib.ListN.{length-replicate}
+use Rattle.transducer.proofs.Filling.{too-many, copied, written-there}
+use Rattle.transducer.proofs.Noting.{nothing-noted}
 use Rattle.transducer.proofs.translate.emit.Statement.{statement}
 use Rattle.transducer.proofs.translate.emit.Tie as tie
 
-tally-requires : tie.Need-tally-requires
-tally-requires c κs = let a = c .before .before .before .before .before .before .args in (c .before .before .before .before .before .before .pre, omega arith, omega (arith, c .before .before .before .before .before .before .good), nothing-noted (now (a .ins)) (now (a .starts)) (now (a .marks)) (now (a .s)))
+slice-aggregate-fill : tie.Need-slice-aggregate-fill
+slice-aggregate-fill c = search needs
+
+larger-requires : tie.Need-larger-requires
+larger-requires c κs = search needs
+
+fill-requires : tie.Need-fill-requires
+fill-requires c κs =
+    let a = c .before .before .before .before .before .before .before .before .args in
+    (c .before .before .before .before .before .before .before .before .pre, nothing-noted (now (a .ins)) (now (a .starts)) (now (a .marks)) (now (a .s)), record { low = omega arith; inside = omega (arith, c .larger .ensures, length-replicate {A = ℕ} 8192 0); small = omega (arith, c .larger .ensures, c .before .before .before .before .before .before .before .before .good) })
 
 returns : tie.Need-returns
-returns c = let e = c .before .tally .ensures .0 in record { fits = λ h. absurd (omega (arith, c .if1 .taken)); full = λ h. (omega (arith, e), refl) }
+returns c = too-many (c .before .before .fill .ensures .0) (omega (arith, c .if1 .taken))
 
-walk-requires : tie.Need-walk-requires
-walk-requires c κs = (c .before .before .before .before .before .before .before .before .before .before .before .before .pre, nothing-standing (now (c .before .before .before .before .before .before .before .before .before .before .before .before .args .out)) (c .before .before .before .before .before .tally .ensures .1), omega (arith, c .before .before .before .before .before .tally .ensures .0, c .before .before .before .before .if1 .left))
+sub-copy-at : tie.Need-sub-copy-at
+sub-copy-at c = search needs
+
+part-copy-at-start : tie.Need-part-copy-at-start
+part-copy-at-start c = search needs
+
+part-copy-at-end : tie.Need-part-copy-at-end
+part-copy-at-end c = search needs
+
+copy-at-requires : tie.Need-copy-at-requires
+copy-at-requires c κs = search needs
 
 same-length : tie.Need-same-length
 same-length c = search needs
 
 returns-2 : tie.Need-returns-2
-returns-2 c =
-    let W = c .before .before .walk .ensures .0 in
-    record { fits = λ h. (omega (arith, W .end), W .wrote); full = λ h. absurd (omega (arith, c .before .before .before .before .before .before .before .before .tally .ensures .0, W .end, c .before .before .before .before .before .before .before .if1 .left)) }
+returns-2 c = copied (c .before .before .before .before .before .before .before .before .before .fill .ensures .0) (omega (arith, c .before .before .before .before .before .before .if2 .taken, length-replicate {A = ℕ} 8192 0)) (omega (arith, c .before .before .before .before .before .before .before .before .before .before .larger .ensures, length-replicate {A = ℕ} 8192 0)) (omega (arith, c .before .before .before .before .before .before .before .if1 .left)) (c .before .before .copy-at .ensures)
+
+fill-requires-2 : tie.Need-fill-requires-2
+fill-requires-2 c κs = (c .before .before .before .before .before .before .before .before .before .before .before .before .before .before .before .pre, c .before .before .before .before .before .before .fill .ensures .1, record { low = omega arith; inside = omega arith; small = omega (arith, c .before .before .before .before .before .before .before .before .before .before .before .before .before .before .before .good) })
+
+same-length-2 : tie.Need-same-length-2
+same-length-2 c = search needs
+
+returns-3 : tie.Need-returns-3
+returns-3 c = written-there (c .before .before .before .before .before .before .before .before .before .fill .ensures .0) (omega (arith, c .before .before .before .before .before .before .before .if1 .left)) (omega (arith, c .before .before .before .before .before .before .before .before .before .before .larger .ensures)) (c .before .before .fill2 .ensures .0)
 
 pub emit-spec : {M : Type 1} → statement M
-emit-spec = tie.close (tie.spec tally-requires returns walk-requires same-length returns-2)
+emit-spec =
+    tie.close
+    (tie.spec
+    slice-aggregate-fill
+    larger-requires
+    fill-requires
+    returns
+    sub-copy-at
+    part-copy-at-start
+    part-copy-at-end
+    copy-at-requires
+    same-length
+    returns-2
+    fill-requires-2
+    same-length-2
+    returns-3)
