@@ -1,13 +1,6 @@
--- Laws of the normal form. Keys: marks and bodies by their keys. Numbering, Patterns, Rounds, Calling, Worklist, Stable: the classes of equivalent states. Merging: writing the quotient, body after body, and what the new file says.
+-- Laws of the normal form. Merging: writing the quotient, body after body, and what the new file says.
 -- Normalizing, Cleaning: the normal form of a transducer, and of a file. Alike: input trees and equivalence. Laws: what cleaning promises of two files and of its own results.
 -- Samples, SampleTrimmed, SampleM: the samples of document 01 that are proved.
-pub mod Keys
-pub mod Numbering
-pub mod Patterns
-pub mod Rounds
-pub mod Calling
-pub mod Worklist
-pub mod Stable
 pub mod Merging
 pub mod Normalizing
 pub mod Cleaning

@@ -33,9 +33,9 @@ use Rattle.prefixes.specs.Alphabet.{alphabet, children-inside}
 use Rattle.prefixes.specs.Inner.Heads.{machine, Layout}
 use Rattle.prefixes.proofs.Settling.{number-fits}
 use Rattle.earliest.specs.Inner.Packed.{Packed}
-use Rattle.canonical.specs.Inner.Classes.{keyOf, keyed, bodyMarks, at, Keyable}
+use Rattle.merging.specs.Inner.Classes.{keyOf, keyed, bodyMarks, at, Keyable}
+use Rattle.merging.proofs.Numbering.{class-below, least-below, classes-few}
 use Rattle.canonical.specs.Inner.Quotients.{Mergeable, Merges, Keys, sizeOf, Front, Copied, Kept, Copyable, Copies, StateMergeable, MergesState}
-use Rattle.canonical.proofs.Numbering.{class-below, least-below, classes-few}
 
 -- ---- classes in the order of their least members
 module _ {c least : ℕ → ℕ} where

@@ -18,10 +18,10 @@ use Rattle.formats.proofs.Sheets.{counted-right, encodes-counted, encodes-whole
 use Rattle.prefixes.specs.Alphabet.{alphabet, children-inside}
 use Rattle.prefixes.specs.Inner.Heads.{machine}
 use Rattle.prefixes.proofs.Settling.{machine-wf}
-use Rattle.canonical.specs.Inner.Classes.{Settles}
+use Rattle.merging.specs.Inner.Classes.{Settles}
+use Rattle.merging.proofs.Numbering.{classes-few}
 use Rattle.canonical.specs.Inner.Normal.{Reducible, Reduces}
 use Rattle.canonical.specs.Inner.Quotients.{Mergeable, Merges}
-use Rattle.canonical.proofs.Numbering.{classes-few}
 
 -- the quotient by the classes of equivalent states is the normal form of an earliest and numbered transducer
 reduces : {ins outs starts bytes classes least starts′ out : List ℕ} {k count : ℕ} → Reducible ins outs starts bytes k → Settles ins starts bytes classes least k count → Merges ins outs starts bytes classes least k count starts′ out → Reduces ins outs starts bytes k starts′ out count

@@ -6,7 +6,6 @@ ghost use Rattle.formats.specs.Sheet.{longest};
 ghost use Rattle.transducer.specs.Inner.Machine.{Machine};
 ghost use Rattle.canonical.specs.Answers.{Cleans};
 ghost use Rattle.canonical.specs.Inner.Normal.{Reducible, Reduces, NormalBy, CleansFile};
-use crate::classes::settle_classes;
 use crate::quotient::merge;
 use earliest::earliest::Formed;
 use earliest::earliest::earliest_by;
@@ -19,6 +18,7 @@ use formats::file::FileRead;
 use formats::file::counts_end;
 use formats::file::read_transducer;
 use formats::refusal::Refusal;
+use merging::classes::settle_classes;
 
 // Makes equivalent states one, with a byte for each state in `old` and in `classes`.
 fn reduce_by(

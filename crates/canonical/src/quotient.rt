@@ -1,7 +1,7 @@
 // The quotient of a transducer by classes of its states: the initial term and the right-hand sides of the least members, with classes for states.
 ghost use Prim.Native.Nat.{_+_, _*_, _≤_};
 ghost use lib.ListN.{length};
-ghost use Rattle.canonical.specs.Inner.Classes.{Keyable};
+ghost use Rattle.merging.specs.Inner.Classes.{Keyable};
 ghost use Rattle.canonical.specs.Inner.Quotients.{Keys, Copyable, Copies, StateMergeable, MergesState, Mergeable, Merges};
 use formats::bytes::number;
 use formats::bytes::wide;

@@ -18,7 +18,7 @@ use Rattle.formats.specs.Alphabets.{Leaf}
 use Rattle.formats.specs.Inner.Layout.{body, transducer}
 use Rattle.prefixes.specs.Alphabet.{alphabet, children-of}
 use Rattle.prefixes.specs.Inner.Heads.{machine, Layout}
-use Rattle.canonical.specs.Inner.Classes.{at}
+use Rattle.merging.specs.Inner.Classes.{at}
 use Rattle.comparison.specs.Inner.Pairs.{Sides, Agree, CallAt, ClashesAt, pairLeft, pairRight, pairParent, pairSymbol, pairMark, pairChild, leftBody, rightBody, Linked}
 use Rattle.comparison.specs.Inner.Paths.{leftTerm, rightTerm, sortsFor, pairPlace, treeFor, Path, path-end, path-on}
 use Rattle.earliest.specs.Inner.Places.{place}

@@ -15,7 +15,7 @@ use Rattle.formats.specs.Inner.Layout.{markAt, pairs}
 use Rattle.formats.proofs.Pairs.{pairs-length, pairs-at}
 use Rattle.prefixes.specs.Alphabet.{alphabet}
 use Rattle.prefixes.proofs.Grafts.{slice-from}
-use Rattle.canonical.proofs.Patterns.{slice-join}
+use Rattle.merging.proofs.Patterns.{slice-join}
 use Rattle.comparison.specs.Inner.Shown.{stepsTree, Holds, Planted, Wrapped, Addable, Added, Plantable, Wrappable, Step, AllPlantable, AllPlanted}
 
 -- ---- parts of what was written

@@ -16,7 +16,7 @@ use Rattle.formats.proofs.Pairs.{number-less, pairs-at}
 use Rattle.prefixes.specs.Alphabet.{alphabet}
 use Rattle.prefixes.specs.Inner.Heads.{machine, Layout}
 use Rattle.earliest.specs.Inner.Places.{place}
-use Rattle.canonical.specs.Inner.Classes.{at}
+use Rattle.merging.specs.Inner.Classes.{at}
 use Rattle.comparison.specs.Inner.Bottoms.{Bodied, BottomAsked, BottomFound, neither-falls, second-falls, first-falls, Upable, Upped, RootAsked, RootFound, Stands, Leading, Roomy, LeftBelow, Stand, StepsBack, Rises}
 use Rattle.comparison.specs.Inner.Pairs.{pairLeft, pairRight, pairParent, pairSymbol, pairMark, pairChild, leftBody, rightBody}
 use Rattle.comparison.specs.Inner.Paths.{leftTerm, pairPlace, treeFor, Path, path-end, path-on}

@@ -22,7 +22,7 @@ use Rattle.formats.specs.Inner.Layout.{body, bodyNumber, bodyCount, transducer}
 use Rattle.formats.proofs.Pairs.{number-less}
 use Rattle.prefixes.specs.Alphabet.{alphabet, children-inside}
 use Rattle.prefixes.specs.Inner.Heads.{Layout, machine}
-use Rattle.canonical.specs.Inner.Classes.{at}
+use Rattle.merging.specs.Inner.Classes.{at}
 use Rattle.comparison.specs.Inner.Pairs.{Sides, Forms, PartsAt, InStep, pairLeft, pairRight, pairParent, pairSymbol, Entry, leftBody, rightBody, Linked, Table, table, Merging, Later, Meets, Meetable, Listed, MeetsAll, Searching, Goes, Alike, Walkable, Walks, WalksPair, WalksAll, Searches, Connected, pair, itself, back, onward}
 use Rattle.comparison.specs.declared.pairs.Walked.{Walked}
 use Rattle.comparison.specs.declared.pairs.Stage.{Stage}

@@ -33,7 +33,7 @@ use Rattle.prefixes.specs.Inner.Heads.{machine, Layout}
 use Rattle.prefixes.proofs.Grafts.{slice-from}
 use Rattle.prefixes.proofs.Settling.{machine-wf}
 use Rattle.earliest.specs.Inner.Places.{place}
-use Rattle.canonical.specs.Inner.Classes.{at}
+use Rattle.merging.specs.Inner.Classes.{at}
 use Rattle.canonical.proofs.Alike.{allowed-ranked}
 use Rattle.comparison.specs.Answers.{addressArea, Difference}
 use Rattle.comparison.specs.Inner.Bottoms.{Bodied, BottomFound, RootAsked, RootFound, Stands, Leading, Roomy, LeftBelow, LedTo, Rises, Traces}

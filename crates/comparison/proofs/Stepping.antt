@@ -19,7 +19,7 @@ use Rattle.formats.proofs.Codes.{word-length}
 use Rattle.formats.proofs.Pairs.{pairs-length, pairs-at, getD-slice}
 use Rattle.formats.proofs.Sheets.{whole-ranked}
 use Rattle.transducer.proofs.Meaning.{body-read}
-use Rattle.canonical.specs.Inner.Classes.{keyOf, keyed, at}
+use Rattle.merging.specs.Inner.Classes.{keyOf, keyed, at}
 use Rattle.comparison.specs.Inner.Pairs.{InStep, Clashing, two-symbols, symbol-call, call-symbol, two-children}
 use Rattle.earliest.specs.Inner.Places.{place, placeAmong}
 use Rattle.earliest.proofs.Places.{place-first, place-behind}

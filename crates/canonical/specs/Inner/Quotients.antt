@@ -13,7 +13,7 @@ use Rattle.formats.specs.Sheet.{markBytes}
 use Rattle.prefixes.specs.Alphabet.{alphabet}
 use Rattle.prefixes.specs.Inner.Heads.{machine, Layout}
 use Rattle.earliest.specs.Inner.Packed.{Packed}
-use Rattle.canonical.specs.Inner.Classes.{keyed, bodyMarks, at, Keyable}
+use Rattle.merging.specs.Inner.Classes.{keyed, bodyMarks, at, Keyable}
 
 -- what writing asks: a transducer with n states in `count` classes, which are numbered in the order of their least members, and room
 pub record Mergeable (ins outs starts bytes classes least : List ℕ) (n count : ℕ) (starts′ bytes′ : List ℕ) : Type 0 where

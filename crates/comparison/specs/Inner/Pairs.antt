@@ -13,7 +13,7 @@ use Rattle.formats.specs.Alphabets.{Leaf}
 use Rattle.formats.specs.Inner.Layout.{bodyNumber}
 use Rattle.prefixes.specs.Alphabet.{alphabet}
 use Rattle.prefixes.specs.Inner.Heads.{machine, Layout}
-use Rattle.canonical.specs.Inner.Classes.{at}
+use Rattle.merging.specs.Inner.Classes.{at}
 use Rattle.comparison.specs.declared.pairs.Walked.{Walked}
 use Rattle.comparison.specs.declared.pairs.Stage.{Stage}
 use Rattle.comparison.specs.declared.pairs.Verdict.{Verdict}

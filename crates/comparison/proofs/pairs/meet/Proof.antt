@@ -2,7 +2,7 @@
 use mathlib.Core.Path.{sym, ap, _∙_}
 use borrow.Author.Needs.{needs}
 use denote.Ref.{now}
-use Rattle.canonical.specs.Inner.Classes.{at}
+use Rattle.merging.specs.Inner.Classes.{at}
 use Rattle.comparison.proofs.Joining.{meets-old, meets-new}
 use Rattle.comparison.proofs.pairs.meet.Statement.{statement}
 use Rattle.comparison.proofs.pairs.meet.Tie as tie
