@@ -21,7 +21,7 @@ use Rattle.earliest.specs.Answers.{EarliestFile}
 use Rattle.canonical.specs.Answers.{NormalFile}
 use Rattle.canonical.proofs.SampleM.{M-clean}
 use Rattle.canonical.proofs.Samples.{leaf-file, T′, U, U-clean}
-use Rattle.comparison.specs.Answers.{Difference}
+use Rattle.witness.specs.Difference.{Difference}
 use Rattle.registry.specs.Calls.{Book, Entries}
 
 -- ---- what a row may say
