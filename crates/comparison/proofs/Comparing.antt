@@ -41,13 +41,15 @@ use Rattle.earliest.proofs.Forming.{from-parts, to-parts}
 use Rattle.canonical.specs.Answers.{SewAlike}
 use Rattle.canonical.proofs.Alike.{equivalent-alike, ranked-allowed}
 use Rattle.canonical.proofs.Normalizing.{encoded-wf}
-use Rattle.comparison.specs.Answers.{treeArea, addressArea, Difference, Differ, Found, Compares, comparedAs, pairCheck, HandsShorter}
-use Rattle.comparison.specs.Inner.Pairs.{sides, Forms, Searches}
-use Rattle.comparison.specs.Inner.Verdicts.{Comparable, Shows, ComparesForms, FoundParts, ComparesParts, EarlyForm, ComparesWith}
+use Rattle.witness.specs.Difference.{treeArea, addressArea, Difference}
+use Rattle.witness.specs.Inner.Forms.{Comparable, Shows}
+use Rattle.comparison.specs.Answers.{Differ, Found, Compares, comparedAs, pairCheck, HandsShorter}
+use Rattle.pairs.specs.Inner.Pairs.{sides, Forms, Searches}
+use Rattle.comparison.specs.Inner.Verdicts.{ComparesForms, FoundParts, ComparesParts, EarlyForm, ComparesWith}
 use Rattle.comparison.specs.declared.compare.Comparison.{Comparison}
 use Rattle.comparison.specs.declared.compare.Comparison.the-variants as compared
-use Rattle.comparison.specs.declared.pairs.Verdict.{Verdict}
-use Rattle.comparison.specs.declared.pairs.Verdict.the-variants as verdict
+use Rattle.pairs.specs.declared.pairs.Verdict.{Verdict}
+use Rattle.pairs.specs.declared.pairs.Verdict.the-variants as verdict
 
 -- ---- of two earliest forms
 -- with a byte for each state in a part of an array

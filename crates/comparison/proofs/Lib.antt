@@ -1,18 +1,3 @@
--- Laws of the comparison. Stepping: marks side by side. Joining: classes joined pair by pair. Searching: the pair search. Linking: from the list of pairs to a witness.
--- Firsts, Distances, Falling: a tree on which a state's output has another root symbol. Planting, Climbing: the tree and the address of a shown difference.
--- Bottoms: the tree below a clash. Rising: the way back to the initial terms. Showing: the difference that is shown.
--- Comparing: the comparison of two earliest forms, of the parts of two files, and of two files. Laws: what it promises.
-pub mod Stepping
-pub mod Joining
-pub mod Searching
-pub mod Linking
-pub mod Firsts
-pub mod Distances
-pub mod Falling
-pub mod Planting
-pub mod Climbing
-pub mod Bottoms
-pub mod Rising
-pub mod Showing
+-- Laws of the comparison. Comparing: the comparison of two earliest forms, of the parts of two files, and of two files. Laws: what it promises.
 pub mod Comparing
 pub mod Laws

@@ -1,49 +1,20 @@
 -- What a comparison answers.
 use Prim.Native.Nat.{ℕ, _≤_, _<_}
 use mathlib.Core.List.{List, []}
-use mathlib.Core.Logic.{_≢_, _⊎_}
+use mathlib.Core.Logic.{_⊎_}
 use mathlib.Core.Option.{Option, some, none as nothing}
 use mathlib.Core.Path.{_≡_}
-use lib.ListN.{length, getD}
-use lib.Seq.{sets}
-use Rattle.theory.specs.Size.{size, levels}
-use Rattle.theory.specs.Term.{Tree, symbolAt}
-use Rattle.theory.specs.Transducer.{Transducer, translate}
+use lib.ListN.{length}
+use Rattle.theory.specs.Term.{Tree}
+use Rattle.theory.specs.Transducer.{Transducer}
 use Rattle.formats.specs.Alphabets.{inputs, outputs, alphabetCheck}
-use Rattle.formats.specs.Code.{Ranked, code}
 use Rattle.formats.specs.Refusal.{number, Outcome, accepted, refused, Checks, done, check, Judged, Handed}
 use Rattle.formats.specs.Sheet.{Sheet, sheetCheck}
 use Rattle.earliest.specs.Answers.{formCheck}
 use Rattle.canonical.specs.Answers.{SewAlike}
+use Rattle.witness.specs.Difference.{treeArea, addressArea, Difference, Written}
 use Rattle.comparison.specs.declared.compare.Comparison.{Comparison}
 use Rattle.comparison.specs.declared.compare.Comparison.the-variants as compared
-
--- the areas: of the tree, 1 + 4 · 383 nodes in 384 levels at most; of the address, 63 numbers for each of 256 right-hand sides at most
-abbrev pub treeArea : ℕ
-treeArea = 1536
-
-abbrev pub treeLevels : ℕ
-treeLevels = 384
-
-abbrev pub addressArea : ℕ
-addressArea = 16128
-
--- A difference of two transducers: an input tree, and an address at which the two output trees, of any size, have two symbols. Which tree and which address is the program's choice.
-pub record Difference (ins outs : List ℕ) (M M′ : Transducer ℕ) (d : Tree) (v : List ℕ) (b b′ : ℕ) : Type 0 where
-  pub ranked : Ranked (λ x. ⊥) ins d
-  pub small : size d ≤ treeArea
-  pub flat : levels d ≤ treeLevels
-  pub short : length v ≤ addressArea
-  pub left : symbolAt (translate M d) v ≡ some (b, getD outs b 0)
-  pub right : symbolAt (translate M′ d) v ≡ some (b′, getD outs b′ 0)
-  pub unlike : b ≢ b′
-
--- the areas begin with the tree and the address, and keep what stands behind them
-pub record Written (d : Tree) (v tree tree′ address address′ : List ℕ) (nodes numbers : ℕ) : Type 0 where
-  pub nodes-are : nodes ≡ size d
-  pub numbers-are : numbers ≡ length v
-  pub tree-wrote : tree′ ≡ sets tree 0 (code d)
-  pub address-wrote : address′ ≡ sets address 0 v
 
 -- the transducers of the files s and s′ differ, as the areas show
 pub record Differ (stock s s′ tree tree′ address address′ : List ℕ) (nodes numbers b b′ : ℕ) : Type 0 where

@@ -3,10 +3,8 @@ ghost use Prim.Native.Nat.{_≤_, _<_};
 ghost use lib.ListN.{length};
 ghost use Rattle.transducer.specs.Inner.Machine.{Machine};
 ghost use Rattle.comparison.specs.Answers.{Compares};
-ghost use Rattle.comparison.specs.Inner.Verdicts.{Comparable, ComparesForms, EarlyForm, ComparesWith, ComparesParts};
-use crate::pairs::Verdict;
-use crate::pairs::search;
-use crate::witness::show;
+ghost use Rattle.witness.specs.Inner.Forms.{Comparable};
+ghost use Rattle.comparison.specs.Inner.Verdicts.{ComparesForms, EarlyForm, ComparesWith, ComparesParts};
 use earliest::earliest::earliest_by;
 use earliest::early::Grown;
 use formats::alphabet::input_ranks;
@@ -15,6 +13,9 @@ use formats::file::FileRead;
 use formats::file::counts_end;
 use formats::file::read_transducer;
 use formats::refusal::Refusal;
+use pairs::pairs::Verdict;
+use pairs::pairs::search;
+use witness::witness::show;
 
 // Alike; or how many nodes the tree and how many numbers the address have that show a difference, and the two symbols there; or the refusal.
 pub enum Comparison {

@@ -12,7 +12,8 @@ use Rattle.formats.proofs.Judging.{must-accept}
 use Rattle.earliest.specs.declared.earliest.Formed.{Formed}
 use Rattle.canonical.specs.Answers.{NormalFile, Cleans}
 use Rattle.canonical.proofs.Laws.{cleaned, cleaned-exact, clean-accepted, clean-alike, clean-again, sheets-alike}
-use Rattle.comparison.specs.Answers.{treeArea, addressArea, Found, Differ, Compares}
+use Rattle.witness.specs.Difference.{treeArea, addressArea}
+use Rattle.comparison.specs.Answers.{Found, Differ, Compares}
 use Rattle.comparison.specs.declared.compare.Comparison.{Comparison}
 use Rattle.comparison.proofs.Laws.{compare-exact}
 use Rattle.registry.proofs.Laws.{registry-laws}

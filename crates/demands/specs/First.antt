@@ -20,7 +20,8 @@ use Rattle.transducer.specs.declared.translate.Translation.{Translation}
 use Rattle.earliest.specs.Answers.{formCheck, formOf, MakesEarliest}
 use Rattle.earliest.specs.declared.earliest.Formed.{Formed}
 use Rattle.canonical.specs.Answers.{Cleans}
-use Rattle.comparison.specs.Answers.{treeArea, addressArea, pairCheck, comparedAs, Compares, HandsShorter}
+use Rattle.witness.specs.Difference.{treeArea, addressArea}
+use Rattle.comparison.specs.Answers.{pairCheck, comparedAs, Compares, HandsShorter}
 use Rattle.comparison.specs.declared.compare.Comparison.{Comparison}
 use Rattle.registry.specs.Answers.{Kept, madeOf, Makes, numberOf, CleanFile, HasPlace, Enters, HandsBody}
 use Rattle.registry.specs.Book.{body, Chained}

@@ -11,7 +11,8 @@ use Rattle.formats.specs.Sheet.{longest, sheetCheck}
 use Rattle.earliest.specs.Answers.{formCheck, formOf}
 use Rattle.earliest.specs.declared.earliest.Formed.{Formed}
 use Rattle.canonical.specs.Answers.{SewAlike, Cleans}
-use Rattle.comparison.specs.Answers.{treeArea, addressArea, Differ, comparedAs, Compares}
+use Rattle.witness.specs.Difference.{treeArea, addressArea}
+use Rattle.comparison.specs.Answers.{Differ, comparedAs, Compares}
 use Rattle.comparison.specs.declared.compare.Comparison.{Comparison}
 use Rattle.registry.specs.Calls.{Book, Entries}
 

@@ -21,7 +21,8 @@ use Rattle.transducer.proofs.Outputs.{code-size}
 use Rattle.earliest.specs.declared.earliest.Formed.{Formed}
 use Rattle.earliest.specs.declared.earliest.Formed.the-variants as formed
 use Rattle.canonical.specs.Answers.{SewAlike, Cleans}
-use Rattle.comparison.specs.Answers.{treeArea, addressArea, Difference, Differ, pairCheck, Compares}
+use Rattle.witness.specs.Difference.{treeArea, addressArea, Difference}
+use Rattle.comparison.specs.Answers.{Differ, pairCheck, Compares}
 use Rattle.comparison.specs.declared.compare.Comparison.{Comparison}
 use Rattle.comparison.specs.declared.compare.Comparison.the-variants as compared
 use Rattle.comparison.proofs.Comparing.{past}

@@ -12,7 +12,8 @@ use Rattle.formats.specs.Code.{code}
 use Rattle.formats.specs.Refusal.{Outcome, accepted, refused, number, Judged, check, done}
 use Rattle.formats.specs.Sheet.{Sheet}
 use Rattle.canonical.specs.Answers.{SewAlike, NormalFile}
-use Rattle.comparison.specs.Answers.{Difference, pairCheck}
+use Rattle.witness.specs.Difference.{Difference}
+use Rattle.comparison.specs.Answers.{pairCheck}
 use Rattle.report.specs.Text.{refusedLine, sizesLine, alikeLine, differLine, firstWord, secondWord}
 use Rattle.report.specs.declared.report.Reported.{Reported}
 use Rattle.report.specs.declared.report.Reported.the-variants as reported

@@ -11,7 +11,7 @@ use Rattle.formats.specs.Code.{Ranked, flat, code}
 use Rattle.formats.specs.Samples.{S, T, U}
 use Rattle.transducer.proofs.Samples.{T-machine, T-sheet, twice, line, leaf}
 use Rattle.canonical.proofs.Samples.{U-sheet, one-state, once, late, f}
-use Rattle.comparison.specs.Answers.{Difference}
+use Rattle.witness.specs.Difference.{Difference}
 use Rattle.table.specs.Table.{DifferOn}
 
 leaf-coded : code leaf ≡ 1 ∷ []

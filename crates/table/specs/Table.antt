@@ -21,7 +21,7 @@ use Rattle.transducer.specs.Output.{Output}
 use Rattle.prefixes.specs.Alphabet.{alphabet}
 use Rattle.earliest.specs.Answers.{EarliestFile, formCheck}
 use Rattle.canonical.specs.Answers.{NormalFile}
-use Rattle.comparison.specs.Answers.{Difference}
+use Rattle.witness.specs.Difference.{Difference}
 use Rattle.registry.specs.Calls.{Book, Entries}
 
 -- ---- what a row may say

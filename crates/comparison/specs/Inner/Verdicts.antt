@@ -1,42 +1,26 @@
 -- What is answered of two earliest forms in tables, and of the parts of two files.
-use Prim.Native.Nat.{ℕ, _<_}
+use Prim.Native.Nat.{ℕ}
 use mathlib.Core.List.{List}
 use mathlib.Core.Option.{Option, some, none as nothing}
 use mathlib.Core.Path.{_≡_}
-use Rattle.theory.specs.Earliest.{Earliest}
 use Rattle.theory.specs.Equivalent.{Equivalent}
 use Rattle.theory.specs.Term.{Tree}
 use Rattle.theory.specs.Transducer.{Transducer}
-use Rattle.formats.specs.Alphabets.{Ranks, Leaf, inputs, outputs}
+use Rattle.formats.specs.Alphabets.{Leaf, inputs, outputs}
 use Rattle.formats.specs.Refusal.{done, check, Judged}
 use Rattle.formats.specs.Sheet.{Encodes}
 use Rattle.formats.specs.declared.refusal.Refusal.{Refusal}
 use Rattle.prefixes.specs.Alphabet.{alphabet}
-use Rattle.prefixes.specs.Inner.Heads.{machine, Layout}
+use Rattle.prefixes.specs.Inner.Heads.{machine}
 use Rattle.transducer.specs.Inner.Machine.{Machine}
 use Rattle.earliest.specs.Inner.Loaded.{EarliestOf, EarliestBy}
 use Rattle.earliest.specs.declared.early.Grown.the-variants.{States}
 use Rattle.canonical.specs.Answers.{Alike}
-use Rattle.comparison.specs.Answers.{Difference, Written, comparedAs}
+use Rattle.witness.specs.Difference.{Difference, Written}
+use Rattle.witness.specs.Inner.Forms.{Shows}
+use Rattle.comparison.specs.Answers.{comparedAs}
 use Rattle.comparison.specs.declared.compare.Comparison.{Comparison}
 use Rattle.comparison.specs.declared.compare.Comparison.the-variants as compared
-
--- two earliest forms in tables, over alphabets within the limits
-pub record Comparable (ins outs starts bytes : List ℕ) (k : ℕ) (starts′ bytes′ : List ℕ) (k′ : ℕ) : Type 0 where
-  pub ins-ranks : Ranks 16 ins
-  pub outs-ranks : Ranks 64 outs
-  pub leaf : Leaf ins
-  pub left : Layout ins outs starts bytes k
-  pub right : Layout ins outs starts′ bytes′ k′
-  pub left-earliest : (l : Leaf ins) → Earliest (alphabet ins l) (machine ins outs starts bytes k) (λ q. q < k)
-  pub right-earliest : (l : Leaf ins) → Earliest (alphabet ins l) (machine ins outs starts′ bytes′ k′) (λ q. q < k′)
-
--- a difference of two transducers stands in the areas
-pub record Shows (ins outs : List ℕ) (M M′ : Transducer ℕ) (tree tree′ address address′ : List ℕ) (nodes numbers b b′ : ℕ) : Type 0 where
-  pub shown : Tree
-  pub place : List ℕ
-  pub written : Written shown place tree tree′ address address′ nodes numbers
-  pub difference : Difference ins outs M M′ shown place b b′
 
 -- what is answered of two earliest forms: they are equivalent, or a difference
 pub record ComparesForms (ins outs starts bytes : List ℕ) (k : ℕ) (starts′ bytes′ : List ℕ) (k′ : ℕ) (tree tree′ address address′ : List ℕ) (r : Comparison) : Type 0 where

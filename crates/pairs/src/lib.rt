@@ -1,0 +1,2 @@
+// The pair search over two transducers.
+pub mod pairs;
