@@ -21,11 +21,11 @@ loop-holds c = search needs
 
 mul-number : tie.Need-mul-number Inv-loop μ-loop
 unfolding hop
-mul-number c = omega (arith, c .before .loop .inv .2 0 (c .loop-test .taken), c .before .before .before .good)
+mul-number c = omega (arith, c .before .loop .inv .2 0 (omega (arith, c .loop-test .taken)), c .before .before .before .good)
 
 shared-slice-read-number : tie.Need-shared-slice-read-number Inv-loop μ-loop
 unfolding hop
-shared-slice-read-number c = c .before .before .loop .inv .2 0 (c .before .loop-test .taken)
+shared-slice-read-number c = c .before .before .loop .inv .2 0 (omega (arith, c .before .loop-test .taken))
 
 number-requires : tie.Need-number-requires Inv-loop μ-loop
 number-requires c κs = search needs
@@ -42,7 +42,7 @@ loop-again c =
     let ends = now (c .before .before .before .before .before .args .ends) in
     let e = c .number .ensures in (
       omega arith,
-      l .inv .1 ∙ hop-next ends (l .left) (l .p) (c .before .before .loop-test .taken) ∙ ap (hop ends (l .left - 1)) (sym e),
+      l .inv .1 ∙ hop-next ends (l .left) (l .p) (omega (arith, c .before .before .loop-test .taken)) ∙ ap (hop ends (l .left - 1)) (sym e),
       λ k h. rw e (hop-more ends (l .left) k (l .p) h (l .inv .2)),
     )
 

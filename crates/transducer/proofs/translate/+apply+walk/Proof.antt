@@ -240,7 +240,7 @@ walk-loop-again t c =
     let l = c .before .before .before .before .before .before .before .before .before .before .loop in
     let e = walk-symbol (now (a .ins)) (now (a .starts)) (now (a .marks)) (now (a .s)) (a .below) (l .j) (a .to) (c .before .before .before .before .before .before .before .before .before .loop-test .taken) (c .before .before .before .before .before .before .before .before .before .before .before .before .before .before .before .pre .1 .0 .inside) (sym (c .before .before .before .before .before .before .wide .ensures) ∙ c .before .before .before .before .if2 .taken) in
     let x = getD (now (a .marks)) (2 * l .j + 1) 0 in
-    (omega arith, omega arith, one-more (l .inv .2) x (walked (now (a .ins)) (now (a .starts)) (now (a .marks)) (now (a .s)) (a .below) (l .j + 1) (a .to)) (c .before .before .before .before .before .before .before .before .if1 .left) e refl (c .before .before .put .ensures), standing-on (x ∷ []) (l .inv .3) (c .before .before .put .ensures) (omega arith))
+    (omega arith, omega arith, one-more (l .inv .2) x (walked (now (a .ins)) (now (a .starts)) (now (a .marks)) (now (a .s)) (a .below) (l .j + 1) (a .to)) (omega (arith, c .before .before .before .before .before .before .before .before .if1 .left)) e refl (c .before .before .put .ensures), standing-on (x ∷ []) (l .inv .3) (c .before .before .put .ensures) (omega arith))
 
 walk-wide-requires-2 : (t : ℕ) → walk-lts.Need-wide-requires-2 (walk-told t) (walk-at t) walk.Post walk-Inv-loop walk-μ-loop
 walk-wide-requires-2 t c κs = search needs
@@ -251,7 +251,7 @@ walk-sub-skip t c = search needs
 walk-skip-requires : (t : ℕ) → walk-lts.Need-skip-requires (walk-told t) (walk-at t) walk.Post walk-Inv-loop walk-μ-loop
 walk-skip-requires t c κs =
     let l = c .before .before .before .before .before .before .before .before .loop in
-    to-skip (c .before .before .before .before .before .before .before .before .before .before .before .before .before .pre .1 .0) (l .j) (l .inv .0) (c .before .before .before .before .before .before .before .loop-test .taken) (c .before .before .before .before .wide .ensures) (c .before .before .if2 .left)
+    λ k h. to-skip (c .before .before .before .before .before .before .before .before .before .before .before .before .before .pre .1 .0) (l .j) (l .inv .0) (c .before .before .before .before .before .before .before .loop-test .taken) (c .before .before .before .before .wide .ensures) (c .before .before .if2 .left) k (omega arith)
 
 walk-apply-requires : (t : ℕ) → walk-lts.Need-apply-requires (walk-told t) (walk-at t) walk.Post walk-Inv-loop walk-μ-loop
 walk-apply-requires t c κs =
