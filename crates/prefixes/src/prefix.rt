@@ -1,5 +1,5 @@
 // The common prefixes of the states (01: heads): a table of patterns, cut until no right-hand side cuts any more.
-ghost use Prim.Native.Nat.{_<_};
+ghost use Prim.Native.Nat.{_≤_, _<_};
 ghost use mathlib.Core.Path.{_≡_};
 ghost use lib.ListN.{length, getD};
 ghost use Rattle.formats.specs.Alphabets.{Leaf};
@@ -178,7 +178,7 @@ pub(crate) fn settle(
 // The first input symbol of rank 0.
 pub fn leaf_symbol(ins: &[u8]) -> usize
     requires { ⌜ Leaf (now ins) ⌝ }
-    ensures { λ r. ⌜ (r < length (now (ins .entry))) × (getD (now (ins .entry)) r 0 ≡ 0) ⌝ }
+    ensures { λ r. ⌜ (r < length (now (ins .entry))) × (getD (now (ins .entry)) r 0 ≡ 0) × ((l : Leaf (now (ins .entry))) → r ≤ l .symbol) ⌝ }
 {
     let mut a = 0;
     while ins[a] != 0 {
@@ -224,7 +224,7 @@ fn start_heads(
     }
 }
 
-// The common prefixes of all states.
+// The common prefixes of all states. Scratch: `other`, and what stands in `heads` behind the pattern of a state.
 pub fn prefixes(
     ins: &[u8],
     outs: &[u8],
