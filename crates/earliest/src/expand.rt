@@ -1,5 +1,5 @@
 // Right-hand sides with the common prefix of each state put for its calls, as lists of letters: a number below 64 is a symbol,
-// 8192 * i + c the call of state c on child i, where state c is the ⊤ at byte c of the table of prefixes.
+// CALL * i + c the call of state c on child i, where state c is the ⊤ at byte c of the table of prefixes.
 ghost use Prim.Native.Nat.{_+_, _≤_, _<_};
 ghost use mathlib.Core.Path.{_≡_};
 ghost use lib.ListN.{length, drop};
@@ -10,6 +10,10 @@ ghost use Rattle.formats.specs.Inner.Judging.{Put};
 ghost use Rattle.earliest.specs.Inner.Letters.{letterOf, labeled, expanded, Expandable, EndsAt, Locatable, LocatedAt};
 use formats::bytes::number;
 use formats::bytes::wide;
+use prefixes::pattern::SLOT;
+
+// The letters of the calls on a child: as many as the table of prefixes has bytes.
+pub(crate) const CALL: usize = 8192;
 
 // Writes a pattern as letters: the ⊤ at byte m becomes the call `base + m`.
 fn label_head(head: &[u8], base: usize, out: &mut [u16], at: usize)
@@ -49,9 +53,9 @@ pub(crate) fn expand(
             out[w] = x as u16;
             w += 1;
         } else {
-            let start = 64 * x;
+            let start = SLOT * x;
             let end = start + wide(sizes[x]);
-            label_head(&heads[start..end], 8192 * i + start, out, w);
+            label_head(&heads[start..end], CALL * i + start, out, w);
             w += end - start;
         }
         j += 1;

@@ -10,6 +10,7 @@ use crate::callers::first_flag;
 use crate::callers::more_flags;
 use crate::callers::next_flags;
 use crate::callers::other_flags;
+use crate::pattern::SLOT;
 use crate::pattern::graft;
 use crate::pattern::meet;
 use formats::bytes::number;
@@ -30,7 +31,7 @@ pub(crate) fn cut_by(
     ensures { λ b. ⌜ CutBy (now (outs .entry)) (now (marks .entry)) from to q (now (heads .entry)) (now (sizes .entry)) (now (heads .exit)) (now (sizes .exit)) b ⌝ }
 {
     let len = graft(heads, sizes, marks, from, to, other);
-    let start = 64 * q;
+    let start = SLOT * q;
     let end = start + wide(sizes[q]);
     let shared = meet(outs, &mut heads[start..end], &other[0..len]);
     let size = shared.size;
@@ -78,7 +79,7 @@ fn cut_state(
     requires { ⌜ Bodies (now ins) (now outs) (now starts) (now marks) (now heads) (now sizes) (now other) × (q < length (now sizes)) ⌝ }
     ensures { λ b. ⌜ CutState (now (ins .entry)) (now (outs .entry)) (now (starts .entry)) (now (marks .entry)) leaf q (now (heads .entry)) (now (sizes .entry)) (now (heads .exit)) (now (sizes .exit)) b ⌝ }
 {
-    if heads[64 * q] == 255 {
+    if heads[SLOT * q] == 255 {
         return false;
     }
     let mut any = false;
@@ -192,7 +193,7 @@ fn start_state(marks: &[u8], from: usize, to: usize, heads: &mut [u8], sizes: &m
     requires { ⌜ Startable (now marks) from to (now heads) (now sizes) q ⌝ }
     ensures { λ _. ⌜ Started (now (marks .entry)) from to (now (heads .entry)) (now (sizes .entry)) q (now (heads .exit)) (now (sizes .exit)) ⌝ }
 {
-    let mut w = 64 * q;
+    let mut w = SLOT * q;
     let mut j = from;
     while j < to {
         heads[w] = marks[2 * j + 1];
