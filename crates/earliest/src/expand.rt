@@ -7,7 +7,8 @@ ghost use lib.Seq.{sets};
 ghost use Rattle.theory.specs.Term.{count};
 ghost use Rattle.formats.specs.Inner.Decode.{forest};
 ghost use Rattle.formats.specs.Inner.Judging.{Put};
-ghost use Rattle.earliest.specs.Inner.Letters.{letterOf, labeled, expanded, Expandable, EndsAt, Locatable, LocatedAt};
+ghost use Rattle.prefixes.specs.Inner.Patterns.{Ended};
+ghost use Rattle.earliest.specs.Inner.Letters.{letterOf, labeled, expanded, Expandable, Locatable, LocatedAt};
 use formats::bytes::number;
 use formats::bytes::wide;
 use prefixes::pattern::SLOT;
@@ -66,7 +67,7 @@ pub(crate) fn expand(
 // The end of the tree at `at`.
 pub(crate) fn letter_end(outs: &[u8], s: &[u16], at: usize) -> usize
     requires { ⌜ 0 < count (forest (letterOf (now outs)) (drop at (now s))) ⌝ }
-    ensures { λ r. ⌜ EndsAt (now (outs .entry)) (now (s .entry)) at r ⌝ }
+    ensures { λ r. ⌜ Ended (letterOf (now (outs .entry))) (now (s .entry)) at r ⌝ }
 {
     let mut owed = 1;
     let mut p = at;

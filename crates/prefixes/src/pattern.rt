@@ -15,7 +15,7 @@ pub const SLOT: usize = 64;
 // The end of the pattern at `at`.
 fn pattern_end(outs: &[u8], s: &[u8], at: usize) -> usize
     requires { ⌜ 0 < count (forest (topOf (now outs)) (drop at (now s))) ⌝ }
-    ensures { λ r. ⌜ Ended (now (outs .entry)) (now (s .entry)) at r ⌝ }
+    ensures { λ r. ⌜ Ended (topOf (now (outs .entry))) (now (s .entry)) at r ⌝ }
 {
     let mut owed = 1;
     let mut p = at;
