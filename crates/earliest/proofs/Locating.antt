@@ -17,11 +17,11 @@ use Rattle.formats.specs.Code.{flat}
 use Rattle.formats.specs.Inner.Decode.{lettersAll, Letter, call, symbol, unknown, firsts, rests, grown, put, forest, first, Whole, joined}
 use Rattle.formats.proofs.Codes.{Faithful, words, single}
 use Rattle.formats.proofs.Forest.{joined-split, all-tail, all-drop}
-use Rattle.prefixes.specs.Inner.Patterns.{topOf, readPattern}
-use Rattle.prefixes.proofs.Ends.{taken, letter-inside, letter-put, Owing, owing-done, Ranks}
+use Rattle.prefixes.specs.Inner.Patterns.{topOf, readPattern, Ended}
+use Rattle.prefixes.proofs.Ends.{taken, letter-inside, letter-put, Ranks}
 use Rattle.prefixes.proofs.Grafts.{slice-from}
 use Rattle.prefixes.proofs.Patterns.{patternsAt, Byte, named, free, byte-at, all-there, flats-split}
-use Rattle.earliest.specs.Inner.Letters.{letterIf, letterOf, callLetter, spelt, firstUnder, under, EndsAt, Locatable, LocatedAt}
+use Rattle.earliest.specs.Inner.Letters.{letterIf, letterOf, callLetter, spelt, firstUnder, under, Locatable, LocatedAt}
 
 -- the trees that stand from position p on
 abbrev pub treesAt : List ℕ → List ℕ → ℕ → Terms (ℕ × ℕ)
@@ -36,10 +36,6 @@ letter-ranks outs = record { named = λ x h. simp (lt-ltb x (length outs) h); fr
     other : (x : ℕ) (b : Bool) → taken (letterIf false b outs x) ≡ 0
     other x true = refl
     other x false = refl
-
--- nothing is owed: the tree has ended
-pub tree-done : {outs s : List ℕ} {at n p : ℕ} → Owing (letterOf outs) s at n p → n ≡ 0 → EndsAt outs s at p
-tree-done O z = let w = owing-done O z in record { further = w .0; inside = w .1; behind = w .2 }
 
 -- ---- one letter of a prefix
 -- behind the letter of a node stand its children, and then the other trees
@@ -146,7 +142,7 @@ module _ {outs head s : List ℕ} {m : ℕ} (L : Locatable outs head s m) where
       next-symbol g q = rw q (next (p + 1) h (behind-symbol (byte-at outs head i pattern-there) (omega arith) (letterOf outs (getD s p 0)) (treesAt outs s (p + 1)) (letter-put (letterOf outs) s p tree-there) (W .prefixes)))
 
       -- a ⊤
-      pub next-top : length outs ≤ x → {e p′ : ℕ} → EndsAt outs s p e → p′ ≡ e → Locating outs head s m (i + 1) p′
+      pub next-top : length outs ≤ x → {e p′ : ℕ} → Ended (letterOf outs) s p e → p′ ≡ e → Locating outs head s m (i + 1) p′
       next-top g {e} E q = rw q (next e h (behind-top (byte-at outs head i pattern-there) (omega arith) (E .behind) (W .prefixes)))
 
 -- ---- the letters of a tree
@@ -198,7 +194,7 @@ first-rests none h = absurd (omega arith)
 first-rests (more t ts) h = refl
 
 -- the letters from the place that was located up to the end of the tree there
-pub located-slice : {outs head s : List ℕ} {m p e : ℕ} → LocatedAt outs head s m p → EndsAt outs s p e → Whole (letterOf outs) s → slice p e s ≡ spelt (under m (forest (topOf outs) head) (forest (letterOf outs) s))
+pub located-slice : {outs head s : List ℕ} {m p e : ℕ} → LocatedAt outs head s m p → Ended (letterOf outs) s p e → Whole (letterOf outs) s → slice p e s ≡ spelt (under m (forest (topOf outs) head) (forest (letterOf outs) s))
 unfolding flat
 located-slice {outs} {head} {s} {m} {p} {e} K E W =
     let t = first (treesAt outs s p) in

@@ -25,6 +25,7 @@ pub enum Formed {
 }
 
 // The earliest form of the transducer whose n, counts and marks these are: `starts` says where its bodies start in `out`.
+// What stands in both behind the last body is scratch, and all of it after `Over`.
 pub fn earliest_by(
     stock: &[u8],
     n: usize,

@@ -5,6 +5,7 @@ ghost use mathlib.Core.Path.{_≡_};
 ghost use lib.ListN.{length, getD};
 ghost use Rattle.earliest.specs.Inner.Queue.{Queue, Entered, Sayable, Copied};
 ghost use Rattle.earliest.specs.Inner.Grown.{AddsBody};
+use crate::expand::CALL;
 use formats::bytes::number;
 
 // How many states have been met, or that the form is over the limits of a file.
@@ -38,14 +39,14 @@ fn copy_mark(
     requires { ⌜ Queue (now list) (now place) met × (met < 192) × Sayable (x ∷ []) × (2 * at + 2 ≤ length (now out)) ⌝ }
     ensures { λ n. ⌜ Copied (x ∷ []) (now (list .entry)) (now (place .entry)) met (now (out .entry)) at (now (list .exit)) (now (place .exit)) n (now (out .exit)) ⌝ }
 {
-    if x < 8192 {
+    if x < CALL {
         out[2 * at] = 0;
         out[2 * at + 1] = x as u8;
         return met;
     }
-    let c = x % 8192;
+    let c = x % CALL;
     let n = enter(list, place, met, c);
-    out[2 * at] = (x / 8192) as u8;
+    out[2 * at] = (x / CALL) as u8;
     out[2 * at + 1] = place[c] - 1;
     n
 }

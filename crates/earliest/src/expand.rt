@@ -1,5 +1,5 @@
 // Right-hand sides with the common prefix of each state put for its calls, as lists of letters: a number below 64 is a symbol,
-// 8192 * i + c the call of state c on child i, where state c is the ⊤ at byte c of the table of prefixes.
+// CALL * i + c the call of state c on child i, where state c is the ⊤ at byte c of the table of prefixes.
 ghost use Prim.Native.Nat.{_+_, _≤_, _<_};
 ghost use mathlib.Core.Path.{_≡_};
 ghost use lib.ListN.{length, drop};
@@ -7,9 +7,14 @@ ghost use lib.Seq.{sets};
 ghost use Rattle.theory.specs.Term.{count};
 ghost use Rattle.formats.specs.Inner.Decode.{forest};
 ghost use Rattle.formats.specs.Inner.Judging.{Put};
-ghost use Rattle.earliest.specs.Inner.Letters.{letterOf, labeled, expanded, Expandable, EndsAt, Locatable, LocatedAt};
+ghost use Rattle.prefixes.specs.Inner.Patterns.{Ended};
+ghost use Rattle.earliest.specs.Inner.Letters.{letterOf, labeled, expanded, Expandable, Locatable, LocatedAt};
 use formats::bytes::number;
 use formats::bytes::wide;
+use prefixes::pattern::SLOT;
+
+// The letters of the calls on a child: as many as the table of prefixes has bytes.
+pub(crate) const CALL: usize = 8192;
 
 // Writes a pattern as letters: the ⊤ at byte m becomes the call `base + m`.
 fn label_head(head: &[u8], base: usize, out: &mut [u16], at: usize)
@@ -49,9 +54,9 @@ pub(crate) fn expand(
             out[w] = x as u16;
             w += 1;
         } else {
-            let start = 64 * x;
+            let start = SLOT * x;
             let end = start + wide(sizes[x]);
-            label_head(&heads[start..end], 8192 * i + start, out, w);
+            label_head(&heads[start..end], CALL * i + start, out, w);
             w += end - start;
         }
         j += 1;
@@ -62,7 +67,7 @@ pub(crate) fn expand(
 // The end of the tree at `at`.
 pub(crate) fn letter_end(outs: &[u8], s: &[u16], at: usize) -> usize
     requires { ⌜ 0 < count (forest (letterOf (now outs)) (drop at (now s))) ⌝ }
-    ensures { λ r. ⌜ EndsAt (now (outs .entry)) (now (s .entry)) at r ⌝ }
+    ensures { λ r. ⌜ Ended (letterOf (now (outs .entry))) (now (s .entry)) at r ⌝ }
 {
     let mut owed = 1;
     let mut p = at;

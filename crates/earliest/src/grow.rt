@@ -12,6 +12,7 @@ use crate::expand::letter_end;
 use crate::expand::locate;
 use formats::bytes::number;
 use formats::bytes::wide;
+use prefixes::pattern::SLOT;
 use prefixes::prefix::prefixes;
 
 // A stretch of letters.
@@ -20,7 +21,7 @@ pub struct Span {
     pub to: usize,
 }
 
-// Writes the expanded right-hand side of state c / 64 for symbol a, and says where in it that of state c of the earliest form stands.
+// Writes the expanded right-hand side of state c / SLOT for symbol a, and says where in it that of state c of the earliest form stands.
 fn find_rhs(
     ins: &[u8],
     outs: &[u8],
@@ -35,14 +36,14 @@ fn find_rhs(
     requires { ⌜ Expanding (now ins) (now outs) (now starts) (now marks) (now heads) (now sizes) × State (now heads) (now sizes) c × (a < length (now ins)) × (4096 ≤ length (now letters)) ⌝ }
     ensures { λ r. ⌜ FindsRhs (now (ins .entry)) (now (outs .entry)) (now (starts .entry)) (now (marks .entry)) (now (heads .entry)) (now (sizes .entry)) c a (now (letters .exit)) (r .from) (r .to) ⌝ }
 {
-    let q = c / 64;
+    let q = c / SLOT;
     let b = 1 + q * ins.len() + a;
     let from = number(starts[b]);
     let to = number(starts[b + 1]);
     let len = expand(heads, sizes, marks, from, to, letters);
-    let start = 64 * q;
+    let start = SLOT * q;
     let end = start + wide(sizes[q]);
-    let at = locate(outs, &heads[start..end], &letters[0..len], c % 64);
+    let at = locate(outs, &heads[start..end], &letters[0..len], c % SLOT);
     let stop = letter_end(outs, &letters[0..len], at);
     Span { from: at, to: stop }
 }

@@ -9,7 +9,7 @@ use mathlib.Core.Path.{_≡_, ap, _∙_}
 use mathlib.Core.List.{List, [], _∷_}
 use lib.ListN.{length, getD, set}
 use lib.Seq.{getD-set-same, getD-set-other}
-use Rattle.formats.specs.Inner.Layout.{offset, Starts}
+use Rattle.formats.specs.Inner.Layout.{offset, Starts, KeptBehind}
 
 pub offset-grows : (cs : List ℕ) (j : ℕ) → offset cs j ≤ offset cs (j + 1)
 unfolding offset
@@ -53,3 +53,7 @@ starts-more cs l j v h e S k g = by-case (decLt k (j + 1))
     by-case : Dec (k < j + 1) → getD (set l (j + 1) v) k 0 ≡ offset cs k
     by-case (yes y) = getD-set-other l (j + 1) k v 0 (omega arith) ∙ S k (omega arith)
     by-case (no n) = let z : k ≡ j + 1 = omega arith in rw z (getD-set-same l (j + 1) v 0 h ∙ e)
+
+-- a write behind the entry j moves the border of what stays
+pub kept-more : (before l : List ℕ) (j v : ℕ) → KeptBehind before l j → KeptBehind before (set l (j + 1) v) (j + 1)
+kept-more before l j v K k g = getD-set-other l (j + 1) k v 0 (omega arith) ∙ K k (omega arith)

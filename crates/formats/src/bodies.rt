@@ -3,7 +3,7 @@ ghost use mathlib.Core.Path.{_≡_};
 ghost use Prim.Native.Nat.{_+_, _*_, _≤_, _<_};
 ghost use lib.ListN.{length, getD};
 ghost use Rattle.formats.specs.Inner.Decode.{forest, Whole};
-ghost use Rattle.formats.specs.Inner.Layout.{offset, markOf, Summed, Starts, Laid, Wholes};
+ghost use Rattle.formats.specs.Inner.Layout.{offset, markOf, Summed, Starts, KeptBehind, Laid, Wholes};
 ghost use Rattle.formats.specs.Inner.Marked.{ended, part};
 ghost use Rattle.formats.specs.Refusal.{Decides};
 use crate::bytes::number;
@@ -37,6 +37,7 @@ pub(crate) fn counts_right(counts: &[u8], bodies: usize, marks: &[u8]) -> bool
 pub fn fill_starts(counts: &[u8], bodies: usize, starts: &mut [u16])
     requires { ⌜ (2 * bodies ≤ length (now counts)) × (bodies < length (now starts)) × (offset (now counts) bodies < 65536) ⌝ }
     ensures { λ _. ⌜ Starts (now (counts .entry)) (now (starts .exit)) bodies ⌝ }
+    ensures { λ _. ⌜ KeptBehind (now (starts .entry)) (now (starts .exit)) bodies ⌝ }
 {
     let mut sum: usize = 0;
     let mut j = 0;

@@ -15,6 +15,7 @@ use borrow.Author.Tests.{leb-true}
 use Rattle.theory.specs.Term.{Terms, count}
 use Rattle.formats.specs.Inner.Decode.{Letter, call, symbol, unknown, rests, grown, put, forest}
 use Rattle.formats.proofs.Forest.{count-rests, rests-rests}
+use Rattle.prefixes.specs.Inner.Patterns.{Ended}
 
 -- ---- one letter in front of some trees
 -- how many of the trees behind it a letter takes
@@ -107,9 +108,9 @@ module _ {A : Type 0} {f : ℕ → Letter A} {s : List ℕ} where
       )
 
   -- nothing is owed: the tree has ended
-  pub owing-done : {at n p : ℕ} → Owing f s at n p → n ≡ 0 → (at < p) × (p ≤ length s) × (forest f (drop p s) ≡ rests 1 (forest f (drop at s)))
+  pub owing-done : {at n p : ℕ} → Owing f s at n p → n ≡ 0 → Ended f s at p
   unfolding rests
-  owing-done {at} {n} {p} O z = (omega (arith, O .further), O .inside, sym (ap (λ k. rests k (forest f (drop p s))) z) ∙ O .behind)
+  owing-done {at} {n} {p} O z = record { further = omega (arith, O .further); inside = O .inside; behind = sym (ap (λ k. rests k (forest f (drop p s))) z) ∙ O .behind }
 
 -- ---- ranks
 -- a number below the length of outs takes as many trees as its rank there says, and another number none

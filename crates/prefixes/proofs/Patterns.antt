@@ -22,7 +22,7 @@ use Rattle.formats.specs.Refusal.{Decides}
 use Rattle.formats.proofs.Codes.{single}
 use Rattle.formats.proofs.Forest.{count-firsts, count-rests, all-drop}
 use Rattle.prefixes.specs.Inner.Patterns.{top, topIf, topOf, patternCode, IsPattern, readPattern, Ended, Alike, Run, Met}
-use Rattle.prefixes.proofs.Ends.{taken, letter-put, Owing, owing-done, Ranks}
+use Rattle.prefixes.proofs.Ends.{taken, letter-put, Ranks}
 
 -- the patterns that stand from position p on
 abbrev pub patternsAt : List ℕ → List ℕ → ℕ → Patterns
@@ -63,10 +63,6 @@ top-ranks outs = record { named = λ x h. simp (lt-ltb x (length outs) h); free 
     other : (x : ℕ) (b : Bool) → taken (topIf false b x (getD outs x 0)) ≡ 0
     other x true = refl
     other x false = refl
-
--- nothing is owed: the pattern has ended
-pub pattern-done : {outs s : List ℕ} {at n p : ℕ} → Owing (topOf outs) s at n p → n ≡ 0 → Ended outs s at p
-pattern-done O z = let w = owing-done O z in record { further = w .0; inside = w .1; behind = w .2 }
 
 -- ---- what some patterns share, one after the other
 abbrev pub patternCodes : Patterns → List ℕ
@@ -257,7 +253,7 @@ module _ {outs before y x : List ℕ} {i j w : ℕ} {cut : Bool} (M : Meeting ou
         next-turn (i + 1) (j + 1) (getD x i 0) (omega arith) (omega arith) (s .0) (told-on (M .told) (s .1))
 
     -- two bytes: both patterns that begin with them are passed, and ⊤ is written
-    pub other-turn : {i′ j′ : ℕ} {cut′ : Bool} → (getD x i 0 ≡ getD y j 0 → ⊥) → Ended outs x i i′ → Ended outs y j j′ → (getD x i 0 < length outs → cut′ ≡ true) → (length outs ≤ getD x i 0 → cut′ ≡ cut) → Meeting outs before y (set x w top) i′ j′ (w + 1) cut′
+    pub other-turn : {i′ j′ : ℕ} {cut′ : Bool} → (getD x i 0 ≡ getD y j 0 → ⊥) → Ended (topOf outs) x i i′ → Ended (topOf outs) y j j′ → (getD x i 0 < length outs → cut′ ≡ true) → (length outs ≤ getD x i 0 → cut′ ≡ cut) → Meeting outs before y (set x w top) i′ j′ (w + 1) cut′
     other-turn {i′} {j′} n E E′ f g =
         let B = byte-at outs x i first-there in
         let C = byte-at outs y j second-there in

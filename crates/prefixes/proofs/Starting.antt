@@ -202,7 +202,7 @@ module _ {ins outs starts bytes heads₀ sizes₀ other₀ : List ℕ} (A : Pref
   can-settle = record { table = S .table outs (A .layout); layout = rw same (A .layout); room = A .room }
 
   -- and the cuts end with the common prefixes
-  pub all-prefixes : (leaf < length ins) × (getD ins leaf 0 ≡ 0) → {heads′ sizes′ : List ℕ} → Settled ins outs starts bytes leaf heads sizes heads′ sizes′ → length sizes′ ≡ length sizes → Prefixes ins outs starts bytes sizes₀ heads′ sizes′
+  pub all-prefixes : (leaf < length ins) × (getD ins leaf 0 ≡ 0) × ((l : Leaf ins) → leaf ≤ l .symbol) → {heads′ sizes′ : List ℕ} → Settled ins outs starts bytes leaf heads sizes heads′ sizes′ → length sizes′ ≡ length sizes → Prefixes ins outs starts bytes sizes₀ heads′ sizes′
   all-prefixes found T e =
       let l₀ : Leaf ins = record { symbol = leaf; there = found .0; rank = found .1 } in
       let P = rw same at (T .prefs l₀) in

@@ -9,10 +9,13 @@ ghost use Rattle.prefixes.specs.Inner.Patterns.{topOf, IsPattern, Ended,
 use formats::bytes::wide;
 use formats::file::copy_at;
 
+// How many bytes of the table of patterns each state has: that of state q stands from byte SLOT * q on.
+pub const SLOT: usize = 64;
+
 // The end of the pattern at `at`.
 fn pattern_end(outs: &[u8], s: &[u8], at: usize) -> usize
     requires { ⌜ 0 < count (forest (topOf (now outs)) (drop at (now s))) ⌝ }
-    ensures { λ r. ⌜ Ended (now (outs .entry)) (now (s .entry)) at r ⌝ }
+    ensures { λ r. ⌜ Ended (topOf (now (outs .entry))) (now (s .entry)) at r ⌝ }
 {
     let mut owed = 1;
     let mut p = at;
@@ -141,7 +144,7 @@ pub(crate) fn graft(
             w += 1;
         } else {
             let q = wide(x);
-            let start = 64 * q;
+            let start = SLOT * q;
             let size = wide(sizes[q]);
             let part = 32 * ((size + 31) / 32);
             copy_at(&heads[start..start + part], out, w);

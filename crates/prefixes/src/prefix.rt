@@ -1,5 +1,5 @@
 // The common prefixes of the states (01: heads): a table of patterns, cut until no right-hand side cuts any more.
-ghost use Prim.Native.Nat.{_<_};
+ghost use Prim.Native.Nat.{_≤_, _<_};
 ghost use mathlib.Core.Path.{_≡_};
 ghost use lib.ListN.{length, getD};
 ghost use Rattle.formats.specs.Alphabets.{Leaf};
@@ -10,6 +10,7 @@ use crate::callers::first_flag;
 use crate::callers::more_flags;
 use crate::callers::next_flags;
 use crate::callers::other_flags;
+use crate::pattern::SLOT;
 use crate::pattern::graft;
 use crate::pattern::meet;
 use formats::bytes::number;
@@ -30,7 +31,7 @@ pub(crate) fn cut_by(
     ensures { λ b. ⌜ CutBy (now (outs .entry)) (now (marks .entry)) from to q (now (heads .entry)) (now (sizes .entry)) (now (heads .exit)) (now (sizes .exit)) b ⌝ }
 {
     let len = graft(heads, sizes, marks, from, to, other);
-    let start = 64 * q;
+    let start = SLOT * q;
     let end = start + wide(sizes[q]);
     let shared = meet(outs, &mut heads[start..end], &other[0..len]);
     let size = shared.size;
@@ -78,7 +79,7 @@ fn cut_state(
     requires { ⌜ Bodies (now ins) (now outs) (now starts) (now marks) (now heads) (now sizes) (now other) × (q < length (now sizes)) ⌝ }
     ensures { λ b. ⌜ CutState (now (ins .entry)) (now (outs .entry)) (now (starts .entry)) (now (marks .entry)) leaf q (now (heads .entry)) (now (sizes .entry)) (now (heads .exit)) (now (sizes .exit)) b ⌝ }
 {
-    if heads[64 * q] == 255 {
+    if heads[SLOT * q] == 255 {
         return false;
     }
     let mut any = false;
@@ -178,7 +179,7 @@ pub(crate) fn settle(
 // The first input symbol of rank 0.
 pub fn leaf_symbol(ins: &[u8]) -> usize
     requires { ⌜ Leaf (now ins) ⌝ }
-    ensures { λ r. ⌜ (r < length (now (ins .entry))) × (getD (now (ins .entry)) r 0 ≡ 0) ⌝ }
+    ensures { λ r. ⌜ (r < length (now (ins .entry))) × (getD (now (ins .entry)) r 0 ≡ 0) × ((l : Leaf (now (ins .entry))) → r ≤ l .symbol) ⌝ }
 {
     let mut a = 0;
     while ins[a] != 0 {
@@ -192,7 +193,7 @@ fn start_state(marks: &[u8], from: usize, to: usize, heads: &mut [u8], sizes: &m
     requires { ⌜ Startable (now marks) from to (now heads) (now sizes) q ⌝ }
     ensures { λ _. ⌜ Started (now (marks .entry)) from to (now (heads .entry)) (now (sizes .entry)) q (now (heads .exit)) (now (sizes .exit)) ⌝ }
 {
-    let mut w = 64 * q;
+    let mut w = SLOT * q;
     let mut j = from;
     while j < to {
         heads[w] = marks[2 * j + 1];
@@ -224,7 +225,7 @@ fn start_heads(
     }
 }
 
-// The common prefixes of all states.
+// The common prefixes of all states. Scratch: `other`, and what stands in `heads` behind the pattern of a state.
 pub fn prefixes(
     ins: &[u8],
     outs: &[u8],

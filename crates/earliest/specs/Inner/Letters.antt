@@ -10,7 +10,7 @@ use Rattle.theory.specs.Prefix.{Prefix}
 use Rattle.theory.specs.Term.{Term, var, node, Terms, none, more, count}
 use Rattle.theory.specs.Transducer.{Transducer}
 use Rattle.formats.specs.Code.{flat}
-use Rattle.formats.specs.Inner.Decode.{Letter, call, symbol, unknown, forest, first, rests, Whole, joined}
+use Rattle.formats.specs.Inner.Decode.{Letter, call, symbol, unknown, forest, first, Whole, joined}
 use Rattle.formats.specs.Inner.Layout.{markAt, bodyNumber}
 use Rattle.formats.specs.Inner.Marked.{part}
 use Rattle.transducer.specs.Inner.Written.{spell}
@@ -92,12 +92,6 @@ pub record Expandable (heads sizes bytes : List ℕ) (from to : ℕ) (out : List
   pub grafts : Graftable heads sizes bytes from to out
   pub children : (j : ℕ) → from ≤ j → j < to → markAt bytes j .0 ≤ 4
   pub few-states : length sizes ≤ 128
-
--- the tree at position at ends at e
-pub record EndsAt (outs s : List ℕ) (at e : ℕ) : Type 0 where
-  pub further : at < e
-  pub inside : e ≤ length s
-  pub behind : forest (letterOf outs) (drop e s) ≡ rests 1 (forest (letterOf outs) (drop at s))
 
 -- the pattern is a prefix of the tree of the letters, and has a letter number m
 pub record Locatable (outs head s : List ℕ) (m : ℕ) : Type 0 where

@@ -103,6 +103,10 @@ pub record Right (ins : List ℕ) (n : ℕ) (counts bytes : List ℕ) : Type 0 w
 abbrev pub Starts : List ℕ → List ℕ → ℕ → Type 0
 Starts counts starts m = (j : ℕ) → j ≤ m → getD starts j 0 ≡ offset counts j
 
+-- what stands behind entry m of a table stays
+abbrev pub KeptBehind : List ℕ → List ℕ → ℕ → Type 0
+KeptBehind before after m = (j : ℕ) → m < j → getD after j 0 ≡ getD before j 0
+
 -- the bodies lie one after the other in the file, as the table of starts says
 pub record Laid (ins : List ℕ) (n : ℕ) (starts bytes : List ℕ) : Type 0 where
   pub long : bodyCount ins n < length starts

@@ -38,11 +38,11 @@ IsPattern outs s = Whole (topOf outs) s
 unfoldable pub readPattern : List ℕ → List ℕ → Pattern
 readPattern outs s = first (forest (topOf outs) s)
 
--- the pattern at position at ends at e
-pub record Ended (outs s : List ℕ) (at e : ℕ) : Type 0 where
+-- the tree at position at, of the letters that f reads, ends at e
+pub record Ended {A : Type 0} (f : ℕ → Letter A) (s : List ℕ) (at e : ℕ) : Type 0 where
   pub further : at < e
   pub inside : e ≤ length s
-  pub behind : forest (topOf outs) (drop e s) ≡ rests 1 (forest (topOf outs) (drop at s))
+  pub behind : forest f (drop e s) ≡ rests 1 (forest f (drop at s))
 
 -- the n bytes of x from position i on are those of y from position j on
 abbrev pub Alike : List ℕ → ℕ → List ℕ → ℕ → ℕ → Type 0

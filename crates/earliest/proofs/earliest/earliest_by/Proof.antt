@@ -31,7 +31,7 @@ slice-aggregate-early-form : tie.Need-slice-aggregate-early-form
 slice-aggregate-early-form c = search needs
 
 early-form-requires : tie.Need-early-form-requires
-early-form-requires c κs = (parts-formable (c .before .before .before .before .before .before .before .before .before .before .before .before .before .pre .0) (c .before .before .before .before .before .before .before .input-ranks .ensures) (c .before .before .before .output-ranks .ensures) (c .before .before .before .before .before .fill-starts .last .1 .1 .0) (c .before .before .before .before .before .fill-starts .ensures) (c .before .before .before .before .before .fill-starts .kept .1 .1 .0 ∙ length-replicate {A = ℕ} 2050 0), c .before .before .before .before .before .before .before .before .before .before .before .before .before .pre .1, c .before .before .before .before .before .before .before .before .before .before .before .before .before .pre .2)
+early-form-requires c κs = (parts-formable (c .before .before .before .before .before .before .before .before .before .before .before .before .before .pre .0) (c .before .before .before .before .before .before .before .input-ranks .ensures) (c .before .before .before .output-ranks .ensures) (c .before .before .before .before .before .fill-starts .last .1 .1 .0) (c .before .before .before .before .before .fill-starts .ensures .0) (c .before .before .before .before .before .fill-starts .kept .1 .1 .0 ∙ length-replicate {A = ℕ} 2050 0), c .before .before .before .before .before .before .before .before .before .before .before .before .before .pre .1, c .before .before .before .before .before .before .before .before .before .before .before .before .before .pre .2)
 
 same-length : tie.Need-same-length
 same-length c = search needs
@@ -40,7 +40,7 @@ same-length-2 : tie.Need-same-length-2
 same-length-2 c = search needs
 
 returns : tie.Need-returns
-returns c = form-by (c .before .before .before .before .before .before .before .before .before .before .before .before .before .before .before .before .before .before .pre .0) (c .before .before .before .before .before .before .before .before .before .before .before .before .input-ranks .ensures) (c .before .before .before .before .before .before .before .before .output-ranks .ensures) (c .before .before .before .before .before .before .before .before .before .before .fill-starts .last .1 .1 .0) (c .before .before .before .before .before .before .before .before .before .before .fill-starts .ensures) (c .before .before .before .before .before .before .before .before .before .before .fill-starts .kept .1 .1 .0 ∙ length-replicate {A = ℕ} 2050 0) (c .before .before .before .before .early-form .ensures)
+returns c = form-by (c .before .before .before .before .before .before .before .before .before .before .before .before .before .before .before .before .before .before .pre .0) (c .before .before .before .before .before .before .before .before .before .before .before .before .input-ranks .ensures) (c .before .before .before .before .before .before .before .before .output-ranks .ensures) (c .before .before .before .before .before .before .before .before .before .before .fill-starts .last .1 .1 .0) (c .before .before .before .before .before .before .before .before .before .before .fill-starts .ensures .0) (c .before .before .before .before .before .before .before .before .before .before .fill-starts .kept .1 .1 .0 ∙ length-replicate {A = ℕ} 2050 0) (c .before .before .before .before .early-form .ensures)
 
 pub earliest-by-spec : {M : Type 1} → statement M
 earliest-by-spec =

@@ -6,8 +6,8 @@ use mathlib.Core.Path.{refl}
 use lib.ListN.{length}
 use borrow.Author.Needs.{needs}
 use Rattle.earliest.specs.Inner.Letters.{letterOf}
-use Rattle.prefixes.proofs.Ends.{Owing, all-owed, owing-inside, counted-named, counted-free, owing-next}
-use Rattle.earliest.proofs.Locating.{letter-ranks, tree-done}
+use Rattle.prefixes.proofs.Ends.{Owing, all-owed, owing-inside, counted-named, counted-free, owing-next, owing-done}
+use Rattle.earliest.proofs.Locating.{letter-ranks}
 use Rattle.earliest.proofs.expand.letter_end.Statement.{statement}
 use Rattle.earliest.proofs.expand.letter_end.Tie as tie
 
@@ -58,7 +58,7 @@ loop-less : tie.Need-loop-less Inv-loop μ-loop
 loop-less c = omega (arith, loop-again c .inside)
 
 returns : tie.Need-returns Inv-loop μ-loop
-returns c = tree-done (c .before .loop .inv) (omega arith)
+returns c = owing-done (c .before .loop .inv) (omega arith)
 
 pub letter-end-spec : {M : Type 1} → statement M
 letter-end-spec =

@@ -55,7 +55,7 @@ bodies-whole-requires c κs =
     let F = c .before .before .before .fill-starts in
     let S = held (c .before .before .before .before .before .before .counts-right .ensures) (c .before .before .before .before .before .if3 .left) in
     let R : Right (now (c .before .before .before .before .before .before .before .before .before .input-ranks .result)) (c .before .before .before .before .before .before .before .before .before .before .before .before .before .args .n) (now (c .before .before .before .before .before .before .before .before .before .before .before .before .before .args .counts)) (now (c .before .before .before .before .before .before .before .before .before .before .before .before .before .args .marks)) = record { symbols = few-symbols (c .before .before .before .before .before .before .before .before .before .before .before .before .before .pre) (c .before .before .before .before .before .before .before .before .before .input-ranks .ensures); states = c .before .before .before .before .before .before .before .before .if1 .left; long = c .before .before .before .before .before .before .before .if2 .left; sums = S } in
-    laid (F .last .1 .1 .0) R (F .ensures) (F .kept .1 .1 .0 ∙ length-replicate {A = ℕ} 2050 0)
+    laid (F .last .1 .1 .0) R (F .ensures .0) (F .kept .1 .1 .0 ∙ length-replicate {A = ℕ} 2050 0)
 
 returns-4 : tie.Need-returns-4
 returns-4 c =
@@ -64,7 +64,7 @@ returns-4 c =
     let S = held (c .before .before .before .before .before .before .before .before .counts-right .ensures) (c .before .before .before .before .before .before .before .if3 .left) in
     let R : Right (now (c .before .before .before .before .before .before .before .before .before .before .before .input-ranks .result)) (c .before .before .before .before .before .before .before .before .before .before .before .before .before .before .before .args .n) (now (c .before .before .before .before .before .before .before .before .before .before .before .before .before .before .before .args .counts)) (now (c .before .before .before .before .before .before .before .before .before .before .before .before .before .before .before .args .marks)) = record { symbols = few-symbols (c .before .before .before .before .before .before .before .before .before .before .before .before .before .before .before .pre) (c .before .before .before .before .before .before .before .before .before .before .before .input-ranks .ensures); states = c .before .before .before .before .before .before .before .before .before .before .if1 .left; long = c .before .before .before .before .before .before .before .before .before .if2 .left; sums = S } in
     let l = F .kept .1 .1 .0 ∙ length-replicate {A = ℕ} 2050 0 in
-    wrong-body (c .before .before .before .before .before .before .before .before .before .before .before .before .before .before .before .pre) (c .before .before .before .before .before .before .before .before .before .before .before .input-ranks .ensures) R (c .before .before .before .output-ranks .ensures) (λ W. refuted (b .ensures) (c .if4 .taken) (from-offsets (F .last .1 .1 .0) R (F .ensures) l (now (c .before .before .before .output-ranks .result)) W))
+    wrong-body (c .before .before .before .before .before .before .before .before .before .before .before .before .before .before .before .pre) (c .before .before .before .before .before .before .before .before .before .before .before .input-ranks .ensures) R (c .before .before .before .output-ranks .ensures) (λ W. refuted (b .ensures) (c .if4 .taken) (from-offsets (F .last .1 .1 .0) R (F .ensures .0) l (now (c .before .before .before .output-ranks .result)) W))
 
 returns-5 : tie.Need-returns-5
 returns-5 c =
@@ -73,7 +73,7 @@ returns-5 c =
     let S = held (c .before .before .before .before .before .before .before .before .counts-right .ensures) (c .before .before .before .before .before .before .before .if3 .left) in
     let R : Right (now (c .before .before .before .before .before .before .before .before .before .before .before .input-ranks .result)) (c .before .before .before .before .before .before .before .before .before .before .before .before .before .before .before .args .n) (now (c .before .before .before .before .before .before .before .before .before .before .before .before .before .before .before .args .counts)) (now (c .before .before .before .before .before .before .before .before .before .before .before .before .before .before .before .args .marks)) = record { symbols = few-symbols (c .before .before .before .before .before .before .before .before .before .before .before .before .before .before .before .pre) (c .before .before .before .before .before .before .before .before .before .before .before .input-ranks .ensures); states = c .before .before .before .before .before .before .before .before .before .before .if1 .left; long = c .before .before .before .before .before .before .before .before .before .if2 .left; sums = S } in
     let l = F .kept .1 .1 .0 ∙ length-replicate {A = ℕ} 2050 0 in
-    all-right (c .before .before .before .before .before .before .before .before .before .before .before .before .before .before .before .pre) (c .before .before .before .before .before .before .before .before .before .before .before .input-ranks .ensures) R (c .before .before .before .output-ranks .ensures) (to-offsets (F .last .1 .1 .0) R (F .ensures) l (now (c .before .before .before .output-ranks .result)) (held (b .ensures) (c .if4 .left)))
+    all-right (c .before .before .before .before .before .before .before .before .before .before .before .before .before .before .before .pre) (c .before .before .before .before .before .before .before .before .before .before .before .input-ranks .ensures) R (c .before .before .before .output-ranks .ensures) (to-offsets (F .last .1 .1 .0) R (F .ensures .0) l (now (c .before .before .before .output-ranks .result)) (held (b .ensures) (c .if4 .left)))
 
 pub judge-parts-spec : {M : Type 1} → statement M
 judge-parts-spec =

@@ -6,8 +6,8 @@ use mathlib.Core.Path.{refl}
 use lib.ListN.{length}
 use borrow.Author.Needs.{needs}
 use Rattle.prefixes.specs.Inner.Patterns.{topOf}
-use Rattle.prefixes.proofs.Ends.{Owing, all-owed, owing-inside, counted-named, counted-free, owing-next}
-use Rattle.prefixes.proofs.Patterns.{top-ranks, pattern-done}
+use Rattle.prefixes.proofs.Ends.{Owing, all-owed, owing-inside, counted-named, counted-free, owing-next, owing-done}
+use Rattle.prefixes.proofs.Patterns.{top-ranks}
 use Rattle.prefixes.proofs.pattern.pattern_end.Statement.{statement}
 use Rattle.prefixes.proofs.pattern.pattern_end.Tie as tie
 
@@ -55,7 +55,7 @@ loop-less : tie.Need-loop-less Inv-loop μ-loop
 loop-less c = omega (arith, loop-again c .inside)
 
 returns : tie.Need-returns Inv-loop μ-loop
-returns c = pattern-done (c .before .loop .inv) (omega arith)
+returns c = owing-done (c .before .loop .inv) (omega arith)
 
 pub pattern-end-spec : {M : Type 1} → statement M
 pattern-end-spec =

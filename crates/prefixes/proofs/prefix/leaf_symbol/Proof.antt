@@ -29,7 +29,7 @@ loop-again : tie.Need-loop-again Inv-loop μ-loop
 loop-again c = not-leaf (c .before .before .loop .inv) (c .if1 .taken)
 
 returns : tie.Need-returns Inv-loop μ-loop
-returns c = (shared-slice-read-if1 (c .before), c .if1 .left)
+returns c = (shared-slice-read-if1 (c .before), c .if1 .left, c .before .before .loop .inv)
 
 pub leaf-symbol-spec : {M : Type 1} → statement M
 leaf-symbol-spec =

@@ -49,7 +49,7 @@ slice-aggregate-follow-2 c = search needs
 follow-requires : tie.Need-follow-requires
 follow-requires c κs =
     let F = c .before .before .before .before .before .before .before .before .before .before .fill-starts in
-    can-follow (c .before .before .before .before .before .before .before .before .before .before .before .before .before .before .before .before .before .before .pre) (c .before .before .before .before .before .before .before .before .before .before .before .before .input-ranks .ensures) (c .before .before .before .before .before .before .before .before .measure-all .ensures) (c .before .before .before .before .before .before .enum-told .given .1) (c .before .before .output-ranks .ensures) (F .last .1 .1 .0) (F .ensures) (F .kept .1 .1 .0 ∙ length-replicate {A = ℕ} 2050 0) (c .before .before .before .before .fill-ends .ensures)
+    can-follow (c .before .before .before .before .before .before .before .before .before .before .before .before .before .before .before .before .before .before .pre) (c .before .before .before .before .before .before .before .before .before .before .before .before .input-ranks .ensures) (c .before .before .before .before .before .before .before .before .measure-all .ensures) (c .before .before .before .before .before .before .enum-told .given .1) (c .before .before .output-ranks .ensures) (F .last .1 .1 .0) (F .ensures .0) (F .kept .1 .1 .0 ∙ length-replicate {A = ℕ} 2050 0) (c .before .before .before .before .fill-ends .ensures)
 
 enum-told-2 : tie.Need-enum-told-2
 enum-told-2 c = search needs
@@ -57,7 +57,7 @@ enum-told-2 c = search needs
 returns : tie.Need-returns
 returns c =
     let F = c .before .before .before .before .before .before .before .before .before .before .before .fill-starts in
-    symbol-found (c .before .before .before .before .before .before .before .before .before .before .before .before .before .before .before .before .before .before .before .pre) (c .before .before .before .before .before .before .before .before .before .before .before .before .before .input-ranks .ensures) (c .before .before .before .before .before .before .before .before .before .measure-all .ensures) (c .before .before .before .before .before .before .before .enum-told .given .1) (c .before .before .before .output-ranks .ensures) (F .last .1 .1 .0) (F .ensures) (F .kept .1 .1 .0 ∙ length-replicate {A = ℕ} 2050 0) (now (c .before .before .before .before .before .before .before .before .before .before .before .before .before .before .before .before .before .before .before .args .address)) (c .follow .ensures)
+    symbol-found (c .before .before .before .before .before .before .before .before .before .before .before .before .before .before .before .before .before .before .before .pre) (c .before .before .before .before .before .before .before .before .before .before .before .before .before .input-ranks .ensures) (c .before .before .before .before .before .before .before .before .before .measure-all .ensures) (c .before .before .before .before .before .before .before .enum-told .given .1) (c .before .before .before .output-ranks .ensures) (F .last .1 .1 .0) (F .ensures .0) (F .kept .1 .1 .0 ∙ length-replicate {A = ℕ} 2050 0) (now (c .before .before .before .before .before .before .before .before .before .before .before .before .before .before .before .before .before .before .before .args .address)) (c .follow .ensures)
 
 returns-2 : tie.Need-returns-2
 returns-2 c = no-tree (c .before .before .before .before .before .before .before .before .before .before .before .before .pre) (c .before .before .before .before .before .before .input-ranks .ensures) (c .before .before .measure-all .ensures) (now (c .before .before .before .before .before .before .before .before .before .before .before .before .args .address)) (c .enum-told2 .given .1)

@@ -65,16 +65,16 @@ part-all-once-end c = search needs
 all-once-requires : tie.Need-all-once-requires
 all-once-requires c κs =
     let F = c .before .before .before .fill-starts in
-    opened-bodies (parts (c .before .before .before .before .before .before)) (F .last .1 .1 .0) (F .ensures) (F .kept .1 .1 .0 ∙ length-replicate {A = ℕ} 2050 0)
+    opened-bodies (parts (c .before .before .before .before .before .before)) (F .last .1 .1 .0) (F .ensures .0) (F .kept .1 .1 .0 ∙ length-replicate {A = ℕ} 2050 0)
 
 enum-known-r : tie.Need-enum-known-r
 enum-known-r c = search needs
 
 returns : tie.Need-returns
-returns c = let F = c .before .before .before .before .before .fill-starts in tested (parts (c .before .before .before .before .before .before .before .before)) (F .last .1 .1 .0) (F .ensures) Linear (ap accepted (sym (c .if1 .taken))) (c .before .all-once .ensures)
+returns c = let F = c .before .before .before .before .before .fill-starts in tested (parts (c .before .before .before .before .before .before .before .before)) (F .last .1 .1 .0) (F .ensures .0) Linear (ap accepted (sym (c .if1 .taken))) (c .before .all-once .ensures)
 
 returns-2 : tie.Need-returns-2
-returns-2 c = let F = c .before .before .before .before .before .fill-starts in tested (parts (c .before .before .before .before .before .before .before .before)) (F .last .1 .1 .0) (F .ensures) NotLinear (ap accepted (sym (c .if1 .left))) (c .before .all-once .ensures)
+returns-2 c = let F = c .before .before .before .before .before .fill-starts in tested (parts (c .before .before .before .before .before .before .before .before)) (F .last .1 .1 .0) (F .ensures .0) NotLinear (ap accepted (sym (c .if1 .left))) (c .before .all-once .ensures)
 
 returns-3 : tie.Need-returns-3
 returns-3 c = not-opened (now (c .before .before .before .before .before .before .args .stock)) (now (c .before .before .before .before .before .before .args .sheet)) no-more tt (c .before .before .before .read-transducer .ensures) (c .before .r .given .1)

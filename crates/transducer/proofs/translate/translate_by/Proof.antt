@@ -45,7 +45,7 @@ emit-requires : tie.Need-emit-requires
 emit-requires c κs =
     let F = c .before .before .before .before .before .before .before .before .before .before .before .before .fill-starts in
     let E = c .before .before .before .before .before .fill-ends in
-    can-walk (c .before .before .before .before .before .before .before .before .before .before .before .before .before .before .before .before .before .before .before .before .pre) (c .before .before .before .before .before .before .before .before .before .before .before .before .before .before .input-ranks .ensures) (c .before .before .before .before .before .before .before .before .before .before .measure-all .ensures) (c .before .before .before .before .before .before .before .before .levels .given .1) (F .last .1 .1 .0) (F .ensures) (F .kept .1 .1 .0 ∙ length-replicate {A = ℕ} 2050 0) (c .before .before .before .number .result) (c .before .before .before .number .ensures) (E .ensures) (E .kept .1 .1 .0 ∙ length-replicate {A = ℕ} 4096 0)
+    can-walk (c .before .before .before .before .before .before .before .before .before .before .before .before .before .before .before .before .before .before .before .before .pre) (c .before .before .before .before .before .before .before .before .before .before .before .before .before .before .input-ranks .ensures) (c .before .before .before .before .before .before .before .before .before .before .measure-all .ensures) (c .before .before .before .before .before .before .before .before .levels .given .1) (F .last .1 .1 .0) (F .ensures .0) (F .kept .1 .1 .0 ∙ length-replicate {A = ℕ} 2050 0) (c .before .before .before .number .result) (c .before .before .before .number .ensures) (E .ensures) (E .kept .1 .1 .0 ∙ length-replicate {A = ℕ} 4096 0)
 
 same-length : tie.Need-same-length
 same-length c = search needs
@@ -53,7 +53,7 @@ same-length c = search needs
 returns : tie.Need-returns
 returns c =
     let F = c .before .before .before .before .before .before .before .before .before .before .before .before .before .before .before .before .fill-starts in
-    too-long (c .before .before .before .before .before .before .before .before .before .before .before .before .before .before .before .before .before .before .before .before .before .before .before .before .pre) (c .before .before .before .before .before .before .before .before .before .before .before .before .before .before .before .before .before .before .input-ranks .ensures) (c .before .before .before .before .before .before .before .before .before .before .before .before .before .before .measure-all .ensures) (c .before .before .before .before .before .before .before .before .before .before .before .before .levels .given .1) (F .last .1 .1 .0) (F .ensures) (F .kept .1 .1 .0 ∙ length-replicate {A = ℕ} 2050 0) (c .before .before .before .before .before .before .before .number .result) (c .before .before .before .before .before .before .before .number .ensures) (c .before .before .before .emit .ensures) (omega (arith, c .if1 .taken))
+    too-long (c .before .before .before .before .before .before .before .before .before .before .before .before .before .before .before .before .before .before .before .before .before .before .before .before .pre) (c .before .before .before .before .before .before .before .before .before .before .before .before .before .before .before .before .before .before .input-ranks .ensures) (c .before .before .before .before .before .before .before .before .before .before .before .before .before .before .measure-all .ensures) (c .before .before .before .before .before .before .before .before .before .before .before .before .levels .given .1) (F .last .1 .1 .0) (F .ensures .0) (F .kept .1 .1 .0 ∙ length-replicate {A = ℕ} 2050 0) (c .before .before .before .before .before .before .before .number .result) (c .before .before .before .before .before .before .before .number .ensures) (c .before .before .before .emit .ensures) (omega (arith, c .if1 .taken))
 
 enum-told : tie.Need-enum-told
 enum-told c = search needs
@@ -64,7 +64,7 @@ same-length-2 c = search needs
 returns-2 : tie.Need-returns-2
 returns-2 c =
     let F = c .before .before .before .before .before .before .before .before .before .before .before .before .before .before .before .before .fill-starts in
-    all-written (c .before .before .before .before .before .before .before .before .before .before .before .before .before .before .before .before .before .before .before .before .before .before .before .before .pre) (c .before .before .before .before .before .before .before .before .before .before .before .before .before .before .before .before .before .before .input-ranks .ensures) (c .before .before .before .before .before .before .before .before .before .before .before .before .before .before .measure-all .ensures) (c .before .before .before .before .before .before .before .before .before .before .before .before .levels .given .1) (F .last .1 .1 .0) (F .ensures) (F .kept .1 .1 .0 ∙ length-replicate {A = ℕ} 2050 0) (c .before .before .before .before .before .before .before .number .result) (c .before .before .before .before .before .before .before .number .ensures) (c .before .before .before .emit .ensures) (omega (arith, c .if1 .left))
+    all-written (c .before .before .before .before .before .before .before .before .before .before .before .before .before .before .before .before .before .before .before .before .before .before .before .before .pre) (c .before .before .before .before .before .before .before .before .before .before .before .before .before .before .before .before .before .before .input-ranks .ensures) (c .before .before .before .before .before .before .before .before .before .before .before .before .before .before .measure-all .ensures) (c .before .before .before .before .before .before .before .before .before .before .before .before .levels .given .1) (F .last .1 .1 .0) (F .ensures .0) (F .kept .1 .1 .0 ∙ length-replicate {A = ℕ} 2050 0) (c .before .before .before .before .before .before .before .number .result) (c .before .before .before .before .before .before .before .number .ensures) (c .before .before .before .emit .ensures) (omega (arith, c .if1 .left))
 
 returns-3 : tie.Need-returns-3
 returns-3 c = not-tree (c .before .before .before .before .before .before .before .before .before .before .before .before .pre) (c .before .before .before .before .before .before .input-ranks .ensures) (c .before .before .measure-all .ensures) (c .enum-told .given .1)
