@@ -1,17 +1,15 @@
 -- What cleaning answers, and when two transducers are alike.
-use Prim.Native.Nat.{ℕ, _≤_}
+use Prim.Native.Nat.{ℕ}
 use mathlib.Core.List.{List}
 use mathlib.Core.Path.{_≡_}
-use lib.ListN.{length}
 use Rattle.theory.specs.NormalForm.{NormalForm}
 use Rattle.theory.specs.Term.{Tree}
 use Rattle.theory.specs.Transducer.{Transducer, translate}
-use Rattle.formats.specs.Alphabets.{Leaf, Alphabets, inputs, outputs, alphabetCheck}
+use Rattle.formats.specs.Alphabets.{Leaf, Alphabets, inputs, outputs}
 use Rattle.formats.specs.Code.{Ranked}
-use Rattle.formats.specs.Refusal.{done, check, Judged}
-use Rattle.formats.specs.Sheet.{longest, Encodes, Sheet, sheetCheck}
+use Rattle.formats.specs.Sheet.{Encodes, Sheet}
 use Rattle.prefixes.specs.Alphabet.{alphabet}
-use Rattle.earliest.specs.Answers.{formCheck, formOf, FileOf}
+use Rattle.earliest.specs.Answers.{MakesForm}
 use Rattle.earliest.specs.declared.earliest.Formed.{Formed}
 
 -- two transducers over one input alphabet are equivalent (01: sew alike): they give equal output trees on every input tree, of any size
@@ -34,7 +32,4 @@ pub record NormalFile (stock s : List ℕ) (k : ℕ) (counts bytes : List ℕ) :
 
 -- ---- cleaning: the file of the normal form
 abbrev pub Cleans : List ℕ → List ℕ → List ℕ → List ℕ → Formed → Type 0
-Cleans stock s before after r =
-    Judged (after ≡ before) (λ v. (counts : List ℕ) × ((bytes : List ℕ) × (NormalFile stock s (v .0) counts bytes × FileOf v counts bytes before after)))
-    (check 1 (longest ≤ length before) (alphabetCheck stock (sheetCheck stock s (formCheck stock s done))))
-    (formOf r)
+Cleans stock s before after r = MakesForm (NormalFile stock s) stock s before after r
