@@ -18,9 +18,9 @@ use Rattle.earliest.specs.declared.early.Grown.the-variants.{States, Over}
 use Rattle.earliest.specs.declared.earliest.Formed.{Formed}
 use Rattle.earliest.proofs.Filing.{packed-encoded}
 use Rattle.earliest.proofs.Forming.{found-file, file-made}
+use Rattle.earliest.proofs.Laws.{encoded-wf}
 use Rattle.canonical.specs.Answers.{NormalFile, Cleans}
 use Rattle.canonical.specs.Inner.Normal.{Reducible, Reduces, NormalOf, NormalBy}
-use Rattle.canonical.proofs.Normalizing.{encoded-wf}
 
 -- ---- of the parts of a file, by their earliest form
 module _ {stock counts bytes from early : List ℕ} {n : ℕ} {r : Grown} (X : Machine stock n counts bytes) (B : EarliestBy stock n counts bytes from early r) where

@@ -23,8 +23,8 @@ use Rattle.formats.specs.Sheet.{Encodes, countBytes, markBytes, bodyBytes, each
 use Rattle.transducer.proofs.Samples.{below, leaf}
 use Rattle.prefixes.specs.Alphabet.{alphabet, childrenOf}
 use Rattle.prefixes.proofs.Samples.{pairs, M, M-machine, M-sheet, d, e, line, G}
+use Rattle.earliest.proofs.Laws.{encoded-wf}
 use Rattle.canonical.specs.Answers.{NormalFile}
-use Rattle.canonical.proofs.Normalizing.{encoded-wf}
 
 pairs-alphabets : Alphabets pairs
 unfolding stock inputs outputs

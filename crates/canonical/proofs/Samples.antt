@@ -23,8 +23,8 @@ use Rattle.formats.specs.Code.{Ranked, flat, Call}
 use Rattle.formats.specs.Sheet.{Encodes, Sheet, countBytes, markBytes, bodyBytes, each, terms}
 use Rattle.transducer.proofs.Samples.{S, T, S-alphabets, T-machine, T-sheet, twice, line, below, leaf, chain}
 use Rattle.prefixes.specs.Alphabet.{alphabet, childrenOf}
+use Rattle.earliest.proofs.Laws.{encoded-wf}
 use Rattle.canonical.specs.Answers.{NormalFile}
-use Rattle.canonical.proofs.Normalizing.{encoded-wf}
 
 -- ---- no state: the initial term is e
 abbrev pub leaf-file : List ℕ
