@@ -1,59 +1,37 @@
--- What cleaning promises of two files and of its own results: equal clean files exactly for transducers that are alike; a clean file is accepted again, translates as its transducer, and cleans to itself.
+-- What cleaning promises of two files and of its own results: equal clean files exactly for transducers that are alike; a clean file is accepted again, translates as its transducer, and cleans to itself; the contract determines the answer and the area; a clean file is the trimmed one with equal states made one.
 use Prim.Native.Nat.{ℕ, _≤_}
 use native.Mathlib.Omega.{arith}
 use mathlib.Core.List.{List}
 use mathlib.Core.Logic.{_↔_}
-use mathlib.Core.Path.{_≡_, refl, ap, sym, _∙_}
+use mathlib.Core.Path.{_≡_, refl, sym, _∙_}
 use lib.ListN.{length, take}
 use Rattle.theory.specs.Equivalent.{Equivalent}
-use Rattle.theory.specs.NormalForm.{Identical}
+use Rattle.theory.specs.NormalForm.{NormalForm, Identical}
+use Rattle.theory.specs.Quotient.{quotient}
 use Rattle.theory.specs.Transducer.{Transducer}
+use Rattle.theory.proofs.Classes.{loop-classes, loop-exact}
+use Rattle.theory.proofs.Decide.{classes-exist}
 use Rattle.theory.proofs.Equivalences.{equivalent-trans}
 use Rattle.theory.proofs.Existence.{normal-trimmed}
-use Rattle.theory.proofs.Identity.{identical-equivalent}
-use Rattle.theory.proofs.NormalForms.{normal-unique}
+use Rattle.theory.proofs.Identity.{identical-sym, identical-equivalent, identical-normal}
+use Rattle.theory.proofs.NormalForms.{normal-unique, classes-normal, quotient-normal}
+use Rattle.theory.proofs.Trimming.{trimmed-equivalent, trimmed-wf, trimmed-earliest, trimmed-numbered}
 use Rattle.formats.specs.Alphabets.{Leaf, Alphabets, inputs, outputs, alphabetCheck}
-use Rattle.formats.specs.Code.{marks}
 use Rattle.formats.specs.Refusal.{accepted, done, Holds}
-use Rattle.formats.specs.Sheet.{file, countBytes, bodyBytes, terms, bodiesOf, Encodes, Sheet, sheetCheck}
+use Rattle.formats.specs.Sheet.{file, Sheet, sheetCheck}
 use Rattle.formats.proofs.Judging.{accepted-holds}
-use Rattle.formats.proofs.Lines.{bodies-are, bodies-length, bodies-at}
 use Rattle.formats.proofs.Laws.{written-take}
-use Rattle.formats.proofs.Sheets.{sheet-unique, sheet-counted, encodes-counted, file-short}
-use Rattle.prefixes.specs.Alphabet.{alphabet, children-inside, children-of}
+use Rattle.formats.proofs.Sheets.{sheet-counted, encodes-counted, file-short}
+use Rattle.prefixes.specs.Alphabet.{alphabet}
 use Rattle.earliest.specs.Answers.{EarliestFile, formCheck, formOf}
 use Rattle.earliest.specs.declared.earliest.Formed.{Formed}
-use Rattle.canonical.specs.Answers.{Alike, SewAlike, NormalFile, Cleans}
+use Rattle.earliest.proofs.Laws.{encoded-wf, same-file, parts-same, file-same, identical-leaf, equiv-leaf, trimmed-leaf, made-one}
+use Rattle.canonical.specs.Answers.{Alike, SewAlike, NormalFile, MergedFile, Cleans}
 use Rattle.canonical.proofs.Alike.{equivalent-alike}
-use Rattle.canonical.proofs.Normalizing.{encoded-wf}
 
-module _ {ins outs : List ℕ} where
-  -- transducers with one file are identical
-  same-file : (l : Leaf ins) {s : List ℕ} {n n′ : ℕ} {M M′ : Transducer ℕ} → Sheet ins outs s n M → Sheet ins outs s n′ M′ → Identical (alphabet ins l) M M′ n n′
-  unfolding alphabet
-  same-file l {s} {n} {n′} {M} {M′} S S′ =
-      let u = sheet-unique ins outs s n n′ M M′ S S′ in
-      record {
-        number = u .0;
-        initial = u .3;
-        sort = λ p h. S .encodes .over .sort p h ∙ sym (S′ .encodes .over .sort p (rw (u .0) at h));
-        rhs = λ p a sorts h k. u .4 p a h (children-inside ins a k .0);
-      }
-
-  -- so they are equivalent
-  same-equivalent : length ins ≤ 16 → (l : Leaf ins) {s : List ℕ} {n n′ : ℕ} {M M′ : Transducer ℕ} → Sheet ins outs s n M → Sheet ins outs s n′ M′ → Equivalent (alphabet ins l) M M′
-  same-equivalent few l S S′ = identical-equivalent (same-file l S S′) (encoded-wf few l (S .encodes))
-
-  -- identical transducers have one file
-  file-same : (l : Leaf ins) {n n′ : ℕ} {M M′ : Transducer ℕ} {counts counts′ bytes bytes′ : List ℕ} → Encodes ins outs n counts bytes M → Encodes ins outs n′ counts′ bytes′ M′ → Identical (alphabet ins l) M M′ n n′ → file n counts bytes ≡ file n′ counts′ bytes′
-  unfolding alphabet terms
-  file-same l {n} {n′} {M} {M′} E E′ i =
-      let P = length ins in
-      let b : bodiesOf P n M ≡ bodiesOf P n M′ = bodies-are P n M (bodiesOf P n M′) (bodies-length P n M′) (ap marks (i .initial)) (λ q a h g. ap marks (i .rhs q a _ h (children-of ins a g)) ∙ sym (bodies-at P n M′ q a h g)) in
-      let b′ : bodiesOf P n M ≡ bodiesOf P n′ M′ = b ∙ ap (λ k. bodiesOf P k M′) (i .number) in
-      let c = sym (E .counts-coded) ∙ (ap countBytes b′ ∙ E′ .counts-coded) in
-      let m = sym (E .marks-coded) ∙ (ap bodyBytes b′ ∙ E′ .marks-coded) in
-      rw (i .number, c, m) refl
+-- transducers with one file are equivalent
+same-equivalent : {ins outs : List ℕ} → length ins ≤ 16 → (l : Leaf ins) {s : List ℕ} {n n′ : ℕ} {M M′ : Transducer ℕ} → Sheet ins outs s n M → Sheet ins outs s n′ M′ → Equivalent (alphabet ins l) M M′
+same-equivalent few l S S′ = identical-equivalent (same-file l S S′) (encoded-wf few l (S .encodes))
 
 -- a clean file is the file of the normal form
 form-sheet : {stock s : List ℕ} {k : ℕ} {counts bytes : List ℕ} (F : NormalFile stock s k counts bytes) → Sheet (inputs stock) (outputs stock) (file k counts bytes) k (F .form)
@@ -134,3 +112,60 @@ cleaned-exact r r′ J e J′ e′ =
     let x = clean-exact (C .normal) (C′ .normal) in
     let y = sheets-alike (C .normal) (C′ .normal) in
     (λ b. y .0 (x .0 (sym (C .begins) ∙ (b ∙ C′ .begins))), λ a. C .begins ∙ (x .1 (y .1 a) ∙ sym (C′ .begins)))
+
+-- ---- the contract determines the result
+-- A transducer's file has one normal form.
+pub normal-one : {stock s : List ℕ} (k k′ : ℕ) (counts counts′ bytes bytes′ : List ℕ) → NormalFile stock s k counts bytes → NormalFile stock s k′ counts′ bytes′ → (k ≡ k′) × (counts ≡ counts′) × (bytes ≡ bytes′)
+normal-one k k′ counts counts′ bytes bytes′ F F′ =
+    let l = F .alphabets .leaf in
+    parts-same l (F .encodes) (F′ .encodes) (normal-unique (F .normal l) (F′ .normal l) .0 (same-equivalent (F .alphabets .ins .few) l (F .sheet) (F′ .sheet)))
+
+-- The contract of cleaning determines the answer and the area.
+pub cleans-one : {stock s before after after′ : List ℕ} (r r′ : Formed) → Cleans stock s before after r → Cleans stock s before after′ r′ → (after ≡ after′) × (formOf r ≡ formOf r′)
+cleans-one {stock} {s} = made-one {Form = NormalFile stock s} normal-one
+
+-- ---- the clean sheet in document 01's words
+module _ {stock s : List ℕ} {k : ℕ} {counts bytes : List ℕ} where
+  -- the trimmed sheet with equal passes made one is the normal form
+  pub merged-normal : MergedFile stock s k counts bytes → NormalFile stock s k counts bytes
+  merged-normal F = record { alphabets = F .alphabets; states = F .states; machine = F .machine; sheet = F .sheet; form = F .form; normal = normal; encodes = F .encodes }
+    where
+      normal : (l : Leaf (inputs stock)) → NormalForm (alphabet (inputs stock) l) (F .machine) (F .form) k
+      normal l =
+          let g = F .alphabets .leaf in
+          let W = encoded-wf (F .alphabets .ins .few) l (F .sheet .encodes) in
+          let T = trimmed-leaf g l (F .trimmed) in
+          identical-normal (identical-sym (identical-leaf g l (F .merged)))
+          (classes-normal (trimmed-equivalent W T) (trimmed-wf W T) (trimmed-earliest W T) (trimmed-numbered W T) (F .classes) (λ p q h h′. let x = F .equal p q h h′ in (λ e. equiv-leaf g l (x .0 e), λ z. x .1 (equiv-leaf l g z))))
+
+  -- and the normal form is that, as the trimmed sheet is within the limits
+  pub normal-merged : {k′ : ℕ} {counts′ bytes′ : List ℕ} → EarliestFile stock s k′ counts′ bytes′ → NormalFile stock s k counts bytes → MergedFile stock s k counts bytes
+  normal-merged {k′} E F =
+      let l = E .alphabets .leaf in
+      let W = encoded-wf (E .alphabets .ins .few) l (E .sheet .encodes) in
+      let T = E .trimmed in
+      let C = classes-exist (trimmed-wf W T) (trimmed-earliest W T) in
+      let N = quotient-normal (trimmed-equivalent W T) (trimmed-wf W T) (trimmed-earliest W T) (trimmed-numbered W T) (C .loop) in
+      let i : Identical (alphabet (inputs stock) l) (F .form) (quotient (E .form) (C .class) (C .least)) k (C .number) = normal-unique (F .normal l) N .0 (same-equivalent (F .alphabets .ins .few) l (F .sheet) (E .sheet)) in
+      record {
+        alphabets = E .alphabets;
+        states = E .states;
+        machine = E .machine;
+        sheet = E .sheet;
+        early = E .form;
+        passes = k′;
+        trimmed = T;
+        class = C .class;
+        least = C .least;
+        classes = rw (i .number) (loop-classes (C .loop));
+        equal = loop-exact (C .loop);
+        form = F .form;
+        merged = rw (← i .number) at i;
+        numbered = F .normal l .numbered;
+        encodes = F .encodes;
+      }
+
+-- What is written is the file of the trimmed sheet with equal passes made one, and numbered as first met.
+pub cleaned-merged : {stock s before after : List ℕ} (r : Formed) {v : ℕ × ℕ × ℕ} → Cleans stock s before after r → formOf r ≡ accepted v → {counts bytes : List ℕ} → NormalFile stock s (v .0) counts bytes → MergedFile stock s (v .0) counts bytes
+unfolding Holds
+cleaned-merged r J e F = let w = accepted-holds (rw e at J) in normal-merged (w .0 .1 .1 .1 .1 .0 .1 .1 .1) F

@@ -3,19 +3,15 @@ use Prim.Native.Nat.{ℕ, _-_, _≤_, _<_}
 use native.Mathlib.Nat.{sub-zero}
 use native.Mathlib.Omega.{arith}
 use mathlib.Core.List.{List}
-use mathlib.Core.Path.{_≡_, refl, sym}
+use mathlib.Core.Path.{_≡_}
 use lib.ListN.{length, length-replicate, replicate, take}
 use lib.Seq.{length-take-le}
-use Rattle.theory.specs.Transducer.{Transducer}
 use Rattle.theory.specs.Wf.{Wf}
 use Rattle.theory.proofs.Equivalences.{equivalent-refl}
-use Rattle.theory.proofs.Identity.{identical-sym, identical-wf, identical-normal}
+use Rattle.theory.proofs.Identity.{identical-sym, identical-normal}
 use Rattle.theory.proofs.NormalForms.{classes-normal}
 use Rattle.formats.specs.Alphabets.{Leaf}
-use Rattle.formats.specs.Inner.Layout.{transducer}
-use Rattle.formats.specs.Sheet.{Encodes}
-use Rattle.formats.proofs.Sheets.{counted-right, encodes-counted, encodes-wholes, encodes-unique, wholes-encodes}
-use Rattle.prefixes.specs.Alphabet.{alphabet, children-inside}
+use Rattle.prefixes.specs.Alphabet.{alphabet}
 use Rattle.prefixes.specs.Inner.Heads.{machine}
 use Rattle.prefixes.proofs.Settling.{machine-wf}
 use Rattle.merging.specs.Inner.Classes.{Settles}
@@ -64,12 +60,3 @@ module _ {ins outs starts bytes : List ℕ} (k : ℕ) (R : Reducible ins outs st
 
   pub reduces-part : {starts′ out : List ℕ} {n : ℕ} → Reduces ins outs starts bytes (length (take (k - 0) (zeros 128))) starts′ out n → Reduces ins outs starts bytes k starts′ out n
   reduces-part G = rw part-long at G
-
--- the transducer that a file's parts encode is well-formed
-pub encoded-wf : {ins outs : List ℕ} → length ins ≤ 16 → (l : Leaf ins) {n : ℕ} {counts bytes : List ℕ} {M : Transducer ℕ} → Encodes ins outs n counts bytes M → Wf (alphabet ins l) M (λ q. q < n)
-unfolding alphabet transducer
-encoded-wf {ins} {outs} few l {n} {counts} {bytes} {M} E =
-    let H = encodes-wholes ins outs n counts bytes M E in
-    let T = wholes-encodes ins outs n counts bytes (counted-right ins n counts bytes few (encodes-counted ins outs n counts bytes M E)) H in
-    let u = encodes-unique ins outs n counts bytes _ M T E in
-    identical-wf (record { number = refl; initial = u .0; sort = λ p h. sym (E .over .sort p h); rhs = λ p a sorts h k. u .1 p a h (children-inside ins a k .0) }) (machine-wf l H)

@@ -33,8 +33,8 @@ use Rattle.transducer.proofs.Samples.{below, leaf}
 use Rattle.prefixes.specs.Alphabet.{alphabet, childrenOf}
 use Rattle.prefixes.proofs.Samples.{M-machine, M-sheet, M-is-pref, line, G}
 use Rattle.earliest.specs.Answers.{EarliestFile}
+use Rattle.earliest.proofs.Laws.{encoded-wf}
 use Rattle.canonical.specs.Answers.{NormalFile}
-use Rattle.canonical.proofs.Normalizing.{encoded-wf}
 
 pairs-alphabets : Alphabets pairs
 unfolding stock inputs outputs

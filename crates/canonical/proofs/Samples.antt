@@ -25,8 +25,8 @@ use Rattle.formats.specs.Samples.{leaf-file, T′, U, S, T}
 use Rattle.formats.specs.Sheet.{Encodes, Sheet, countBytes, markBytes, bodyBytes, each, terms}
 use Rattle.transducer.proofs.Samples.{S-alphabets, T-machine, T-sheet, twice, line, below, leaf, chain}
 use Rattle.prefixes.specs.Alphabet.{alphabet, childrenOf}
+use Rattle.earliest.proofs.Laws.{encoded-wf}
 use Rattle.canonical.specs.Answers.{NormalFile}
-use Rattle.canonical.proofs.Normalizing.{encoded-wf}
 
 -- ---- no state: the initial term is e
 unfoldable leaf-machine : Transducer ℕ

@@ -1,17 +1,20 @@
 -- What cleaning answers, and when two transducers are alike.
-use Prim.Native.Nat.{ℕ, _≤_}
+use Prim.Native.Nat.{ℕ, _<_}
 use mathlib.Core.List.{List}
+use mathlib.Core.Logic.{_↔_}
 use mathlib.Core.Path.{_≡_}
-use lib.ListN.{length}
-use Rattle.theory.specs.NormalForm.{NormalForm}
+use Rattle.theory.specs.Equivalent.{EquivStates}
+use Rattle.theory.specs.NormalForm.{NormalForm, Identical}
+use Rattle.theory.specs.Numbered.{Numbered}
+use Rattle.theory.specs.Quotient.{Classes, quotient}
 use Rattle.theory.specs.Term.{Tree}
 use Rattle.theory.specs.Transducer.{Transducer, translate}
-use Rattle.formats.specs.Alphabets.{Leaf, Alphabets, inputs, outputs, alphabetCheck}
+use Rattle.theory.specs.Trimmed.{Trimmed}
+use Rattle.formats.specs.Alphabets.{Leaf, Alphabets, inputs, outputs}
 use Rattle.formats.specs.Code.{Ranked}
-use Rattle.formats.specs.Refusal.{done, check, Judged}
-use Rattle.formats.specs.Sheet.{longest, Encodes, Sheet, sheetCheck}
+use Rattle.formats.specs.Sheet.{Encodes, Sheet}
 use Rattle.prefixes.specs.Alphabet.{alphabet}
-use Rattle.earliest.specs.Answers.{formCheck, formOf, FileOf}
+use Rattle.earliest.specs.Answers.{MakesForm}
 use Rattle.earliest.specs.declared.earliest.Formed.{Formed}
 
 -- two transducers over one input alphabet are equivalent (01: sew alike): they give equal output trees on every input tree, of any size
@@ -38,9 +41,27 @@ pub record NormalFile (stock s : List ℕ) (k : ℕ) (counts bytes : List ℕ) :
   pub normal : (l : Leaf (inputs stock)) → NormalForm (alphabet (inputs stock) l) machine form k
   pub encodes : Encodes (inputs stock) (outputs stock) k counts bytes form
 
+-- The same in document 01's words: the trimmed sheet, with passes that give equal results on every design made one, and numbered as first met.
+pub record MergedFile (stock s : List ℕ) (k : ℕ) (counts bytes : List ℕ) : Type 0 where
+  pub alphabets : Alphabets stock
+  pub states : ℕ
+  pub machine : Transducer ℕ
+  pub sheet : Sheet (inputs stock) (outputs stock) s states machine
+  -- the trimmed sheet, and the number of its passes
+  pub early : Transducer ℕ
+  pub passes : ℕ
+  pub trimmed : Trimmed (alphabet (inputs stock) (alphabets .leaf)) machine (λ q. q < states) early passes
+  -- passes that give equal results are of one class, and no others are
+  pub class : ℕ → ℕ
+  pub least : ℕ → ℕ
+  pub classes : Classes class least passes k
+  pub equal : (p q : ℕ) → p < passes → q < passes → (class p ≡ class q) ↔ EquivStates (alphabet (inputs stock) (alphabets .leaf)) early early p q
+  -- each class is made one pass
+  pub form : Transducer ℕ
+  pub merged : Identical (alphabet (inputs stock) (alphabets .leaf)) form (quotient early class least) k k
+  pub numbered : Numbered (alphabet (inputs stock) (alphabets .leaf)) form k
+  pub encodes : Encodes (inputs stock) (outputs stock) k counts bytes form
+
 -- ---- cleaning: the file of the normal form
 abbrev pub Cleans : List ℕ → List ℕ → List ℕ → List ℕ → Formed → Type 0
-Cleans stock s before after r =
-    Judged (after ≡ before) (λ v. (counts : List ℕ) × ((bytes : List ℕ) × (NormalFile stock s (v .0) counts bytes × FileOf v counts bytes before after)))
-    (check 1 (longest ≤ length before) (alphabetCheck stock (sheetCheck stock s (formCheck stock s done))))
-    (formOf r)
+Cleans stock s before after r = MakesForm (NormalFile stock s) stock s before after r

@@ -4,16 +4,16 @@ ghost use mathlib.Core.Path.{_≡_};
 ghost use lib.ListN.{length};
 ghost use Rattle.formats.specs.Sheet.{longest};
 ghost use Rattle.transducer.specs.Inner.Machine.{Machine};
+ghost use Rattle.earliest.specs.Inner.Loaded.{FormsFile};
 ghost use Rattle.canonical.specs.Answers.{Cleans};
-ghost use Rattle.canonical.specs.Inner.Normal.{Reducible, Reduces, NormalBy, CleansFile};
+ghost use Rattle.canonical.specs.Inner.Normal.{Reducible, Reduces, NormalOf, NormalBy};
 use crate::quotient::merge;
 use earliest::earliest::Formed;
 use earliest::earliest::earliest_by;
 use earliest::early::Grown;
-use earliest::form::write_form;
+use earliest::form::write_found;
 use formats::alphabet::input_ranks;
 use formats::alphabet::output_ranks;
-use formats::bytes::number;
 use formats::file::FileRead;
 use formats::file::counts_end;
 use formats::file::read_transducer;
@@ -108,18 +108,12 @@ pub(crate) fn normal_by(
 // The file of the normal form of the transducer whose n, counts and marks these are.
 fn clean_file(stock: &[u8], n: usize, counts: &[u8], marks: &[u8], area: &mut [u8]) -> Formed
     requires { ⌜ Machine (now stock) n (now counts) (now marks) × (longest ≤ length (now area)) ⌝ }
-    ensures { λ r. ⌜ CleansFile (now (stock .entry)) n (now (counts .entry)) (now (marks .entry)) (now (area .entry)) (now (area .exit)) r ⌝ }
+    ensures { λ r. ⌜ FormsFile (NormalOf (now (stock .entry)) n (now (counts .entry)) (now (marks .entry))) (now (stock .entry)) n (now (counts .entry)) (now (marks .entry)) (now (area .entry)) (now (area .exit)) r ⌝ }
 {
     let mut starts = [0u16; 2050];
     let mut out = [0u8; 16384];
-    match normal_by(stock, n, counts, marks, &mut starts, &mut out) {
-        Grown::States(k) => {
-            let bytes = write_form(stock, &starts, &out, k, area);
-            let bodies = 1 + k * input_ranks(stock).len();
-            Formed::Form(k, number(starts[bodies]), bytes)
-        }
-        Grown::Over => Formed::Refused(Refusal::OverLimits),
-    }
+    let found = normal_by(stock, n, counts, marks, &mut starts, &mut out);
+    write_found(stock, found, &starts, &out, area)
 }
 
 // Writes the file of the normal form of the transducer of the file `sheet` (01: the clean sheet).

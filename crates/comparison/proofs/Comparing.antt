@@ -38,9 +38,9 @@ use Rattle.earliest.specs.declared.early.Grown.{Grown}
 use Rattle.earliest.specs.declared.early.Grown.the-variants.{States, Over}
 use Rattle.earliest.proofs.Filing.{packed-encoded}
 use Rattle.earliest.proofs.Forming.{from-parts, to-parts}
+use Rattle.earliest.proofs.Laws.{encoded-wf}
 use Rattle.canonical.specs.Answers.{SewAlike}
 use Rattle.canonical.proofs.Alike.{equivalent-alike, ranked-allowed}
-use Rattle.canonical.proofs.Normalizing.{encoded-wf}
 use Rattle.witness.specs.Difference.{treeArea, addressArea, Difference}
 use Rattle.witness.specs.Inner.Forms.{Comparable, Shows}
 use Rattle.comparison.specs.Answers.{Differ, Found, Compares, comparedAs, pairCheck, HandsShorter}

@@ -14,8 +14,9 @@ use Rattle.theory.specs.Transducer.{Transducer}
 use Rattle.theory.specs.Trimmed.{Trimmed}
 use Rattle.theory.specs.Wf.{Wf}
 use Rattle.theory.proofs.Identity.{identical-sym, identical-wf}
+use Rattle.theory.proofs.Terms.{conflict}
 use Rattle.theory.proofs.Trimming.{trimmed-by, trimmed-follows-stage, trimmed-follows-states, trimmed-form, trimmed-same}
-use Rattle.formats.specs.Alphabets.{Leaf, inputs, outputs}
+use Rattle.formats.specs.Alphabets.{Leaf, Alphabets, inputs, outputs}
 use Rattle.formats.specs.Inner.Layout.{bodyCount, Starts}
 use Rattle.formats.specs.Refusal.{done, check, judged, Holds, Judged}
 use Rattle.formats.specs.Sheet.{longest, Encodes}
@@ -28,18 +29,18 @@ use Rattle.transducer.proofs.Translating.{starts-fit}
 use Rattle.prefixes.specs.Alphabet.{alphabet}
 use Rattle.prefixes.specs.Inner.Heads.{headOf, machine, Layout, Prefixable, Prefixes}
 use Rattle.prefixes.proofs.Settling.{machine-wf}
-use Rattle.earliest.specs.Answers.{formOf, formCheck, EarliestFile, FileOf, MakesEarliest}
-use Rattle.earliest.specs.Inner.Forms.{Writable, WritesForm}
+use Rattle.earliest.specs.Answers.{formOf, formCheck, EarliestFile, FileOf, MakesForm, MakesEarliest}
+use Rattle.earliest.specs.Inner.Forms.{WritesForm, FoundWritable, WritesFound}
 use Rattle.earliest.specs.Inner.Growing.{GrowsForm, Formable, EarlyForm}
 use Rattle.earliest.specs.Inner.Grown.{AllFollow}
 use Rattle.earliest.specs.Inner.Letters.{early, Expanding}
 use Rattle.earliest.specs.Inner.Loaded.{EarliestOf, EarliestBy, FormsFile}
+use Rattle.earliest.specs.Inner.Packed.{Packed}
 use Rattle.earliest.specs.declared.early.Grown.{Grown}
 use Rattle.earliest.specs.declared.early.Grown.the-variants.{States, Over}
 use Rattle.earliest.specs.declared.earliest.Formed.{Formed}
 use Rattle.earliest.specs.declared.earliest.Formed.the-variants.{Form, Refused}
 use Rattle.earliest.proofs.Expanding.{pair}
-use Rattle.earliest.proofs.Filing.{form-few}
 use Rattle.earliest.proofs.Loading.{encoded-layout, encoded-same}
 use Rattle.earliest.proofs.Numbers.{prefixed-by, pair-injective, early-numbers-wf, early-maps, pair-sort}
 
@@ -139,33 +140,47 @@ module _ {stock counts bytes : List ℕ} {n : ℕ} (X : Machine stock n counts b
   pub form-by : {starts out : List ℕ} {r : Grown} → EarlyForm ins outs from bytes n starts out r → EarliestBy stock n counts bytes starts out r
   form-by G = form-parts (rw (i, o) at G)
 
--- ---- the file of the form
-module _ {stock counts bytes starts out : List ℕ} {n : ℕ} {r : Grown} (B : EarliestBy stock n counts bytes starts out r) where
-  -- it is over the limits
-  pub form-over : {area : List ℕ} → r ≡ Over → FormsFile stock n counts bytes area area (Refused OverLimits)
-  form-over e = refuse (λ w. B .over e (w .0) (w .1 .0) (w .1 .1 .0) (w .1 .1 .1)) refl
+-- ---- the file of the form that was found
+module _ {stock starts bytes area : List ℕ} {found : Grown} where
+  -- it stands in the table, and there is room
+  pub found-writable : Alphabets stock → ((k : ℕ) → found ≡ States k → Layout (inputs stock) (outputs stock) starts bytes k) → ((k : ℕ) → found ≡ States k → Packed (inputs stock) starts k) → longest ≤ length area → FoundWritable stock found starts bytes area
+  found-writable A L P h = record { each = λ k e. record { alphabets = A; layout = L k e; packed = P k e; room = h } }
 
-  module _ (X : Machine stock n counts bytes) {k : ℕ} (e : r ≡ States k) where
-    pub form-writable : {area : List ℕ} → longest ≤ length area → Writable stock starts out k area
-    form-writable h = record { alphabets = X .alphabets; layout = B .layout k e; packed = B .packed k e; room = h }
+  -- the contract of `write_found`: it is over the limits, or it is written
+  pub writes-over : found ≡ Over → WritesFound stock found starts bytes area area (Refused OverLimits)
+  writes-over e = record { over = λ z. (refl, refl); form = λ k z. conflict (cc) }
 
-    -- the number of its bodies
-    pub form-small : {ins : List ℕ} → ins ≡ inputs stock → bodyCount ins k ≤ 2049
-    form-small i = rw i (form-few (B .layout k e) (B .packed k e))
+  pub writes-form : {k : ℕ} → found ≡ States k → {ins after : List ℕ} {m size : ℕ} → ins ≡ inputs stock → m ≡ getD starts (bodyCount ins k) 0 → WritesForm stock starts bytes k area after size → WritesFound stock found starts bytes area after (Form k m size)
+  writes-form {k} e i t W = record { over = λ z. conflict (cc); form = λ k′ z. let h : k ≡ k′ = cc in rw (← h) (record { marks = _; size = _; answer = refl; many = rw i at t; written = W }) }
 
-    -- what was written is the file of the trimmed form
-    form-of : {before after : List ℕ} {size : ℕ} (W : WritesForm stock starts out k before after size) → EarliestOf stock n counts bytes k (W .counts) (W .marks)
-    form-of W = record {
-      alphabets = X .alphabets;
-      machine = X .machine;
-      machine-coded = X .encodes;
-      form = W .form;
-      trimmed = trimmed-form (identical-sym (W .same (X .alphabets .leaf))) (B .trimmed k e (X .machine) (X .encodes) (X .alphabets .leaf));
-      form-coded = W .encodes;
-    }
+-- so a form with a property is answered, where no form is over the limits but one whose earliest form is
+module _ (Good : ℕ → List ℕ → List ℕ → Type 0) {stock counts bytes starts out before after : List ℕ} {n : ℕ} where
+  pub found-file : (found : Grown) {r : Formed} → WritesFound stock found starts out before after r
+      → (found ≡ Over → (k : ℕ) (counts′ bytes′ : List ℕ) → EarliestOf stock n counts bytes k counts′ bytes′ → ⊥)
+      → ((k : ℕ) → found ≡ States k → (size : ℕ) (W : WritesForm stock starts out k before after size) → Good k (W .counts) (W .marks) × ((k′ : ℕ) × ((counts′ : List ℕ) × ((bytes′ : List ℕ) × EarliestOf stock n counts bytes k′ counts′ bytes′))))
+      → FormsFile Good stock n counts bytes before after r
+  found-file (States k) W over form =
+      let w = W .form k refl in
+      let f = w .written in
+      let g = form k refl (w .size) f in
+      rw (w .answer) (pass (g .1) (accept (f .counts, (f .marks, (g .0, record { marks = omega (arith, w .many, f .long); size = f .size; wrote = f .wrote })))))
+  found-file Over W over form = let w = W .over refl in rw (w .0) (refuse (λ x. over refl (x .0) (x .1 .0) (x .1 .1 .0) (x .1 .1 .1)) (w .1))
 
-    pub form-file : {ins before after : List ℕ} {size m : ℕ} → WritesForm stock starts out k before after size → ins ≡ inputs stock → m ≡ getD starts (bodyCount ins k) 0 → FormsFile stock n counts bytes before after (Form k m size)
-    form-file W i t = pass (k, (W .counts, (W .marks, form-of W))) (accept (W .counts, (W .marks, (form-of W, record { marks = omega (arith, rw i at t, W .long); size = W .size; wrote = W .wrote }))))
+-- the trimmed form
+module _ {stock counts bytes starts out : List ℕ} {n : ℕ} {found : Grown} (B : EarliestBy stock n counts bytes starts out found) (X : Machine stock n counts bytes) where
+  form-of : {k : ℕ} → found ≡ States k → {before after : List ℕ} {size : ℕ} (W : WritesForm stock starts out k before after size) → EarliestOf stock n counts bytes k (W .counts) (W .marks)
+  form-of {k} e W = record {
+    alphabets = X .alphabets;
+    machine = X .machine;
+    machine-coded = X .encodes;
+    form = W .form;
+    trimmed = trimmed-form (identical-sym (W .same (X .alphabets .leaf))) (B .trimmed k e (X .machine) (X .encodes) (X .alphabets .leaf));
+    form-coded = W .encodes;
+  }
+
+  -- the contract of `form_file`
+  pub form-file : {before after : List ℕ} {r : Formed} → WritesFound stock found starts out before after r → FormsFile (EarliestOf stock n counts bytes) stock n counts bytes before after r
+  form-file W = found-file (EarliestOf stock n counts bytes) found W (B .over) (λ k e size f. (form-of e f, (k, (f .counts, (f .marks, form-of e f)))))
 
 -- ---- of a file: what is answered of its parts is answered of it
 module _ {stock sheet ins counts bytes : List ℕ} {n : ℕ} (O : Opened stock sheet n ins counts bytes) where
@@ -184,14 +199,18 @@ module _ {stock sheet ins counts bytes : List ℕ} {n : ℕ} (O : Opened stock s
         form-coded = F .encodes;
       }
 
-  pub file-formed : {before after : List ℕ} → longest ≤ length before → (r : Formed) → FormsFile stock n counts bytes before after r → MakesEarliest stock sheet before after r
+  pub file-made : {Parts File : ℕ → List ℕ → List ℕ → Type 0} → ((k : ℕ) (counts′ bytes′ : List ℕ) → Parts k counts′ bytes′ → File k counts′ bytes′) → {before after : List ℕ} → longest ≤ length before → (r : Formed) → FormsFile Parts stock n counts bytes before after r → MakesForm File stock sheet before after r
   unfolding judged Holds
-  file-formed {before} {after} long r J = go r (J .verdict)
+  file-made {Parts} {File} whole {before} {after} long r J = go r (J .verdict)
     where
-      start : (r : Formed) → Judged (after ≡ before) (λ v. (counts′ : List ℕ) × ((bytes′ : List ℕ) × (EarliestFile stock sheet (v .0) counts′ bytes′ × FileOf v counts′ bytes′ before after))) (formCheck stock sheet done) (formOf r) → MakesEarliest stock sheet before after r
+      start : (r : Formed) → Judged (after ≡ before) (λ v. (counts′ : List ℕ) × ((bytes′ : List ℕ) × (File (v .0) counts′ bytes′ × FileOf v counts′ bytes′ before after))) (formCheck stock sheet done) (formOf r) → MakesForm File stock sheet before after r
       start r j = let w = O .holds in pass long (pass (w .0) (pass (w .1 .0) (pass (w .1 .1 .0) j)))
 
-      go : (r : Formed) → judged (after ≡ before) (λ v. (counts′ : List ℕ) × ((bytes′ : List ℕ) × (EarliestOf stock n counts bytes (v .0) counts′ bytes′ × FileOf v counts′ bytes′ before after))) (check 7 ((k : ℕ) × ((counts′ : List ℕ) × ((bytes′ : List ℕ) × EarliestOf stock n counts bytes k counts′ bytes′))) done) (formOf r) → MakesEarliest stock sheet before after r
+      go : (r : Formed) → judged (after ≡ before) (λ v. (counts′ : List ℕ) × ((bytes′ : List ℕ) × (Parts (v .0) counts′ bytes′ × FileOf v counts′ bytes′ before after))) (check 7 ((k : ℕ) × ((counts′ : List ℕ) × ((bytes′ : List ℕ) × EarliestOf stock n counts bytes k counts′ bytes′))) done) (formOf r) → MakesForm File stock sheet before after r
       go r (inl (h, q, kept)) = start r (rw q (refuse (λ w. h (w .0, (w .1 .0, (w .1 .1 .0, to-parts (w .1 .1 .1))))) kept))
-      go (Form k m s) (inr (R, (counts′, (bytes′, (P, f))))) = start (Form k m s) (pass (R .0, (R .1 .0, (R .1 .1 .0, from-parts (R .1 .1 .1)))) (accept (counts′, (bytes′, (from-parts P, f)))))
+      go (Form k m s) (inr (R, (counts′, (bytes′, (P, f))))) = start (Form k m s) (pass (R .0, (R .1 .0, (R .1 .1 .0, from-parts (R .1 .1 .1)))) (accept (counts′, (bytes′, (whole k counts′ bytes′ P, f)))))
       go (Refused x) (inr (R, u)) = absurd u
+
+  -- the contract of `earliest_form`
+  pub file-formed : {before after : List ℕ} → longest ≤ length before → (r : Formed) → FormsFile (EarliestOf stock n counts bytes) stock n counts bytes before after r → MakesEarliest stock sheet before after r
+  file-formed = file-made (λ k counts′ bytes′ K. from-parts K)

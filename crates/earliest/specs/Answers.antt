@@ -38,9 +38,13 @@ pub record FileOf (v : ℕ × ℕ × ℕ) (counts bytes before after : List ℕ)
   pub size : v .2 ≡ length (file (v .0) counts bytes)
   pub wrote : after ≡ sets before 0 (file (v .0) counts bytes)
 
--- ---- the earliest form, as a file
-abbrev pub MakesEarliest : List ℕ → List ℕ → List ℕ → List ℕ → Formed → Type 0
-MakesEarliest stock s before after r =
-    Judged (after ≡ before) (λ v. (counts : List ℕ) × ((bytes : List ℕ) × (EarliestFile stock s (v .0) counts bytes × FileOf v counts bytes before after)))
+-- ---- a form of the transducer of the file s, as a file: Form says which k, counts and marks are the form's; refusal 7 where the earliest form is over the limits of a file
+abbrev pub MakesForm : (ℕ → List ℕ → List ℕ → Type 0) → List ℕ → List ℕ → List ℕ → List ℕ → Formed → Type 0
+MakesForm Form stock s before after r =
+    Judged (after ≡ before) (λ v. (counts : List ℕ) × ((bytes : List ℕ) × (Form (v .0) counts bytes × FileOf v counts bytes before after)))
     (check 1 (longest ≤ length before) (alphabetCheck stock (sheetCheck stock s (formCheck stock s done))))
     (formOf r)
+
+-- the earliest form, as a file
+abbrev pub MakesEarliest : List ℕ → List ℕ → List ℕ → List ℕ → Formed → Type 0
+MakesEarliest stock s before after r = MakesForm (EarliestFile stock s) stock s before after r

@@ -5,14 +5,13 @@ ghost use lib.ListN.{length};
 ghost use Rattle.formats.specs.Sheet.{longest};
 ghost use Rattle.transducer.specs.Inner.Machine.{Machine};
 ghost use Rattle.earliest.specs.Answers.{MakesEarliest};
-ghost use Rattle.earliest.specs.Inner.Loaded.{EarliestBy, FormsFile};
+ghost use Rattle.earliest.specs.Inner.Loaded.{EarliestOf, EarliestBy, FormsFile};
 use crate::early::Grown;
-use crate::form::write_form;
+use crate::form::write_found;
 use crate::grow::early_form;
 use formats::alphabet::input_ranks;
 use formats::alphabet::output_ranks;
 use formats::bodies::fill_starts;
-use formats::bytes::number;
 use formats::file::FileRead;
 use formats::file::counts_end;
 use formats::file::read_transducer;
@@ -46,18 +45,12 @@ pub fn earliest_by(
 // The file of the earliest form of the transducer whose n, counts and marks these are.
 fn form_file(stock: &[u8], n: usize, counts: &[u8], marks: &[u8], area: &mut [u8]) -> Formed
     requires { ⌜ Machine (now stock) n (now counts) (now marks) × (longest ≤ length (now area)) ⌝ }
-    ensures { λ r. ⌜ FormsFile (now (stock .entry)) n (now (counts .entry)) (now (marks .entry)) (now (area .entry)) (now (area .exit)) r ⌝ }
+    ensures { λ r. ⌜ FormsFile (EarliestOf (now (stock .entry)) n (now (counts .entry)) (now (marks .entry))) (now (stock .entry)) n (now (counts .entry)) (now (marks .entry)) (now (area .entry)) (now (area .exit)) r ⌝ }
 {
     let mut starts = [0u16; 2050];
     let mut out = [0u8; 16384];
-    match earliest_by(stock, n, counts, marks, &mut starts, &mut out) {
-        Grown::States(k) => {
-            let bytes = write_form(stock, &starts, &out, k, area);
-            let bodies = 1 + k * input_ranks(stock).len();
-            Formed::Form(k, number(starts[bodies]), bytes)
-        }
-        Grown::Over => Formed::Refused(Refusal::OverLimits),
-    }
+    let found = earliest_by(stock, n, counts, marks, &mut starts, &mut out);
+    write_found(stock, found, &starts, &out, area)
 }
 
 // Writes the file of the earliest form of the transducer of the file `sheet` (01: the trimmed sheet).

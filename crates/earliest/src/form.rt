@@ -1,11 +1,14 @@
 // A form in a table of starts and marks, written as a file.
 ghost use Prim.Native.Nat.{ℕ, _+_, _*_, _≤_, _<_};
 ghost use lib.ListN.{length, getD};
-ghost use Rattle.earliest.specs.Inner.Forms.{FillsCounts, Writable, WritesForm};
+ghost use Rattle.earliest.specs.Inner.Forms.{FillsCounts, Writable, WritesForm, FoundWritable, WritesFound};
+use crate::earliest::Formed;
+use crate::early::Grown;
 use formats::alphabet::input_ranks;
 use formats::bytes::number;
 use formats::file::FileWritten;
 use formats::file::write_transducer;
+use formats::refusal::Refusal;
 
 // Writes the counts of m bodies, two bytes each, the high byte first.
 fn fill_counts(starts: &[u16], m: usize, counts: &mut [u8])
@@ -22,7 +25,7 @@ fn fill_counts(starts: &[u16], m: usize, counts: &mut [u8])
 }
 
 // Writes the file of the form with k states whose bodies start in `marks` where `starts` says, and says how long it is.
-pub fn write_form(stock: &[u8], starts: &[u16], marks: &[u8], k: usize, area: &mut [u8]) -> usize
+fn write_form(stock: &[u8], starts: &[u16], marks: &[u8], k: usize, area: &mut [u8]) -> usize
     requires { ⌜ Writable (now stock) (now starts) (now marks) k (now area) ⌝ }
     ensures { λ r. ⌜ WritesForm (now (stock .entry)) (now (starts .entry)) (now (marks .entry)) k (now (area .entry)) (now (area .exit)) r ⌝ }
 {
@@ -33,5 +36,26 @@ pub fn write_form(stock: &[u8], starts: &[u16], marks: &[u8], k: usize, area: &m
     match write_transducer(stock, k, &counts[0..2 * m], &marks[0..end], area) {
         FileWritten::Bytes(size) => size,
         FileWritten::Refused(_) => 0,
+    }
+}
+
+// Writes the file of the form that was found, whose bodies start in `marks` where `starts` says; refusal 7 where it is over the limits.
+pub fn write_found(
+    stock: &[u8],
+    found: Grown,
+    starts: &[u16],
+    marks: &[u8],
+    area: &mut [u8],
+) -> Formed
+    requires { ⌜ FoundWritable (now stock) found (now starts) (now marks) (now area) ⌝ }
+    ensures { λ r. ⌜ WritesFound (now (stock .entry)) found (now (starts .entry)) (now (marks .entry)) (now (area .entry)) (now (area .exit)) r ⌝ }
+{
+    match found {
+        Grown::States(k) => {
+            let bytes = write_form(stock, starts, marks, k, area);
+            let bodies = 1 + k * input_ranks(stock).len();
+            Formed::Form(k, number(starts[bodies]), bytes)
+        }
+        Grown::Over => Formed::Refused(Refusal::OverLimits),
     }
 }

@@ -10,7 +10,7 @@ use lib.ListN.{length, set, length-set}
 use lib.Seq.{getD-set-same, getD-set-other}
 use Rattle.formats.specs.Inner.Layout.{bodyCount}
 use Rattle.merging.specs.Inner.Classes.{at}
-use Rattle.merging.specs.Inner.Parting.{Flagged, StillFlagged, FlaggedCalls, Callers}
+use Rattle.merging.specs.Inner.Refining.{Flagged, StillFlagged, FlaggedCalls, Callers}
 
 -- ---- one call
 -- the bytes are no smaller than they were, and byte i is x or greater

@@ -16,7 +16,7 @@ use Rattle.formats.specs.Inner.Layout.{pairs, bodyNumber, bodyCount, Laid}
 use Rattle.formats.specs.Inner.Marked.{part}
 use Rattle.formats.proofs.Pairs.{pairs-length, pairs-at, number-less}
 use Rattle.merging.specs.Inner.Classes.{keyOf, keyed, bodyMarks, SameStates, at, Classed, mix, mixed, patternByte, Patterned}
-use Rattle.merging.specs.Inner.Parting.{Respecting, Flaggable}
+use Rattle.merging.specs.Inner.Refining.{Respecting, Flaggable}
 use Rattle.merging.proofs.Keys.{key-symbol, key-call, simulates-same}
 
 -- ---- the byte of a part

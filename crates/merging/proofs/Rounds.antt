@@ -1,4 +1,4 @@
--- Parting states: the state that stands for a class, a state placed in its class, one round, and the next.
+-- Refining classes: the state that stands for a class, a state placed in its class, one round, and the next.
 -- Assumes nothing.
 use Prim.Native.Nat.{ℕ, suc, _+_, _≤_, _<_}
 use native.Mathlib.Decide.{ℕ-discrete, decLt}
@@ -14,17 +14,17 @@ use Rattle.theory.proofs.Pigeon.{pigeon}
 use Rattle.theory.proofs.Terms.{conflict}
 use Rattle.formats.specs.Refusal.{Decides}
 use Rattle.merging.specs.Inner.Classes.{SameStates, at, Classed}
-use Rattle.merging.specs.Inner.Parting.{Clean, NoneClean, CleanMember, Member, Represents, FindsClass, Round, Places, Listed, Moved, Rounded}
+use Rattle.merging.specs.Inner.Refining.{Placed, NonePlaced, PlacedMember, Member, Represents, FindsClass, Round, Places, Listed, Moved, Rounded}
 
 -- ---- the state that stands for a class
-module _ {classes dirty reps : List ℕ} {c start r : ℕ} (C : CleanMember classes dirty c start r) {dirty′ reps′ : List ℕ} {q : ℕ} (named : reps′ ≡ set reps c q) where
-  -- a clean state was found
-  pub clean-represents : r < length classes → dirty′ ≡ dirty → q ≡ r → Represents classes dirty reps c dirty′ reps′ q
-  clean-represents h d e = rw e (record { member = record { there = h; class = C .found h .0 }; kept = inl (d, C .found h .1); named = rw e at named })
+module _ {classes pending reps : List ℕ} {c start r : ℕ} (C : PlacedMember classes pending c start r) {pending′ reps′ : List ℕ} {q : ℕ} (named : reps′ ≡ set reps c q) where
+  -- a placed state was found
+  pub placed-represents : r < length classes → pending′ ≡ pending → q ≡ r → Represents classes pending reps c pending′ reps′ q
+  placed-represents h d e = rw e (record { member = record { there = h; class = C .found h .0 }; kept = inl (d, C .found h .1); named = rw e at named })
 
-  -- or any state of the class is clean from now on
-  pub cleaned-represents : length classes ≤ r → start ≡ at reps c → Member classes c q → dirty′ ≡ set dirty q 0 → Represents classes dirty reps c dirty′ reps′ q
-  cleaned-represents h s m d = record { member = m; kept = inr (d, λ l. C .none h (omega arith)); named = named }
+  -- or any state of the class is placed from now on
+  pub made-represents : length classes ≤ r → start ≡ at reps c → Member classes c q → pending′ ≡ set pending q 0 → Represents classes pending reps c pending′ reps′ q
+  made-represents h s m d = record { member = m; kept = inr (d, λ l. C .none h (omega arith)); named = named }
 
 -- ---- the class of a state among those made
 pub decided-not : {P : Type 0} {b : Bool} → Decides P b → b ≡ false → P → ⊥
@@ -61,31 +61,31 @@ elsewhere P p x f q = by-cases (ℕ-discrete q p) (λ z. rw z x) (λ z. f q z)
 
 -- ---- a state placed in a class
 -- what class k is to p
-record Fits (ins starts bytes old new dirty reps : List ℕ) (base count p : ℕ) (new′ dirty′ reps′ : List ℕ) (k count′ : ℕ) : Type 0 where
+record Fits (ins starts bytes old new pending reps : List ℕ) (base count p : ℕ) (new′ pending′ reps′ : List ℕ) (k count′ : ℕ) : Type 0 where
   moved : new′ ≡ set new p k
-  flagged : dirty′ ≡ set dirty p 0
+  flagged : pending′ ≡ set pending p 0
   few : length old ≤ 128
   names-long : length reps′ ≡ 128
-  fine : (r : ℕ) → r < length old → Clean dirty r → at new r ≡ k → (at old r ≡ at old p) × SameStates ins starts bytes old r p
-  coarse : (r : ℕ) → r < length old → Clean dirty r → at old r ≡ at old p → SameStates ins starts bytes old r p → at new r ≡ k
+  fine : (r : ℕ) → r < length old → Placed pending r → at new r ≡ k → (at old r ≡ at old p) × SameStates ins starts bytes old r p
+  coarse : (r : ℕ) → r < length old → Placed pending r → at old r ≡ at old p → SameStates ins starts bytes old r p → at new r ≡ k
   stays : k < base → k ≡ at old p
   below : k < count′
   grown : count ≤ count′
   names : (j : ℕ) → j < count → at reps′ j ≡ at reps j
   named : k < base → at reps′ k < length old
-  fresh : (j : ℕ) → count ≤ j → j < count′ → Member new′ j (at reps′ j) × Clean dirty′ (at reps′ j)
-  keeper : (s : ℕ) × (Member new′ (at old p) s × Clean dirty′ s)
+  fresh : (j : ℕ) → count ≤ j → j < count′ → Member new′ j (at reps′ j) × Placed pending′ (at reps′ j)
+  keeper : (s : ℕ) × (Member new′ (at old p) s × Placed pending′ s)
 
 -- there are no more classes than states
 every-few : (classes : List ℕ) (count : ℕ) → ((k : ℕ) → k < count → (s : ℕ) × Member classes k s) → count ≤ length classes
 every-few classes count f = pigeon (length classes) count (λ k l. f k l .0) (λ k l. f k l .1 .there) (λ i j k l e. sym (f i k .1 .class) ∙ ap (at classes) e ∙ f j l .1 .class)
 
-module _ {ins starts bytes old new dirty reps : List ℕ} {base count : ℕ} (R : Round ins starts bytes old new dirty reps base count) where
+module _ {ins starts bytes old new pending reps : List ℕ} {base count : ℕ} (R : Round ins starts bytes old new pending reps base count) where
   pub round-few : count ≤ length old
   round-few = omega (arith, every-few new count (R .every), R .long)
 
   -- a state comes to stand for an old class
-  round-named : {c q : ℕ} → length old ≤ 128 → c < base → q < length old → Round ins starts bytes old new dirty (set reps c q) base count
+  round-named : {c q : ℕ} → length old ≤ 128 → c < base → q < length old → Round ins starts bytes old new pending (set reps c q) base count
   round-named {c} {q} few l h =
       let here : at (set reps c q) c ≡ q = getD-set-same reps c q 0 (omega (arith, round-few, R .grown, R .names)) in
       let there : (k : ℕ) → (k ≡ c → ⊥) → at (set reps c q) k ≡ at reps k = λ k z. getD-set-other reps c k q 0 z in
@@ -106,27 +106,27 @@ module _ {ins starts bytes old new dirty reps : List ℕ} {base count : ℕ} (R 
         names = length-set reps c q ∙ R .names;
       }
 
-  module _ {p : ℕ} (h : p < length old) (dirt : Clean dirty p → ⊥) {new′ dirty′ reps′ : List ℕ} {k count′ : ℕ} (F : Fits ins starts bytes old new dirty reps base count p new′ dirty′ reps′ k count′) where
+  module _ {p : ℕ} (h : p < length old) (waiting : Placed pending p → ⊥) {new′ pending′ reps′ : List ℕ} {k count′ : ℕ} (F : Fits ins starts bytes old new pending reps base count p new′ pending′ reps′ k count′) where
     here : at new′ p ≡ k
     here = ap (λ l. at l p) (F .moved) ∙ getD-set-same new p k 0 (omega (arith, R .long))
 
     there : (q : ℕ) → (q ≡ p → ⊥) → at new′ q ≡ at new q
     there q z = ap (λ l. at l q) (F .moved) ∙ getD-set-other new p q k 0 z
 
-    clean-here : Clean dirty′ p
-    clean-here = ap (λ l. at l p) (F .flagged) ∙ getD-set-same dirty p 0 0 (omega (arith, F .few, R .flags))
+    placed-here : Placed pending′ p
+    placed-here = ap (λ l. at l p) (F .flagged) ∙ getD-set-same pending p 0 0 (omega (arith, F .few, R .flags))
 
-    clean-there : (q : ℕ) → (q ≡ p → ⊥) → at dirty′ q ≡ at dirty q
-    clean-there q z = ap (λ l. at l q) (F .flagged) ∙ getD-set-other dirty p q 0 0 z
+    placed-there : (q : ℕ) → (q ≡ p → ⊥) → at pending′ q ≡ at pending q
+    placed-there q z = ap (λ l. at l q) (F .flagged) ∙ getD-set-other pending p q 0 0 z
 
-    clean-was : (q : ℕ) → (q ≡ p → ⊥) → Clean dirty′ q → Clean dirty q
-    clean-was q z e = sym (clean-there q z) ∙ e
+    placed-was : (q : ℕ) → (q ≡ p → ⊥) → Placed pending′ q → Placed pending q
+    placed-was q z e = sym (placed-there q z) ∙ e
 
-    not-here : (q : ℕ) → Clean dirty q → q ≡ p → ⊥
-    not-here q e z = dirt (rw z at e)
+    not-here : (q : ℕ) → Placed pending q → q ≡ p → ⊥
+    not-here q e z = waiting (rw z at e)
 
-    clean-still : (q : ℕ) → Clean dirty q → Clean dirty′ q
-    clean-still q e = clean-there q (not-here q e) ∙ e
+    placed-still : (q : ℕ) → Placed pending q → Placed pending′ q
+    placed-still q e = placed-there q (not-here q e) ∙ e
 
     long′ : length new′ ≡ length old
     long′ = ap length (F .moved) ∙ simp length-set (R .long)
@@ -134,40 +134,40 @@ module _ {ins starts bytes old new dirty reps : List ℕ} {base count : ℕ} (R 
     member-still : {j s : ℕ} → Member new j s → (s ≡ p → ⊥) → Member new′ j s
     member-still {j} {s} m z = record { there = omega (arith, m .there, long′, R .long); class = there s z ∙ m .class }
 
-    clean-member-still : {j s : ℕ} → Member new j s × Clean dirty s → Member new′ j s × Clean dirty′ s
-    clean-member-still {j} {s} m = (member-still (m .0) (not-here s (m .1)), clean-still s (m .1))
+    placed-member-still : {j s : ℕ} → Member new j s × Placed pending s → Member new′ j s × Placed pending′ s
+    placed-member-still {j} {s} m = (member-still (m .0) (not-here s (m .1)), placed-still s (m .1))
 
-    fine′ : (q r : ℕ) → q < length old → r < length old → Clean dirty′ q → Clean dirty′ r → at new′ q ≡ at new′ r → (at old q ≡ at old r) × SameStates ins starts bytes old q r
-    fine′ = elsewhere (λ q. (r : ℕ) → q < length old → r < length old → Clean dirty′ q → Clean dirty′ r → at new′ q ≡ at new′ r → (at old q ≡ at old r) × SameStates ins starts bytes old q r) p
-        (elsewhere (λ r. p < length old → r < length old → Clean dirty′ p → Clean dirty′ r → at new′ p ≡ at new′ r → (at old p ≡ at old r) × SameStates ins starts bytes old p r) p
+    fine′ : (q r : ℕ) → q < length old → r < length old → Placed pending′ q → Placed pending′ r → at new′ q ≡ at new′ r → (at old q ≡ at old r) × SameStates ins starts bytes old q r
+    fine′ = elsewhere (λ q. (r : ℕ) → q < length old → r < length old → Placed pending′ q → Placed pending′ r → at new′ q ≡ at new′ r → (at old q ≡ at old r) × SameStates ins starts bytes old q r) p
+        (elsewhere (λ r. p < length old → r < length old → Placed pending′ p → Placed pending′ r → at new′ p ≡ at new′ r → (at old p ≡ at old r) × SameStates ins starts bytes old p r) p
         (λ l m d e x. (refl, same-refl p))
-        (λ r z l m d e x. let f = F .fine r m (clean-was r z e) (sym (there r z) ∙ sym x ∙ here) in (sym (f .0), same-sym (f .1))))
-        (λ q y. elsewhere (λ r. q < length old → r < length old → Clean dirty′ q → Clean dirty′ r → at new′ q ≡ at new′ r → (at old q ≡ at old r) × SameStates ins starts bytes old q r) p
-        (λ l m d e x. F .fine q l (clean-was q y d) (sym (there q y) ∙ x ∙ here))
-        (λ r z l m d e x. R .fine q r l m (clean-was q y d) (clean-was r z e) (sym (there q y) ∙ x ∙ there r z)))
+        (λ r z l m d e x. let f = F .fine r m (placed-was r z e) (sym (there r z) ∙ sym x ∙ here) in (sym (f .0), same-sym (f .1))))
+        (λ q y. elsewhere (λ r. q < length old → r < length old → Placed pending′ q → Placed pending′ r → at new′ q ≡ at new′ r → (at old q ≡ at old r) × SameStates ins starts bytes old q r) p
+        (λ l m d e x. F .fine q l (placed-was q y d) (sym (there q y) ∙ x ∙ here))
+        (λ r z l m d e x. R .fine q r l m (placed-was q y d) (placed-was r z e) (sym (there q y) ∙ x ∙ there r z)))
 
-    coarse′ : (q r : ℕ) → q < length old → r < length old → Clean dirty′ q → Clean dirty′ r → at old q ≡ at old r → SameStates ins starts bytes old q r → at new′ q ≡ at new′ r
-    coarse′ = elsewhere (λ q. (r : ℕ) → q < length old → r < length old → Clean dirty′ q → Clean dirty′ r → at old q ≡ at old r → SameStates ins starts bytes old q r → at new′ q ≡ at new′ r) p
-        (elsewhere (λ r. p < length old → r < length old → Clean dirty′ p → Clean dirty′ r → at old p ≡ at old r → SameStates ins starts bytes old p r → at new′ p ≡ at new′ r) p
+    coarse′ : (q r : ℕ) → q < length old → r < length old → Placed pending′ q → Placed pending′ r → at old q ≡ at old r → SameStates ins starts bytes old q r → at new′ q ≡ at new′ r
+    coarse′ = elsewhere (λ q. (r : ℕ) → q < length old → r < length old → Placed pending′ q → Placed pending′ r → at old q ≡ at old r → SameStates ins starts bytes old q r → at new′ q ≡ at new′ r) p
+        (elsewhere (λ r. p < length old → r < length old → Placed pending′ p → Placed pending′ r → at old p ≡ at old r → SameStates ins starts bytes old p r → at new′ p ≡ at new′ r) p
         (λ l m d e x S. refl)
-        (λ r z l m d e x S. here ∙ sym (there r z ∙ F .coarse r m (clean-was r z e) (sym x) (same-sym S))))
-        (λ q y. elsewhere (λ r. q < length old → r < length old → Clean dirty′ q → Clean dirty′ r → at old q ≡ at old r → SameStates ins starts bytes old q r → at new′ q ≡ at new′ r) p
-        (λ l m d e x S. there q y ∙ F .coarse q l (clean-was q y d) x S ∙ sym here)
-        (λ r z l m d e x S. there q y ∙ R .coarse q r l m (clean-was q y d) (clean-was r z e) x S ∙ sym (there r z)))
+        (λ r z l m d e x S. here ∙ sym (there r z ∙ F .coarse r m (placed-was r z e) (sym x) (same-sym S))))
+        (λ q y. elsewhere (λ r. q < length old → r < length old → Placed pending′ q → Placed pending′ r → at old q ≡ at old r → SameStates ins starts bytes old q r → at new′ q ≡ at new′ r) p
+        (λ l m d e x S. there q y ∙ F .coarse q l (placed-was q y d) x S ∙ sym here)
+        (λ r z l m d e x S. there q y ∙ R .coarse q r l m (placed-was q y d) (placed-was r z e) x S ∙ sym (there r z)))
 
-    made′ : (j : ℕ) → base ≤ j → j < count′ → Member new′ j (at reps′ j) × Clean dirty′ (at reps′ j)
-    made′ j b l = by-cases (decLt j count) (λ m. rw (F .names j m) (clean-member-still (R .made j b m))) (λ m. F .fresh j (omega arith) l)
+    made′ : (j : ℕ) → base ≤ j → j < count′ → Member new′ j (at reps′ j) × Placed pending′ (at reps′ j)
+    made′ j b l = by-cases (decLt j count) (λ m. rw (F .names j m) (placed-member-still (R .made j b m))) (λ m. F .fresh j (omega arith) l)
 
     every′ : (j : ℕ) → j < count′ → (s : ℕ) × Member new′ j s
     every′ j l = by-cases (decLt j count)
         (λ m. let w = R .every j m in by-cases (ℕ-discrete (w .0) p)
-        (λ z. let e : j ≡ at old p = sym (w .1 .class) ∙ ap (at new) z ∙ R .waits p h dirt in (F .keeper .0, rw e (F .keeper .1 .0)))
+        (λ z. let e : j ≡ at old p = sym (w .1 .class) ∙ ap (at new) z ∙ R .waits p h waiting in (F .keeper .0, rw e (F .keeper .1 .0)))
         (λ z. (w .0, member-still (w .1) z)))
         (λ m. (at reps′ j, F .fresh j (omega arith) l .0))
 
-    placed : Round ins starts bytes old new′ dirty′ reps′ base count′
-    placed = record {
-      waits = λ q l d. let z : q ≡ p → ⊥ = λ z. d (rw z clean-here) in there q z ∙ R .waits q l (λ e. d (clean-still q e));
+    round-placed : Round ins starts bytes old new′ pending′ reps′ base count′
+    round-placed = record {
+      waits = λ q l d. let z : q ≡ p → ⊥ = λ z. d (rw z placed-here) in there q z ∙ R .waits q l (λ e. d (placed-still q e));
       fine = fine′;
       coarse = coarse′;
       made = made′;
@@ -175,26 +175,26 @@ module _ {ins starts bytes old new dirty reps : List ℕ} {base count : ℕ} (R 
       known = R .known;
       below = elsewhere (λ q. q < length old → at new′ q < count′) p (λ l. rw here (F .below)) (λ q z l. rw (there q z) (omega (arith, R .below q l, F .grown)));
       stays = elsewhere (λ q. q < length old → at new′ q < base → at new′ q ≡ at old q) p (λ l m. here ∙ F .stays (rw here at m)) (λ q z l m. there q z ∙ R .stays q l (rw (there q z) at m));
-      keeps = elsewhere (λ r. r < length old → Clean dirty′ r → (s : ℕ) × (Member new′ (at old r) s × Clean dirty′ s)) p (λ l d. F .keeper) (λ r z l d. let w = R .keeps r l (clean-was r z d) in (w .0, clean-member-still (w .1)));
+      keeps = elsewhere (λ r. r < length old → Placed pending′ r → (s : ℕ) × (Member new′ (at old r) s × Placed pending′ s)) p (λ l d. F .keeper) (λ r z l d. let w = R .keeps r l (placed-was r z d) in (w .0, placed-member-still (w .1)));
       every = every′;
-      unnamed = λ c b m. elsewhere (λ q. q < length new′ → at new′ q ≡ c → Clean dirty′ q → ⊥) p
+      unnamed = λ c b m. elsewhere (λ q. q < length new′ → at new′ q ≡ c → Placed pending′ q → ⊥) p
           (λ l e d. let w : k ≡ c = sym here ∙ e in omega (arith, F .named (omega arith), ap (at reps′) w))
-          (λ q z l e d. R .unnamed c b (rw (← F .names c (omega (arith, R .grown))) m) q (omega (arith, long′, R .long)) (sym (there q z) ∙ e) (clean-was q z d));
+          (λ q z l e d. R .unnamed c b (rw (← F .names c (omega (arith, R .grown))) m) q (omega (arith, long′, R .long)) (sym (there q z) ∙ e) (placed-was q z d));
       grown = omega (arith, R .grown, F .grown);
       flags = ap length (F .flagged) ∙ simp length-set (R .flags);
       names = F .names-long;
     }
 
-module _ {ins starts bytes old new dirty reps : List ℕ} {base count : ℕ} (R : Round ins starts bytes old new dirty reps base count) {p : ℕ} (few : length old ≤ 128) (h : p < length old) where
-  flags : p < length dirty
+module _ {ins starts bytes old new pending reps : List ℕ} {base count : ℕ} (R : Round ins starts bytes old new pending reps base count) {p : ℕ} (few : length old ≤ 128) (h : p < length old) where
+  flags : p < length pending
   flags = omega (arith, R .flags)
 
-  -- the first clean state of an old class keeps the class
-  round-first : NoneClean new dirty (at new p) → at reps (at new p) < length old → Round ins starts bytes old new (set dirty p 0) reps base count
+  -- the first placed state of an old class keeps the class
+  round-first : NonePlaced new pending (at new p) → at reps (at new p) < length old → Round ins starts bytes old new (set pending p 0) reps base count
   round-first none named =
-      let dirt : Clean dirty p → ⊥ = λ d. none p (omega (arith, R .long)) refl d in
-      let w : at new p ≡ at old p = R .waits p h dirt in
-      placed R h dirt {count′ = count} (record {
+      let waiting : Placed pending p → ⊥ = λ d. none p (omega (arith, R .long)) refl d in
+      let w : at new p ≡ at old p = R .waits p h waiting in
+      round-placed R h waiting {count′ = count} (record {
         moved = sym (set-getD new p 0);
         flagged = refl;
         few = few;
@@ -207,19 +207,19 @@ module _ {ins starts bytes old new dirty reps : List ℕ} {base count : ℕ} (R 
         names = λ j m. refl;
         named = λ b. named;
         fresh = λ j l m. absurd (omega arith);
-        keeper = (p, (record { there = omega (arith, R .long); class = w }, getD-set-same dirty p 0 0 flags));
+        keeper = (p, (record { there = omega (arith, R .long); class = w }, getD-set-same pending p 0 0 flags));
       })
 
-  module _ (dirt : Clean dirty p → ⊥) {q : ℕ} (m : Member new (at old p) q) (d : Clean dirty q) where
-    -- a clean state that stays in the old class of p
-    keeper : (k : ℕ) {new′ : List ℕ} → new′ ≡ set new p k → (s : ℕ) × (Member new′ (at old p) s × Clean (set dirty p 0) s)
+  module _ (waiting : Placed pending p → ⊥) {q : ℕ} (m : Member new (at old p) q) (d : Placed pending q) where
+    -- a placed state that stays in the old class of p
+    keeper : (k : ℕ) {new′ : List ℕ} → new′ ≡ set new p k → (s : ℕ) × (Member new′ (at old p) s × Placed (set pending p 0) s)
     keeper k {new′} e =
-        let z : q ≡ p → ⊥ = λ z. dirt (rw z at d) in
-        (q, (record { there = omega (arith, m .there, ap length e, length-set new p k); class = ap (λ l. at l q) e ∙ getD-set-other new p q k 0 z ∙ m .class }, getD-set-other dirty p q 0 0 z ∙ d))
+        let z : q ≡ p → ⊥ = λ z. waiting (rw z at d) in
+        (q, (record { there = omega (arith, m .there, ap length e, length-set new p k); class = ap (λ l. at l q) e ∙ getD-set-other new p q k 0 z ∙ m .class }, getD-set-other pending p q 0 0 z ∙ d))
 
-    -- a state comes into the class of a clean state with the same right-hand sides
-    round-joined : {s : ℕ} {new′ : List ℕ} → s < length old → Clean dirty s → at old s ≡ at old p → SameStates ins starts bytes old s p → at reps (at old p) < length old → new′ ≡ set new p (at new s) → Round ins starts bytes old new′ (set dirty p 0) reps base count
-    round-joined {s} {new′} l c x S named e = placed R h dirt {count′ = count} (record {
+    -- a state comes into the class of a placed state with the same right-hand sides
+    round-joined : {s : ℕ} {new′ : List ℕ} → s < length old → Placed pending s → at old s ≡ at old p → SameStates ins starts bytes old s p → at reps (at old p) < length old → new′ ≡ set new p (at new s) → Round ins starts bytes old new′ (set pending p 0) reps base count
+    round-joined {s} {new′} l c x S named e = round-placed R h waiting {count′ = count} (record {
       moved = e;
       flagged = refl;
       few = few;
@@ -242,13 +242,13 @@ module _ {ins starts bytes old new dirty reps : List ℕ} {base count : ℕ} (R 
         each : (j : ℕ) → j < suc count → (s : ℕ) × Member (set new p count) j s
         each j l = by-cases (decLt j count)
             (λ i. let w = R .every j i in by-cases (ℕ-discrete (w .0) p)
-            (λ z. let e : j ≡ at old p = sym (w .1 .class) ∙ ap (at new) z ∙ R .waits p h dirt in (keeper count refl .0, rw e (keeper count refl .1 .0)))
+            (λ z. let e : j ≡ at old p = sym (w .1 .class) ∙ ap (at new) z ∙ R .waits p h waiting in (keeper count refl .0, rw e (keeper count refl .1 .0)))
             (λ z. (w .0, record { there = omega (arith, w .1 .there, length-set new p count); class = getD-set-other new p (w .0) count 0 z ∙ w .1 .class })))
             (λ i. let z : j ≡ count = omega arith in (p, rw z (record { there = omega (arith, length-set new p count, R .long); class = getD-set-same new p count 0 (omega (arith, R .long)) })))
 
     -- a state is the first one of a new class
-    round-fresh : count < length reps → FindsClass ins starts bytes old reps base count p count → (SameStates ins starts bytes old q p → ⊥) → Round ins starts bytes old (set new p count) (set dirty p 0) (set reps count p) base (suc count)
-    round-fresh room F differs = placed R h dirt {count′ = suc count} (record {
+    round-fresh : count < length reps → FindsClass ins starts bytes old reps base count p count → (SameStates ins starts bytes old q p → ⊥) → Round ins starts bytes old (set new p count) (set pending p 0) (set reps count p) base (suc count)
+    round-fresh room F differs = round-placed R h waiting {count′ = suc count} (record {
       moved = refl;
       flagged = refl;
       few = few;
@@ -260,11 +260,11 @@ module _ {ins starts bytes old new dirty reps : List ℕ} {base count : ℕ} (R 
       grown = omega arith;
       names = λ j l. getD-set-other reps count j p 0 (λ z. omega arith);
       named = λ b. absurd (omega (arith, R .grown));
-      fresh = λ j l k. let z : j ≡ count = omega arith in rw (z, getD-set-same reps count p 0 room) (record { there = omega (arith, R .long, length-set new p count); class = getD-set-same new p count 0 (omega (arith, R .long)) }, getD-set-same dirty p 0 0 flags);
+      fresh = λ j l k. let z : j ≡ count = omega arith in rw (z, getD-set-same reps count p 0 room) (record { there = omega (arith, R .long, length-set new p count); class = getD-set-same new p count 0 (omega (arith, R .long)) }, getD-set-same pending p 0 0 flags);
       keeper = keeper count refl;
     })
       where
-        apart : (r : ℕ) → r < length old → Clean dirty r → at old r ≡ at old p → SameStates ins starts bytes old r p → ⊥
+        apart : (r : ℕ) → r < length old → Placed pending r → at old r ≡ at old p → SameStates ins starts bytes old r p → ⊥
         apart r l z y T = by-cases (decLt (at new r) base)
             (λ b. let f = R .fine q r (omega (arith, m .there, R .long)) l d z (m .class ∙ sym (R .stays r l b ∙ y)) in differs (same-trans (f .1) T))
             (λ b.
@@ -272,27 +272,27 @@ module _ {ins starts bytes old new dirty reps : List ℕ} {base count : ℕ} (R 
             let f = R .fine (at reps (at new r)) r (omega (arith, k .0 .there, R .long)) l (k .1) z (k .0 .class) in
             F .none (at new r) (omega arith) (R .below r l) (f .0 ∙ y) (same-trans (f .1) T))
 
--- a clean state q stands for the old class of p
-pub record Stands (ins starts bytes old new dirty : List ℕ) (base count p : ℕ) (dirty′ reps′ : List ℕ) (q : ℕ) : Type 0 where
-  pub round : Round ins starts bytes old new dirty′ reps′ base count
+-- a placed state q stands for the old class of p
+pub record Stands (ins starts bytes old new pending : List ℕ) (base count p : ℕ) (pending′ reps′ : List ℕ) (q : ℕ) : Type 0 where
+  pub round : Round ins starts bytes old new pending′ reps′ base count
   pub member : Member new (at old p) q
-  pub clean : Clean dirty′ q
-  pub cleaned : (r : ℕ) → Clean dirty r → Clean dirty′ r
+  pub placed : Placed pending′ q
+  pub remain : (r : ℕ) → Placed pending r → Placed pending′ r
   pub named : at reps′ (at old p) < length old
 
-module _ {ins starts bytes old new dirty reps : List ℕ} {base count p : ℕ} (C : Classed ins starts bytes old) (R : Round ins starts bytes old new dirty reps base count) (h : p < length old) (dirt : Clean dirty p → ⊥) where
+module _ {ins starts bytes old new pending reps : List ℕ} {base count p : ℕ} (C : Classed ins starts bytes old) (R : Round ins starts bytes old new pending reps base count) (h : p < length old) (waiting : Placed pending p → ⊥) where
   -- what standing for the class of p asks
-  pub can-stand : Member new (at old p) p × (length new ≤ 128) × (length dirty ≡ 128) × (length reps ≡ 128) × (at old p < 128)
-  can-stand = (record { there = omega (arith, R .long); class = R .waits p h dirt }, omega (arith, R .long, C .layout .few-states), R .flags, R .names, omega (arith, R .known p h, R .grown, round-few R, C .layout .few-states))
+  pub can-stand : Member new (at old p) p × (length new ≤ 128) × (length pending ≡ 128) × (length reps ≡ 128) × (at old p < 128)
+  can-stand = (record { there = omega (arith, R .long); class = R .waits p h waiting }, omega (arith, R .long, C .layout .few-states), R .flags, R .names, omega (arith, R .known p h, R .grown, round-few R, C .layout .few-states))
 
-  pub stands : {dirty′ reps′ : List ℕ} {q : ℕ} → Represents new dirty reps (at old p) dirty′ reps′ q → Stands ins starts bytes old new dirty base count p dirty′ reps′ q
-  stands {dirty′} {reps′} {q} E = ⊎-elim
-      (λ w. rw (E .named, w .0) (record { round = S; member = E .member; clean = w .1; cleaned = λ r d. d; named = rw here l }))
+  pub stands : {pending′ reps′ : List ℕ} {q : ℕ} → Represents new pending reps (at old p) pending′ reps′ q → Stands ins starts bytes old new pending base count p pending′ reps′ q
+  stands {pending′} {reps′} {q} E = ⊎-elim
+      (λ w. rw (E .named, w .0) (record { round = S; member = E .member; placed = w .1; remain = λ r d. d; named = rw here l }))
       (λ w. rw (E .named, w .0) (record {
         round = round-first S (C .layout .few-states) l (rw (E .member .class) (none (w .1))) (rw (E .member .class, here) l);
         member = E .member;
-        clean = getD-set-same dirty q 0 0 fits;
-        cleaned = elsewhere (λ r. Clean dirty r → Clean (set dirty q 0) r) q (λ d. getD-set-same dirty q 0 0 fits) (λ r z d. getD-set-other dirty q r 0 0 z ∙ d);
+        placed = getD-set-same pending q 0 0 fits;
+        remain = elsewhere (λ r. Placed pending r → Placed (set pending q 0) r) q (λ d. getD-set-same pending q 0 0 fits) (λ r z d. getD-set-other pending q r 0 0 z ∙ d);
         named = rw here l;
       }))
       (E .kept)
@@ -300,29 +300,29 @@ module _ {ins starts bytes old new dirty reps : List ℕ} {base count p : ℕ} (
       l : q < length old
       l = omega (arith, E .member .there, R .long)
 
-      fits : q < length dirty
+      fits : q < length pending
       fits = omega (arith, l, R .flags, C .layout .few-states)
 
       here : at (set reps (at old p) q) (at old p) ≡ q
       here = getD-set-same reps (at old p) q 0 (omega (arith, R .names, can-stand .4))
 
-      S : Round ins starts bytes old new dirty (set reps (at old p) q) base count
+      S : Round ins starts bytes old new pending (set reps (at old p) q) base count
       S = round-named R (C .layout .few-states) (R .known p h) l
 
-      none : (at reps (at old p) < length new → NoneClean new dirty (at old p)) → NoneClean new dirty (at old p)
+      none : (at reps (at old p) < length new → NonePlaced new pending (at old p)) → NonePlaced new pending (at old p)
       none f = by-cases (decLt (at reps (at old p)) (length new)) f (λ z. R .unnamed (at old p) (R .known p h) (omega (arith, R .long)))
 
-module _ {ins starts bytes old new dirty : List ℕ} {base count p : ℕ} {dirty′ reps′ : List ℕ} {q : ℕ} (few : length old ≤ 128) (h : p < length old) (S : Stands ins starts bytes old new dirty base count p dirty′ reps′ q) where
+module _ {ins starts bytes old new pending : List ℕ} {base count p : ℕ} {pending′ reps′ : List ℕ} {q : ℕ} (few : length old ≤ 128) (h : p < length old) (S : Stands ins starts bytes old new pending base count p pending′ reps′ q) where
   -- it is p
-  pub places-rep : Clean dirty′ p → Places ins starts bytes old new dirty base count p new dirty′ reps′ count
-  places-rep d = record { round = S .round; here = d; cleaned = S .cleaned; others = λ q z. refl; grown = omega arith }
+  pub places-rep : Placed pending′ p → Places ins starts bytes old new pending base count p new pending′ reps′ count
+  places-rep d = record { round = S .round; here = d; remain = S .remain; others = λ q z. refl; grown = omega arith }
 
-  module _ (dirt : Clean dirty′ p → ⊥) where
-    fits : p < length dirty′
+  module _ (waiting : Placed pending′ p → ⊥) where
+    fits : p < length pending′
     fits = omega (arith, S .round .flags)
 
-    both : (r : ℕ) → Clean dirty r → Clean (set dirty′ p 0) r
-    both r d = elsewhere (λ r. Clean dirty′ r → Clean (set dirty′ p 0) r) p (λ d. getD-set-same dirty′ p 0 0 fits) (λ r z d. getD-set-other dirty′ p r 0 0 z ∙ d) r (S .cleaned r d)
+    both : (r : ℕ) → Placed pending r → Placed (set pending′ p 0) r
+    both r d = elsewhere (λ r. Placed pending′ r → Placed (set pending′ p 0) r) p (λ d. getD-set-same pending′ p 0 0 fits) (λ r z d. getD-set-other pending′ p r 0 0 z ∙ d) r (S .remain r d)
 
     q-less : q < length old
     q-less = omega (arith, S .member .there, S .round .long)
@@ -331,11 +331,11 @@ module _ {ins starts bytes old new dirty : List ℕ} {base count p : ℕ} {dirty
     q-class : at old q ≡ at old p
     q-class = sym (S .round .stays q q-less (rw (S .member .class) (S .round .known p h))) ∙ S .member .class
 
-    pub places-with : SameStates ins starts bytes old q p → Places ins starts bytes old new dirty base count p new (set dirty′ p 0) reps′ count
+    pub places-with : SameStates ins starts bytes old q p → Places ins starts bytes old new pending base count p new (set pending′ p 0) reps′ count
     places-with T = record {
-      round = round-joined (S .round) few h dirt (S .member) (S .clean) q-less (S .clean) q-class T (S .named) (sym (set-getD new p 0) ∙ ap (set new p) (S .round .waits p h dirt ∙ sym (S .member .class)));
-      here = getD-set-same dirty′ p 0 0 fits;
-      cleaned = both;
+      round = round-joined (S .round) few h waiting (S .member) (S .placed) q-less (S .placed) q-class T (S .named) (sym (set-getD new p 0) ∙ ap (set new p) (S .round .waits p h waiting ∙ sym (S .member .class)));
+      here = getD-set-same pending′ p 0 0 fits;
+      remain = both;
       others = λ q z. refl;
       grown = omega arith;
     }
@@ -344,42 +344,42 @@ module _ {ins starts bytes old new dirty : List ℕ} {base count p : ℕ} {dirty
     find-asks = (S .round .grown, omega (arith, round-few (S .round)), λ k b l. omega (arith, S .round .made k b l .0 .there, S .round .long))
 
     pub room : count < length old
-    room = round-room (S .round) few h dirt (S .member) (S .clean)
+    room = round-room (S .round) few h waiting (S .member) (S .placed)
 
     module _ {k : ℕ} (F : FindsClass ins starts bytes old reps′ base count p k) where
-      pub places-made : k < count → Places ins starts bytes old new dirty base count p (set new p k) (set dirty′ p 0) reps′ count
+      pub places-made : k < count → Places ins starts bytes old new pending base count p (set new p k) (set pending′ p 0) reps′ count
       places-made l =
           let m = S .round .made k (F .low) l in
           record {
-            round = round-joined (S .round) few h dirt (S .member) (S .clean) (omega (arith, m .0 .there, S .round .long)) (m .1) (F .found l .0) (F .found l .1) (S .named) (ap (set new p) (sym (m .0 .class)));
-            here = getD-set-same dirty′ p 0 0 fits;
-            cleaned = both;
+            round = round-joined (S .round) few h waiting (S .member) (S .placed) (omega (arith, m .0 .there, S .round .long)) (m .1) (F .found l .0) (F .found l .1) (S .named) (ap (set new p) (sym (m .0 .class)));
+            here = getD-set-same pending′ p 0 0 fits;
+            remain = both;
             others = λ q z. getD-set-other new p q k 0 z;
             grown = omega arith;
           }
 
-      pub places-fresh : count ≤ k → (SameStates ins starts bytes old q p → ⊥) → Places ins starts bytes old new dirty base count p (set new p k) (set dirty′ p 0) (set reps′ k p) (count + 1)
+      pub places-fresh : count ≤ k → (SameStates ins starts bytes old q p → ⊥) → Places ins starts bytes old new pending base count p (set new p k) (set pending′ p 0) (set reps′ k p) (count + 1)
       places-fresh l differs =
           let z : k ≡ count = omega (arith, F .small) in
           record {
-            round = rw (z, add-one count) (round-fresh (S .round) few h dirt (S .member) (S .clean) (omega (arith, room, S .round .names)) (rw z at F) differs);
-            here = getD-set-same dirty′ p 0 0 fits;
-            cleaned = both;
+            round = rw (z, add-one count) (round-fresh (S .round) few h waiting (S .member) (S .placed) (omega (arith, room, S .round .names)) (rw z at F) differs);
+            here = getD-set-same pending′ p 0 0 fits;
+            remain = both;
             others = λ q z. getD-set-other new p q k 0 z;
             grown = omega arith;
           }
 
 -- ---- one round
--- the states before number i of the list are clean, and m of them have another class than before
-pub record RoundLoop (ins starts bytes old list : List ℕ) (base len : ℕ) (new dirty reps moved : List ℕ) (count m i : ℕ) : Type 0 where
+-- the states before number i of the list are placed, and m of them have another class than before
+pub record RoundLoop (ins starts bytes old list : List ℕ) (base len : ℕ) (new pending reps moved : List ℕ) (count m i : ℕ) : Type 0 where
   pub bound : i ≤ len
   pub less : m ≤ i
-  pub round : Round ins starts bytes old new dirty reps base count
-  pub left : (q : ℕ) → q < length old → (Clean dirty q → ⊥) → (j : ℕ) × ((i ≤ j) × (j < len) × (at list j ≡ q))
+  pub round : Round ins starts bytes old new pending reps base count
+  pub left : (q : ℕ) → q < length old → (Placed pending q → ⊥) → (j : ℕ) × ((i ≤ j) × (j < len) × (at list j ≡ q))
   pub listed : Moved old new moved m
   pub grew : 0 < m → base < count
 
-pub round-start : {ins starts bytes old new dirty reps list moved : List ℕ} {base len : ℕ} → Round ins starts bytes old new dirty reps base base → Listed dirty list (length old) len → length moved ≡ 128 → ((q : ℕ) → q < length old → at new q ≡ at old q) → RoundLoop ins starts bytes old list base len new dirty reps moved base 0 0
+pub round-start : {ins starts bytes old new pending reps list moved : List ℕ} {base len : ℕ} → Round ins starts bytes old new pending reps base base → Listed pending list (length old) len → length moved ≡ 128 → ((q : ℕ) → q < length old → at new q ≡ at old q) → RoundLoop ins starts bytes old list base len new pending reps moved base 0 0
 round-start R L m e = record {
   bound = omega arith;
   less = omega arith;
@@ -389,33 +389,33 @@ round-start R L m e = record {
   grew = λ h. absurd (omega arith);
 }
 
-module _ {ins starts bytes old dirty₀ list : List ℕ} {base len : ℕ} {new dirty reps moved : List ℕ} {count m i p : ℕ} (L : RoundLoop ins starts bytes old list base len new dirty reps moved count m i) (A : Listed dirty₀ list (length old) len) (h : i < len) (e : p ≡ at list i) where
+module _ {ins starts bytes old pending₀ list : List ℕ} {base len : ℕ} {new pending reps moved : List ℕ} {count m i p : ℕ} (L : RoundLoop ins starts bytes old list base len new pending reps moved count m i) (A : Listed pending₀ list (length old) len) (h : i < len) (e : p ≡ at list i) where
   pub turn-state : p < length old
   turn-state = rw e (A .states i h)
 
   -- a state behind number i in the list is still to come
-  later : (dirty′ : List ℕ) → Clean dirty′ p → (q : ℕ) → (Clean dirty′ q → ⊥) → (j : ℕ) × ((i ≤ j) × (j < len) × (at list j ≡ q)) → (j : ℕ) × ((i + 1 ≤ j) × (j < len) × (at list j ≡ q))
-  later dirty′ d q f w =
+  later : (pending′ : List ℕ) → Placed pending′ p → (q : ℕ) → (Placed pending′ q → ⊥) → (j : ℕ) × ((i ≤ j) × (j < len) × (at list j ≡ q)) → (j : ℕ) × ((i + 1 ≤ j) × (j < len) × (at list j ≡ q))
+  later pending′ d q f w =
       let z : w .0 ≡ i → ⊥ = λ z. f (rw (sym (w .1 .2) ∙ ap (at list) z ∙ sym e) d) in
       (w .0, (omega arith, w .1 .1, w .1 .2))
 
-  -- the state is clean already
-  pub turn-clean : Clean dirty p → RoundLoop ins starts bytes old list base len new dirty reps moved count m (i + 1)
-  turn-clean d = record {
+  -- the state is placed already
+  pub turn-placed : Placed pending p → RoundLoop ins starts bytes old list base len new pending reps moved count m (i + 1)
+  turn-placed d = record {
     bound = omega arith;
     less = omega (arith, L .less);
     round = L .round;
-    left = λ q l f. later dirty d q f (L .left q l f);
+    left = λ q l f. later pending d q f (L .left q l f);
     listed = L .listed;
     grew = L .grew;
   }
 
-  module _ {new′ dirty′ reps′ : List ℕ} {count′ : ℕ} (P : Places ins starts bytes old new dirty base count p new′ dirty′ reps′ count′) where
-    left′ : (q : ℕ) → q < length old → (Clean dirty′ q → ⊥) → (j : ℕ) × ((i + 1 ≤ j) × (j < len) × (at list j ≡ q))
-    left′ q l f = later dirty′ (P .here) q f (L .left q l (λ d. f (P .cleaned q d)))
+  module _ {new′ pending′ reps′ : List ℕ} {count′ : ℕ} (P : Places ins starts bytes old new pending base count p new′ pending′ reps′ count′) where
+    left′ : (q : ℕ) → q < length old → (Placed pending′ q → ⊥) → (j : ℕ) × ((i + 1 ≤ j) × (j < len) × (at list j ≡ q))
+    left′ q l f = later pending′ (P .here) q f (L .left q l (λ d. f (P .remain q d)))
 
     -- it keeps its class
-    pub turn-kept : at new′ p ≡ at old p → RoundLoop ins starts bytes old list base len new′ dirty′ reps′ moved count′ m (i + 1)
+    pub turn-kept : at new′ p ≡ at old p → RoundLoop ins starts bytes old list base len new′ pending′ reps′ moved count′ m (i + 1)
     turn-kept k = record {
       bound = omega arith;
       less = omega (arith, L .less);
@@ -431,7 +431,7 @@ module _ {ins starts bytes old dirty₀ list : List ℕ} {base len : ℕ} {new d
     }
 
     -- it has another class
-    pub turn-moved : (at new′ p ≡ at old p → ⊥) → RoundLoop ins starts bytes old list base len new′ dirty′ reps′ (set moved m p) count′ (m + 1) (i + 1)
+    pub turn-moved : (at new′ p ≡ at old p → ⊥) → RoundLoop ins starts bytes old list base len new′ pending′ reps′ (set moved m p) count′ (m + 1) (i + 1)
     turn-moved k =
         let room : m < length moved = omega (arith, L .listed .room, L .less, A .few) in
         let here : at (set moved m p) m ≡ p = getD-set-same moved m p 0 room in
@@ -450,10 +450,10 @@ module _ {ins starts bytes old dirty₀ list : List ℕ} {base len : ℕ} {new d
           grew = λ l. by-cases (decLt base count′) (λ z. z) (λ z. absurd (k (P .round .stays p turn-state (omega (arith, P .round .below p turn-state)))));
         }
 
-pub round-end : {ins starts bytes old list : List ℕ} {base len : ℕ} {new dirty reps moved : List ℕ} {count m i : ℕ} → RoundLoop ins starts bytes old list base len new dirty reps moved count m i → len ≤ i → Rounded ins starts bytes old new dirty reps moved base count m
-round-end {dirty = dirty} {i = i} L h = record {
+pub round-end : {ins starts bytes old list : List ℕ} {base len : ℕ} {new pending reps moved : List ℕ} {count m i : ℕ} → RoundLoop ins starts bytes old list base len new pending reps moved count m i → len ≤ i → Rounded ins starts bytes old new pending reps moved base count m
+round-end {pending = pending} {i = i} L h = record {
   round = L .round;
-  clean = λ q l. by-cases (ℕ-discrete (at dirty q) 0) (λ z. z) (λ z. let w = L .left q l z in absurd (omega arith));
+  placed = λ q l. by-cases (ℕ-discrete (at pending q) 0) (λ z. z) (λ z. let w = L .left q l z in absurd (omega arith));
   listed = L .listed;
   grew = L .grew;
 }

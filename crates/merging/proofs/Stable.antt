@@ -16,7 +16,7 @@ use Rattle.formats.specs.Inner.Marked.{part}
 use Rattle.formats.proofs.Laws.{written-take}
 use Rattle.formats.proofs.Pairs.{number-less}
 use Rattle.merging.specs.Inner.Classes.{keyed, bodyMarks, SameStates, at, Keyable, Classed, Patterned, Numbers, Settles}
-use Rattle.merging.specs.Inner.Parting.{Clean, NoneClean, Member, Round, Rounded, Callers, Listed, FlagsMoved, AllDirty, Continues, Respecting, Stable, Parted, Startable, Parts, sign}
+use Rattle.merging.specs.Inner.Refining.{Placed, NonePlaced, Member, Round, Rounded, Callers, Listed, FlagsMoved, AllPending, Continues, Respecting, Stable, Refined, Startable, Refines, sign}
 use Rattle.merging.proofs.Keys.{keyAt, key-symbol, key-call, keyed-length, keyed-at, body-ordered, body-keyable, first-there, same-simulates, simulates-same}
 use Rattle.merging.proofs.Numbering.{classes-agree, class-below, least-below}
 use Rattle.merging.proofs.Patterns.{laid-le, pattern-respects}
@@ -63,8 +63,8 @@ module _ {ins starts bytes old : List ℕ} (C : Classed ins starts bytes old) (n
   states-kept f S = record { each = λ a l. body-kept a l ∙ S .each a l ∙ sym (f a l) }
 
 -- ---- the start of a round
-module _ {ins starts bytes old new dirty reps : List ℕ} {count : ℕ} (long : length new ≡ length old) (same : (q : ℕ) → q < length old → at new q ≡ at old q) (below : (q : ℕ) → q < length old → at new q < count) (every : (k : ℕ) → k < count → (s : ℕ) × Member new k s) where
-  start-round : length dirty ≡ 128 → length reps ≡ 128 → ((p q : ℕ) → p < length old → q < length old → Clean dirty p → Clean dirty q → at new p ≡ at new q → SameStates ins starts bytes old p q) → ((c : ℕ) → c < count → length old ≤ at reps c → NoneClean new dirty c) → Round ins starts bytes old new dirty reps count count
+module _ {ins starts bytes old new pending reps : List ℕ} {count : ℕ} (long : length new ≡ length old) (same : (q : ℕ) → q < length old → at new q ≡ at old q) (below : (q : ℕ) → q < length old → at new q < count) (every : (k : ℕ) → k < count → (s : ℕ) × Member new k s) where
+  start-round : length pending ≡ 128 → length reps ≡ 128 → ((p q : ℕ) → p < length old → q < length old → Placed pending p → Placed pending q → at new p ≡ at new q → SameStates ins starts bytes old p q) → ((c : ℕ) → c < count → length old ≤ at reps c → NonePlaced new pending c) → Round ins starts bytes old new pending reps count count
   start-round flags names fine unnamed = record {
     waits = λ q h d. same q h;
     fine = λ p q h g d e x. (sym (same p h) ∙ x ∙ same q g, fine p q h g d e x);
@@ -82,16 +82,16 @@ module _ {ins starts bytes old new dirty reps : List ℕ} {count : ℕ} (long : 
     names = names;
   }
 
-  -- where all states are dirty
-  pub dirty-round : {list : List ℕ} → AllDirty dirty reps list (length old) → Round ins starts bytes old new dirty reps count count
-  dirty-round A = start-round (A .flags) (A .names) (λ p q h g d e x. absurd (A .dirt p h d)) (λ c h l q k e d. A .dirt q (omega arith) d)
+  -- where all states are pending
+  pub pending-round : {list : List ℕ} → AllPending pending reps list (length old) → Round ins starts bytes old new pending reps count count
+  pending-round A = start-round (A .flags) (A .names) (λ p q h g d e x. absurd (A .waiting p h d)) (λ c h l q k e d. A .waiting q (omega arith) d)
 
 -- ---- the next round
-module _ {ins starts bytes old new dirty reps moved : List ℕ} {base count m : ℕ} (C : Classed ins starts bytes old) (R : Rounded ins starts bytes old new dirty reps moved base count m) where
+module _ {ins starts bytes old new pending reps moved : List ℕ} {base count m : ℕ} (C : Classed ins starts bytes old) (R : Rounded ins starts bytes old new pending reps moved base count m) where
   -- the new classes part no equivalent states
   new-respects : {old′ : List ℕ} → Respecting ins starts bytes (length old) old → ((q : ℕ) → q < length old → at new q ≡ at old′ q) → Respecting ins starts bytes (length old) old′
   new-respects {old′} A same = record {
-    each = λ outs l L W E. refine-respects W E (λ q. at old q) (λ q. at old′ q) (A .each outs l L W E) (λ p q h g e S. sym (same p h) ∙ R .round .coarse p q h g (R .clean p h) (R .clean q g) e (simulates-same L old h g l S) ∙ same q g);
+    each = λ outs l L W E. refine-respects W E (λ q. at old q) (λ q. at old′ q) (A .each outs l L W E) (λ p q h g e S. sym (same p h) ∙ R .round .coarse p q h g (R .placed p h) (R .placed q g) e (simulates-same L old h g l S) ∙ same q g);
   }
 
   -- where no state was moved, the classes are stable
@@ -101,7 +101,7 @@ module _ {ins starts bytes old new dirty reps moved : List ℕ} {base count m : 
     same = λ p q h g e.
         let x = kept p h in
         let y = kept q g in
-        R .round .fine p q h g (R .clean p h) (R .clean q g) (x ∙ e ∙ sym y) .1;
+        R .round .fine p q h g (R .placed p h) (R .placed q g) (x ∙ e ∙ sym y) .1;
   }
     where
       kept : (q : ℕ) → q < length old → at new q ≡ at old q
@@ -110,10 +110,10 @@ module _ {ins starts bytes old new dirty reps moved : List ℕ} {base count m : 
   -- a state stands for each class
   named : (c : ℕ) → c < count → at reps c < length old
   named c h = by-cases (decLt c base)
-      (λ b. by-cases (decLt (at reps c) (length old)) (λ z. z) (λ z. let w = R .round .every c h in absurd (R .round .unnamed c b (omega arith) (w .0) (w .1 .there) (w .1 .class) (R .clean (w .0) (omega (arith, w .1 .there, R .round .long))))))
+      (λ b. by-cases (decLt (at reps c) (length old)) (λ z. z) (λ z. let w = R .round .every c h in absurd (R .round .unnamed c b (omega arith) (w .0) (w .1 .there) (w .1 .class) (R .placed (w .0) (omega (arith, w .1 .there, R .round .long))))))
       (λ b. omega (arith, R .round .made c (omega arith) h .0 .there, R .round .long))
 
-  module _ {callers old′ dirty′ reps′ list′ : List ℕ} {len : ℕ} (T : Callers ins starts bytes (length old) callers) (N : Continues callers old new reps old′ dirty′ reps′ list′ len) (long : length old′ ≡ length old) where
+  module _ {callers old′ pending′ reps′ list′ : List ℕ} {len : ℕ} (T : Callers ins starts bytes (length old) callers) (N : Continues callers old new reps old′ pending′ reps′ list′ len) (long : length old′ ≡ length old) where
     same′ : (q : ℕ) → q < length old′ → at new q ≡ at old′ q
     same′ q h = N .same q (omega arith)
 
@@ -124,41 +124,41 @@ module _ {ins starts bytes old new dirty reps moved : List ℕ} {base count m : 
     long′ = R .round .long ∙ sym long
 
     -- a state that calls no moved state
-    undisturbed : FlagsMoved callers old new old′ dirty′ list′ len → (p : ℕ) → p < length old → Clean dirty′ p → (j : ℕ) → at starts (bodyCount ins p) ≤ j → j < at starts (bodyCount ins p + length ins) → 0 < at bytes (2 * j) → at bytes (2 * j + 1) < length old → at old′ (at bytes (2 * j + 1)) ≡ at old (at bytes (2 * j + 1))
+    undisturbed : FlagsMoved callers old new old′ pending′ list′ len → (p : ℕ) → p < length old → Placed pending′ p → (j : ℕ) → at starts (bodyCount ins p) ≤ j → j < at starts (bodyCount ins p + length ins) → 0 < at bytes (2 * j) → at bytes (2 * j + 1) < length old → at old′ (at bytes (2 * j + 1)) ≡ at old (at bytes (2 * j + 1))
     undisturbed S p h d j b l c r =
         let x = at bytes (2 * j + 1) in
         sym (N .same x r) ∙ by-cases (ℕ-discrete (at new x) (at old x)) (λ z. z) (λ z. absurd (S .flagged x p r h z (T .each p h .each j b l c (omega (arith, C .layout .few-states))) d))
 
-    pub next-round : Round ins starts bytes old′ new dirty′ reps′ count count
+    pub next-round : Round ins starts bytes old′ new pending′ reps′ count count
     next-round = ⊎-elim
         (λ w. start-round long′ same′ below′ (R .round .every) (N .flags) (N .names)
-        (λ p q h g d e x. let i : p < length old = omega arith in let j : q < length old = omega arith in states-kept C old′ i (undisturbed (w .0) p i d) (body-kept C old′ j (undisturbed (w .0) q j e)) (R .round .fine p q i j (R .clean p i) (R .clean q j) x .1))
+        (λ p q h g d e x. let i : p < length old = omega arith in let j : q < length old = omega arith in states-kept C old′ i (undisturbed (w .0) p i d) (body-kept C old′ j (undisturbed (w .0) q j e)) (R .round .fine p q i j (R .placed p i) (R .placed q j) x .1))
         (λ c h l. absurd (omega (arith, named c h, ap (λ r. at r c) (w .1)))))
-        (λ A. dirty-round long′ same′ below′ (R .round .every) {list = list′} (rw long A))
+        (λ A. pending-round long′ same′ below′ (R .round .every) {list = list′} (rw long A))
         (N .either)
 
 -- ---- all rounds
 -- a round was done, with as many states as at first
-pub record PartLoop (ins starts bytes old₀ callers old new dirty reps list moved : List ℕ) (count m : ℕ) : Type 0 where
+pub record RefineLoop (ins starts bytes old₀ callers old new pending reps list moved : List ℕ) (count m : ℕ) : Type 0 where
   pub room : length callers ≡ 16640
   pub calls : Callers ins starts bytes (length old₀) callers
   pub long : length old ≡ length old₀
-  pub parted : Parted ins starts bytes old new dirty reps list moved count m
+  pub refined : Refined ins starts bytes old new pending reps list moved count m
 
 -- how many classes there can still be, and one round that moves no state
 pub left : ℕ → ℕ → ℕ → ℕ
 left n count m = n - count + sign m
 
-module _ {ins starts bytes old new dirty reps list moved : List ℕ} {count m : ℕ} (P : Parted ins starts bytes old new dirty reps list moved count m) where
-  pub parted-stable : m ≡ 0 → Stable ins starts bytes (length old) old
-  parted-stable z = none-moved (P .classed) (P .rounded) z (P .respects)
+module _ {ins starts bytes old new pending reps list moved : List ℕ} {count m : ℕ} (P : Refined ins starts bytes old new pending reps list moved count m) where
+  pub refined-stable : m ≡ 0 → Stable ins starts bytes (length old) old
+  refined-stable z = none-moved (P .classed) (P .rounded) z (P .respects)
 
-  module _ {callers old′ dirty′ reps′ list′ : List ℕ} {len : ℕ} (T : Callers ins starts bytes (length old) callers) (N : Continues callers old new reps old′ dirty′ reps′ list′ len) (long : length old′ ≡ length old) where
+  module _ {callers old′ pending′ reps′ list′ : List ℕ} {len : ℕ} (T : Callers ins starts bytes (length old) callers) (N : Continues callers old new reps old′ pending′ reps′ list′ len) (long : length old′ ≡ length old) where
     next-classed : Classed ins starts bytes old′
     next-classed = record { outs = P .classed .outs; layout = rw long (P .classed .layout) }
 
     -- what the next round asks
-    pub next-asks : Classed ins starts bytes old′ × Round ins starts bytes old′ new dirty′ reps′ count count × Listed dirty′ list′ (length old′) len × (length moved ≡ 128) × ((q : ℕ) → q < length old′ → at new q ≡ at old′ q)
+    pub next-asks : Classed ins starts bytes old′ × Round ins starts bytes old′ new pending′ reps′ count count × Listed pending′ list′ (length old′) len × (length moved ≡ 128) × ((q : ℕ) → q < length old′ → at new q ≡ at old′ q)
     next-asks = (
       next-classed,
       next-round (P .classed) (P .rounded) T N long,
@@ -167,9 +167,9 @@ module _ {ins starts bytes old new dirty reps list moved : List ℕ} {count m : 
       λ q h. N .same q (omega arith),
     )
 
-    module _ {new′ dirty″ reps″ moved′ : List ℕ} {count′ m′ : ℕ} (R : Rounded ins starts bytes old′ new′ dirty″ reps″ moved′ count count′ m′) where
-      pub next-parted : Parted ins starts bytes old′ new′ dirty″ reps″ list′ moved′ count′ m′
-      next-parted = record {
+    module _ {new′ pending″ reps″ moved′ : List ℕ} {count′ m′ : ℕ} (R : Rounded ins starts bytes old′ new′ pending″ reps″ moved′ count count′ m′) where
+      pub next-refined : Refined ins starts bytes old′ new′ pending″ reps″ list′ moved′ count′ m′
+      next-refined = record {
         base = count;
         classed = next-classed;
         respects = rw long (new-respects (P .classed) (P .rounded) (P .respects) (N .same));
@@ -184,28 +184,28 @@ module _ {ins starts bytes old new dirty reps list moved : List ℕ} {count m : 
           (λ z. omega (arith, R .grew z, round-few (R .round), long, one-sign m′, some-sign m h))
           (λ z. omega (arith, R .round .grown, no-sign m′ (omega arith), some-sign m h))
 
-module _ {ins starts bytes old new dirty reps list : List ℕ} {count : ℕ} (S : Startable ins starts bytes old new count) (A : AllDirty dirty reps list (length old)) where
+module _ {ins starts bytes old new pending reps list : List ℕ} {count : ℕ} (S : Startable ins starts bytes old new count) (A : AllPending pending reps list (length old)) where
   -- what the first round asks
-  pub first-asks : Classed ins starts bytes old × Round ins starts bytes old new dirty reps count count × Listed dirty list (length old) (length old)
+  pub first-asks : Classed ins starts bytes old × Round ins starts bytes old new pending reps count count × Listed pending list (length old) (length old)
   first-asks = (
     S .classed,
-    dirty-round (S .long) (S .same) (λ q h. rw (S .same q h) (S .below q h)) (S .every) A,
+    pending-round (S .long) (S .same) (λ q h. rw (S .same q h) (S .below q h)) (S .every) A,
     A .listed,
   )
 
-  pub first-parted : {new′ dirty′ reps′ moved : List ℕ} {count′ m : ℕ} → Rounded ins starts bytes old new′ dirty′ reps′ moved count count′ m → Parted ins starts bytes old new′ dirty′ reps′ list moved count′ m
-  first-parted R = record { base = count; classed = S .classed; respects = S .respects; rounded = R; room = A .listed .room }
+  pub first-refined : {new′ pending′ reps′ moved : List ℕ} {count′ m : ℕ} → Rounded ins starts bytes old new′ pending′ reps′ moved count count′ m → Refined ins starts bytes old new′ pending′ reps′ list moved count′ m
+  first-refined R = record { base = count; classed = S .classed; respects = S .respects; rounded = R; room = A .listed .room }
 
 -- ---- from the bytes to the end
 copied : (from area area′ : List ℕ) → length from ≡ length area → area′ ≡ sets area 0 from → area′ ≡ from
 copied from area area′ l e = sym (take-all (length from) area′ (omega (arith, ap length e, length-sets area 0 from))) ∙ written-take from area area′ (length from) refl (omega arith) e
 
 -- where no state is moved, the classes are as they were
-pub parts-none : {ins starts bytes old new dirty reps list moved : List ℕ} {count m : ℕ} → Parted ins starts bytes old new dirty reps list moved count m → m ≡ 0 → Parts ins starts bytes old old new false
-parts-none P z = record { stable = parted-stable P z; kept = λ e. (refl, λ q h. ⊎-elim (λ w. w) (λ w. absurd (omega arith)) (P .rounded .listed .all q h)) }
+pub refines-none : {ins starts bytes old new pending reps list moved : List ℕ} {count m : ℕ} → Refined ins starts bytes old new pending reps list moved count m → m ≡ 0 → Refines ins starts bytes old old new false
+refines-none P z = record { stable = refined-stable P z; kept = λ e. (refl, λ q h. ⊎-elim (λ w. w) (λ w. absurd (omega arith)) (P .rounded .listed .all q h)) }
 
-pub parts-some : {ins starts bytes old old′ new′ : List ℕ} → Stable ins starts bytes (length old) old′ → Parts ins starts bytes old old′ new′ true
-parts-some S = record { stable = S; kept = λ e. conflict (cc) }
+pub refines-some : {ins starts bytes old old′ new′ : List ℕ} → Stable ins starts bytes (length old) old′ → Refines ins starts bytes old old′ new′ true
+refines-some S = record { stable = S; kept = λ e. conflict (cc) }
 
 -- the bytes of the right-hand sides, numbered, are classes to start from
 pub numbered-start : {ins starts bytes old₀ old new least old′ : List ℕ} {count : ℕ} → Classed ins starts bytes old₀ → length old ≡ length old₀ → Patterned ins starts bytes (length old₀) old → Numbers old new least count → length new ≡ length old₀ → old′ ≡ sets old 0 new → Startable ins starts bytes old′ new count
@@ -231,7 +231,7 @@ stable-settles {old = old} {new} {n = n} S l m N = record {
 }
 
 -- where no state was moved, the classes to start from are
-pub kept-settles : {ins starts bytes old new least old′ old″ new″ : List ℕ} {any : Bool} {n count : ℕ} → Parts ins starts bytes old′ old″ new″ any → any ≡ false → Numbers old new least count → length old ≡ n → length new ≡ n → old′ ≡ sets old 0 new → length new″ ≡ n → Settles ins starts bytes new″ least n count
+pub kept-settles : {ins starts bytes old new least old′ old″ new″ : List ℕ} {any : Bool} {n count : ℕ} → Refines ins starts bytes old′ old″ new″ any → any ≡ false → Numbers old new least count → length old ≡ n → length new ≡ n → old′ ≡ sets old 0 new → length new″ ≡ n → Settles ins starts bytes new″ least n count
 kept-settles {old = old} {new} {least} {old′} {old″} {new″} {n = n} P f N l m e l″ =
     let z : old′ ≡ new = copied new old old′ (m ∙ sym l) e in
     let x : old″ ≡ new = P .kept f .0 ∙ z in

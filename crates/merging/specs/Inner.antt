@@ -1,3 +1,3 @@
 -- What only inner functions and their proofs speak of.
 pub mod Classes
-pub mod Parting
+pub mod Refining

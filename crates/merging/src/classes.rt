@@ -1,4 +1,4 @@
-// Classes of equivalent states: those with like right-hand sides are one class at first, and are parted until states of one class
+// Classes of equivalent states: those with like right-hand sides are one class at first, and are refined until states of one class
 // have the same right-hand sides, up to the classes of the states called.
 ghost use Prim.Native.Nat.{_+_, _*_, _≤_, _<_};
 ghost use mathlib.Core.Path.{_≡_};
@@ -7,7 +7,7 @@ ghost use Rattle.formats.specs.Inner.Layout.{bodyCount};
 ghost use Rattle.formats.specs.Inner.Marked.{part};
 ghost use Rattle.formats.specs.Refusal.{Decides};
 ghost use Rattle.merging.specs.Inner.Classes.{keyed, Keyable, SameBodies, SameStates, Classed, patternByte, Patterned, Numbers, Settles};
-use crate::parting::part_classes;
+use crate::refining::refine_classes;
 use formats::bytes::number;
 use formats::bytes::wide;
 use formats::file::copy_at;
@@ -151,7 +151,7 @@ pub fn settle_classes(
     pattern_classes(ins, starts, marks, old);
     let count = number_classes(old, new, least);
     copy_at(new, old, 0);
-    if part_classes(ins, starts, marks, old, new, count) {
+    if refine_classes(ins, starts, marks, old, new, count) {
         return number_classes(old, new, least);
     }
     count

@@ -1,3 +1,3 @@
 // Classes of equivalent states of a transducer.
 pub mod classes;
-pub mod parting;
+pub mod refining;

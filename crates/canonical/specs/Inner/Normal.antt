@@ -7,16 +7,13 @@ use Rattle.theory.specs.NormalForm.{NormalForm}
 use Rattle.theory.specs.Numbered.{Numbered}
 use Rattle.theory.specs.Transducer.{Transducer}
 use Rattle.formats.specs.Alphabets.{Leaf, Alphabets, inputs, outputs}
-use Rattle.formats.specs.Refusal.{done, check, Judged}
 use Rattle.formats.specs.Sheet.{Encodes}
 use Rattle.prefixes.specs.Alphabet.{alphabet}
 use Rattle.prefixes.specs.Inner.Heads.{machine, Layout}
-use Rattle.earliest.specs.Answers.{formOf, FileOf}
 use Rattle.earliest.specs.Inner.Loaded.{EarliestOf}
 use Rattle.earliest.specs.Inner.Packed.{Packed}
 use Rattle.earliest.specs.declared.early.Grown.{Grown}
 use Rattle.earliest.specs.declared.early.Grown.the-variants.{States, Over}
-use Rattle.earliest.specs.declared.earliest.Formed.{Formed}
 
 -- a transducer in a table
 pub record Reducible (ins outs starts bytes : List ℕ) (k : ℕ) : Type 0 where
@@ -45,9 +42,3 @@ pub record NormalBy (stock : List ℕ) (n : ℕ) (counts bytes starts out : List
   pub layout : (k : ℕ) → r ≡ States k → Layout (inputs stock) (outputs stock) starts out k
   pub packed : (k : ℕ) → r ≡ States k → Packed (inputs stock) starts k
   pub normal : (k : ℕ) → r ≡ States k → (M : Transducer ℕ) → Encodes (inputs stock) (outputs stock) n counts bytes M → (l : Leaf (inputs stock)) → NormalForm (alphabet (inputs stock) l) M (machine (inputs stock) (outputs stock) starts out k) k
-
-abbrev pub CleansFile : List ℕ → ℕ → List ℕ → List ℕ → List ℕ → List ℕ → Formed → Type 0
-CleansFile stock n counts bytes before after r =
-    Judged (after ≡ before) (λ v. (counts′ : List ℕ) × ((bytes′ : List ℕ) × (NormalOf stock n counts bytes (v .0) counts′ bytes′ × FileOf v counts′ bytes′ before after)))
-    (check 7 ((k : ℕ) × ((counts′ : List ℕ) × ((bytes′ : List ℕ) × EarliestOf stock n counts bytes k counts′ bytes′))) done)
-    (formOf r)

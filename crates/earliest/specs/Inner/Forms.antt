@@ -9,9 +9,14 @@ use Rattle.theory.specs.Transducer.{Transducer}
 use Rattle.formats.specs.Alphabets.{Leaf, Alphabets, inputs, outputs}
 use Rattle.formats.specs.Inner.Layout.{bodyCount, countAt}
 use Rattle.formats.specs.Sheet.{longest, file, Encodes}
+use Rattle.formats.specs.declared.refusal.Refusal.the-variants.{OverLimits}
 use Rattle.prefixes.specs.Alphabet.{alphabet}
 use Rattle.prefixes.specs.Inner.Heads.{machine, Layout}
 use Rattle.earliest.specs.Inner.Packed.{Packed}
+use Rattle.earliest.specs.declared.early.Grown.{Grown}
+use Rattle.earliest.specs.declared.early.Grown.the-variants.{States, Over}
+use Rattle.earliest.specs.declared.earliest.Formed.{Formed}
+use Rattle.earliest.specs.declared.earliest.Formed.the-variants.{Form, Refused}
 
 -- the counts of m bodies by the table of their starts
 pub record FillsCounts (starts : List ℕ) (m : ℕ) (counts : List ℕ) : Type 0 where
@@ -34,3 +39,20 @@ pub record WritesForm (stock starts bytes : List ℕ) (k : ℕ) (before after : 
   pub long : length marks ≡ 2 * getD starts (bodyCount (inputs stock) k) 0
   pub size : r ≡ length (file k counts marks)
   pub wrote : after ≡ sets before 0 (file k counts marks)
+
+-- what writing the form that was found asks: it stands in the table
+pub record FoundWritable (stock : List ℕ) (found : Grown) (starts bytes area : List ℕ) : Type 0 where
+  pub each : (k : ℕ) → found ≡ States k → Writable stock starts bytes k area
+
+-- the form with k states was written: r says how many states and marks it has, and how long its file is
+pub record FormWritten (stock : List ℕ) (k : ℕ) (starts bytes before after : List ℕ) (r : Formed) : Type 0 where
+  pub marks : ℕ
+  pub size : ℕ
+  pub answer : r ≡ Form k marks size
+  pub many : marks ≡ getD starts (bodyCount (inputs stock) k) 0
+  pub written : WritesForm stock starts bytes k before after size
+
+-- what it does: the form that was found is written; refusal 7 where it is over the limits
+pub record WritesFound (stock : List ℕ) (found : Grown) (starts bytes before after : List ℕ) (r : Formed) : Type 0 where
+  pub over : found ≡ Over → (r ≡ Refused OverLimits) × (after ≡ before)
+  pub form : (k : ℕ) → found ≡ States k → FormWritten stock k starts bytes before after r

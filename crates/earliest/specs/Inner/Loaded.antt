@@ -31,8 +31,9 @@ pub record EarliestBy (stock : List ℕ) (n : ℕ) (counts bytes starts out : Li
   pub packed : (k : ℕ) → r ≡ States k → Packed (inputs stock) starts k
   pub trimmed : (k : ℕ) → r ≡ States k → (M : Transducer ℕ) → Encodes (inputs stock) (outputs stock) n counts bytes M → (l : Leaf (inputs stock)) → Trimmed (alphabet (inputs stock) l) M (λ q. q < n) (machine (inputs stock) (outputs stock) starts out k) k
 
-abbrev pub FormsFile : List ℕ → ℕ → List ℕ → List ℕ → List ℕ → List ℕ → Formed → Type 0
-FormsFile stock n counts bytes before after r =
-    Judged (after ≡ before) (λ v. (counts′ : List ℕ) × ((bytes′ : List ℕ) × (EarliestOf stock n counts bytes (v .0) counts′ bytes′ × FileOf v counts′ bytes′ before after)))
+-- a form of the transducer with n states and these counts and marks, as a file: Form says which k, counts and marks are the form's
+abbrev pub FormsFile : (ℕ → List ℕ → List ℕ → Type 0) → List ℕ → ℕ → List ℕ → List ℕ → List ℕ → List ℕ → Formed → Type 0
+FormsFile Form stock n counts bytes before after r =
+    Judged (after ≡ before) (λ v. (counts′ : List ℕ) × ((bytes′ : List ℕ) × (Form (v .0) counts′ bytes′ × FileOf v counts′ bytes′ before after)))
     (check 7 ((k : ℕ) × ((counts′ : List ℕ) × ((bytes′ : List ℕ) × EarliestOf stock n counts bytes k counts′ bytes′))) done)
     (formOf r)

@@ -19,14 +19,14 @@ copy-at-requires : tie.Need-copy-at-requires
 copy-at-requires c κs = search needs
 
 -- src/classes.rt:154:8
-part-classes-requires : tie.Need-part-classes-requires
-part-classes-requires c κs = numbered-start (c .before .before .before .before .before .before .before .before .before .before .before .before .before .before .before .before .before .before .before .before .before .before .before .before .before .pre .0) (c .before .before .before .before .before .before .before .before .before .before .before .before .before .before .before .before .before .pattern-classes .kept .1 .1 .1 .0) (c .before .before .before .before .before .before .before .before .before .before .before .before .before .before .before .before .before .pattern-classes .ensures) (c .before .before .before .before .before .before .before .before .before .before .before .number-classes .ensures) (c .before .before .before .before .before .before .before .before .before .before .before .number-classes .kept .1 .0 ∙ c .before .before .before .before .before .before .before .before .before .before .before .before .before .before .before .before .before .before .before .before .before .before .before .before .before .pre .1) (c .before .before .before .before .copy-at .ensures)
+refine-classes-requires : tie.Need-refine-classes-requires
+refine-classes-requires c κs = numbered-start (c .before .before .before .before .before .before .before .before .before .before .before .before .before .before .before .before .before .before .before .before .before .before .before .before .before .pre .0) (c .before .before .before .before .before .before .before .before .before .before .before .before .before .before .before .before .before .pattern-classes .kept .1 .1 .1 .0) (c .before .before .before .before .before .before .before .before .before .before .before .before .before .before .before .before .before .pattern-classes .ensures) (c .before .before .before .before .before .before .before .before .before .before .before .number-classes .ensures) (c .before .before .before .before .before .before .before .before .before .before .before .number-classes .kept .1 .0 ∙ c .before .before .before .before .before .before .before .before .before .before .before .before .before .before .before .before .before .before .before .before .before .before .before .before .before .pre .1) (c .before .before .before .before .copy-at .ensures)
 
 -- src/classes.rt:155:9
 number-classes-requires-2 : tie.Need-number-classes-requires-2
 number-classes-requires-2 c κs =
-    let old = c .before .before .before .before .before .before .before .before .part-classes .kept .1 .1 .1 .0 ∙ c .before .before .before .before .before .before .before .before .before .before .before .before .before .copy-at .kept .1 .0 ∙ c .before .before .before .before .before .before .before .before .before .before .before .before .before .before .before .before .before .before .before .before .before .before .before .before .before .before .pattern-classes .kept .1 .1 .1 .0 in
-    let new = c .before .before .before .before .before .before .before .before .part-classes .kept .1 .1 .1 .1 .0 ∙ c .before .before .before .before .before .before .before .before .before .before .before .before .before .before .before .before .before .before .before .before .number-classes .kept .1 .0 ∙ c .before .before .before .before .before .before .before .before .before .before .before .before .before .before .before .before .before .before .before .before .before .before .before .before .before .before .before .before .before .before .before .before .before .before .pre .1 in
+    let old = c .before .before .before .before .before .before .before .before .refine-classes .kept .1 .1 .1 .0 ∙ c .before .before .before .before .before .before .before .before .before .before .before .before .before .copy-at .kept .1 .0 ∙ c .before .before .before .before .before .before .before .before .before .before .before .before .before .before .before .before .before .before .before .before .before .before .before .before .before .before .pattern-classes .kept .1 .1 .1 .0 in
+    let new = c .before .before .before .before .before .before .before .before .refine-classes .kept .1 .1 .1 .1 .0 ∙ c .before .before .before .before .before .before .before .before .before .before .before .before .before .before .before .before .before .before .before .before .number-classes .kept .1 .0 ∙ c .before .before .before .before .before .before .before .before .before .before .before .before .before .before .before .before .before .before .before .before .before .before .before .before .before .before .before .before .before .before .before .before .before .before .pre .1 in
     (omega (arith, old, c .before .before .before .before .before .before .before .before .before .before .before .before .before .before .before .before .before .before .before .before .before .before .before .before .before .before .before .before .before .before .before .before .before .before .pre .0 .layout .few-states), new ∙ sym old, omega (arith, c .before .before .before .before .before .before .before .before .before .before .before .before .before .before .before .before .before .before .before .before .number-classes .kept .1 .1 .0, c .before .before .before .before .before .before .before .before .before .before .before .before .before .before .before .before .before .before .before .before .before .before .before .before .before .before .before .before .before .before .before .before .before .before .pre .2))
 
 -- src/classes.rt:155:9
@@ -45,7 +45,7 @@ same-length-3 c = search needs
 returns : tie.Need-returns
 returns c =
     let copy = c .before .before .before .before .before .before .before .before .before .before .before .before .before .before .before .before .before .before .copy-at .kept .1 .0 ∙ c .before .before .before .before .before .before .before .before .before .before .before .before .before .before .before .before .before .before .before .before .before .before .before .before .before .before .before .before .before .before .before .pattern-classes .kept .1 .1 .1 .0 in
-    stable-settles (rw copy at (c .before .before .before .before .before .before .before .before .before .before .before .before .before .part-classes .ensures .stable)) (c .before .before .before .before .before .before .before .before .before .before .before .before .before .part-classes .kept .1 .1 .1 .0 ∙ copy) (c .before .before .before .before .number-classes2 .kept .1 .0 ∙ c .before .before .before .before .before .before .before .before .before .before .before .before .before .part-classes .kept .1 .1 .1 .1 .0 ∙ c .before .before .before .before .before .before .before .before .before .before .before .before .before .before .before .before .before .before .before .before .before .before .before .before .before .number-classes .kept .1 .0 ∙ c .before .before .before .before .before .before .before .before .before .before .before .before .before .before .before .before .before .before .before .before .before .before .before .before .before .before .before .before .before .before .before .before .before .before .before .before .before .before .before .pre .1) (c .before .before .before .before .number-classes2 .ensures)
+    stable-settles (rw copy at (c .before .before .before .before .before .before .before .before .before .before .before .before .before .refine-classes .ensures .stable)) (c .before .before .before .before .before .before .before .before .before .before .before .before .before .refine-classes .kept .1 .1 .1 .0 ∙ copy) (c .before .before .before .before .number-classes2 .kept .1 .0 ∙ c .before .before .before .before .before .before .before .before .before .before .before .before .before .refine-classes .kept .1 .1 .1 .1 .0 ∙ c .before .before .before .before .before .before .before .before .before .before .before .before .before .before .before .before .before .before .before .before .before .before .before .before .before .number-classes .kept .1 .0 ∙ c .before .before .before .before .before .before .before .before .before .before .before .before .before .before .before .before .before .before .before .before .before .before .before .before .before .before .before .before .before .before .before .before .before .before .before .before .before .before .before .pre .1) (c .before .before .before .before .number-classes2 .ensures)
 
 -- src/classes.rt:140:1
 same-length-4 : tie.Need-same-length-4
@@ -63,7 +63,7 @@ same-length-6 c = search needs
 returns-2 : tie.Need-returns-2
 returns-2 c =
     let new = c .before .before .before .before .before .before .before .before .before .before .before .before .before .before .before .before .before .number-classes .kept .1 .0 ∙ c .before .before .before .before .before .before .before .before .before .before .before .before .before .before .before .before .before .before .before .before .before .before .before .before .before .before .before .before .before .before .before .pre .1 in
-    kept-settles (c .before .before .before .before .before .part-classes .ensures) (c .if1 .left) (c .before .before .before .before .before .before .before .before .before .before .before .before .before .before .before .before .before .number-classes .ensures) (c .before .before .before .before .before .before .before .before .before .before .before .before .before .before .before .before .before .before .before .before .before .before .before .pattern-classes .kept .1 .1 .1 .0) new (c .before .before .before .before .before .before .before .before .before .before .copy-at .ensures) (c .before .before .before .before .before .part-classes .kept .1 .1 .1 .1 .0 ∙ new)
+    kept-settles (c .before .before .before .before .before .refine-classes .ensures) (c .if1 .left) (c .before .before .before .before .before .before .before .before .before .before .before .before .before .before .before .before .before .number-classes .ensures) (c .before .before .before .before .before .before .before .before .before .before .before .before .before .before .before .before .before .before .before .before .before .before .before .pattern-classes .kept .1 .1 .1 .0) new (c .before .before .before .before .before .before .before .before .before .before .copy-at .ensures) (c .before .before .before .before .before .refine-classes .kept .1 .1 .1 .1 .0 ∙ new)
 
 pub settle-classes-spec : {M : Type 1} → statement M
 settle-classes-spec =
@@ -72,7 +72,7 @@ settle-classes-spec =
     pattern-classes-requires
     number-classes-requires
     copy-at-requires
-    part-classes-requires
+    refine-classes-requires
     number-classes-requires-2
     same-length
     same-length-2
