@@ -1,4 +1,4 @@
--- What a comparison promises: it answers alike exactly if the two files sew alike, and exactly then the part that is handed out is not empty.
+-- What a comparison promises: it answers alike exactly if the two files sew alike, and exactly then the part that is handed out is not empty; there is one such part.
 use Prim.Native.Nat.{ℕ, _≤_}
 use native.Mathlib.Decide.{decLt}
 use native.Mathlib.Omega.{arith}
@@ -9,11 +9,13 @@ use mathlib.Core.Path.{_≡_, refl, ap, sym, _∙_}
 use lib.ListN.{length, getD, length-append}
 use Rattle.theory.specs.Transducer.{Transducer}
 use Rattle.theory.proofs.Terms.{conflict}
+use Rattle.formats.specs.Alphabets.{inputs, outputs}
 use Rattle.formats.specs.Code.{Mark}
 use Rattle.formats.specs.Refusal.{accepted, Holds}
 use Rattle.formats.specs.Sheet.{markBytes, bodyBytes, bodiesOf, Sheet}
 use Rattle.formats.proofs.Cuts.{length-markBytes}
 use Rattle.formats.proofs.Judging.{accepted-holds}
+use Rattle.formats.proofs.Sheets.{sheet-unique}
 use Rattle.canonical.specs.Answers.{SewAlike}
 use Rattle.comparison.specs.Answers.{Found, pairCheck, Compares, comparedAs, FewerMarks, HandsShorter}
 use Rattle.comparison.specs.declared.compare.Comparison.{Comparison}
@@ -49,3 +51,23 @@ pub shorter-exact : {stock s s′ part : List ℕ} → HandsShorter stock s s′
 shorter-exact (inl (h, inl (a, F))) g = (λ b. fewer-some F, λ n. a)
 shorter-exact (inl (h, inr (f, e))) g = (λ b. absurd (f b), λ n. absurd (n e))
 shorter-exact (inr (f, e)) g = absurd (f g)
+
+-- the marks of the one with fewer are one list of bytes
+fewer-unique : {stock s s′ part part′ : List ℕ} → FewerMarks stock s s′ part → FewerMarks stock s s′ part′ → part ≡ part′
+fewer-unique {stock} {s} {s′} F G =
+    let u : F .sheet .bytes ≡ G .sheet .bytes = sheet-unique (inputs stock) (outputs stock) s (F .states) (G .states) (F .machine) (G .machine) (F .sheet) (G .sheet) .2 in
+    let u′ : F .sheet′ .bytes ≡ G .sheet′ .bytes = sheet-unique (inputs stock) (outputs stock) s′ (F .states′) (G .states′) (F .machine′) (G .machine′) (F .sheet′) (G .sheet′) .2 in
+    by-cases
+    (decLt (length (F .sheet′ .bytes)) (length (F .sheet .bytes)))
+    (λ h. F .right h ∙ u′ ∙ sym (G .right (omega (arith, ap length u, ap length u′))))
+    (λ h. F .left (omega arith) ∙ u ∙ sym (G .left (omega (arith, ap length u, ap length u′))))
+
+-- The contract of `shorter` determines the part that is handed out.
+pub shorter-unique : {stock s s′ part part′ : List ℕ} → HandsShorter stock s s′ part → HandsShorter stock s s′ part′ → part ≡ part′
+shorter-unique (inl (h, inl (a, F))) (inl (h′, inl (a′, F′))) = fewer-unique F F′
+shorter-unique (inl (h, inl (a, F))) (inl (h′, inr (f, e))) = absurd (f a)
+shorter-unique (inl (h, inr (f, e))) (inl (h′, inl (a, F))) = absurd (f a)
+shorter-unique (inl (h, inr (f, e))) (inl (h′, inr (f′, e′))) = e ∙ sym e′
+shorter-unique (inl (h, g)) (inr (f, e)) = absurd (f h)
+shorter-unique (inr (f, e)) (inl (h, g)) = absurd (f h)
+shorter-unique (inr (f, e)) (inr (f′, e′)) = e ∙ sym e′

@@ -11,22 +11,22 @@ use lib.Seq.{getD-set-same, getD-set-other}
 use borrow.Author.Tests.{lt-ltb, le-ltb}
 use Rattle.theory.proofs.Partition.{ForcedBy, merged, merged-hit, merged-miss, forced-merge, forced-ext}
 use Rattle.merging.specs.Inner.Classes.{at}
-use Rattle.pairs.specs.Inner.Pairs.{pairLeft, pairRight, Added, Joined, Member, classOf, roots, Connected, pair, itself, back, onward, Table, table, Merging, Later, Meets}
+use Rattle.pairs.specs.Inner.Pairs.{pairLeft, pairRight, Added, Joined, Member, classOf, roots, Connected, pair, itself, back, onward, Table, table, Merging, Later, JoinsStates}
 
 -- ---- a pair is listed
 module _ (P : List ℕ) (count q a m c x y : ℕ) (room : 6 * count + 6 ≤ length P) where
   abbrev written : List ℕ
-  written = set (set (set (set (set (set P (6 * count) x) (6 * count + 1) y) (6 * count + 2) q) (6 * count + 3) a) (6 * count + 4) m) (6 * count + 5) c
+  written = set (set (set (set (set (set P (6 * count + 0) x) (6 * count + 1) y) (6 * count + 2) q) (6 * count + 3) a) (6 * count + 4) m) (6 * count + 5) c
 
   pub added : Added P written count q a m c x y
   added =
       let b = 6 * count in
-      let A = set P b x in
+      let A = set P (b + 0) x in
       let B = set A (b + 1) y in
       let C = set B (b + 2) q in
       let D = set C (b + 3) a in
       let F = set D (b + 4) m in
-      let la = length-set P b x in
+      let la = length-set P (b + 0) x in
       let lb = length-set A (b + 1) y in
       let lc = length-set B (b + 2) q in
       let ld = length-set C (b + 3) a in
@@ -38,9 +38,9 @@ module _ (P : List ℕ) (count q a m c x y : ℕ) (room : 6 * count + 6 ≤ leng
       let from-a : (k : ℕ) → k < b + 1 → getD written k 0 ≡ getD A k 0 = λ k h. from-b k (omega arith) ∙ getD-set-other A (b + 1) k y 0 (omega arith) in
       record {
         long = length-set F (b + 5) c ∙ lf ∙ ld ∙ lc ∙ lb ∙ la;
-        keeps = λ k h. from-a k (omega arith) ∙ getD-set-other P b k x 0 (omega arith);
+        keeps = λ k h. from-a k (omega arith) ∙ getD-set-other P (b + 0) k x 0 (omega arith);
         entry = record {
-          left = from-a b (omega arith) ∙ getD-set-same P b x 0 (omega arith);
+          left = from-a (b + 0) (omega arith) ∙ getD-set-same P (b + 0) x 0 (omega arith);
           right = from-b (b + 1) (omega arith) ∙ getD-set-same A (b + 1) y 0 (omega arith);
           parent = from-c (b + 2) (omega arith) ∙ getD-set-same B (b + 2) q 0 (omega arith);
           symbol = from-d (b + 3) (omega arith) ∙ getD-set-same C (b + 3) a 0 (omega arith);
@@ -176,7 +176,7 @@ module _ {C D C′ D′ : List ℕ} {c d : ℕ} (few : length C ≤ 128) (J : Jo
 -- ---- connected states
 -- pairs stay where the list keeps them
 pub connected-more : {P P′ : List ℕ} {count count′ : ℕ} {s t : ℕ} → count ≤ count′ → ((k : ℕ) → k < 6 * count → getD P′ k 0 ≡ getD P k 0) → Connected P count s t → Connected P′ count′ s t
-connected-more {P} {P′} {count} {count′} g k (pair p h) = rw (← k (6 * p) (omega arith), ← k (6 * p + 1) (omega arith)) (pair p (omega arith))
+connected-more {P} {P′} {count} {count′} g k (pair p h) = rw (← k (6 * p + 0) (omega arith), ← k (6 * p + 1) (omega arith)) (pair p (omega arith))
 connected-more g k (itself s) = itself s
 connected-more g k (back x) = back (connected-more g k x)
 connected-more g k (onward x y) = onward (connected-more g k x) (connected-more g k y)
@@ -284,17 +284,17 @@ module _ {C D P : List ℕ} {count : ℕ} (M : Merging (table C D P count)) {x y
         (λ z. J .miss r (λ w. z) ∙ e ∙ sym (J′ .miss s (λ w f. z (e ∙ f))))
 
     -- they come into one class, and are the new pair
-    pub meets-new : Meets (table C D P count) (table C′ D′ P′ (count + 1)) q a m c x y
-    meets-new = record {
+    pub joins-new : JoinsStates (table C D P count) (table C′ D′ P′ (count + 1)) q a m c x y
+    joins-new = record {
       merging = after-merging;
-      later = record { same-left = J .long; same-right = J′ .long; same-list = A .long; grows = omega arith; keeps = A .keeps; coarser = still-together };
+      later = record { same-left = J .long; same-right = J′ .long; same-list = A .long; longer = omega arith; keeps = A .keeps; coarser = still-together };
       together = J .hit x hx refl ∙ sym (J′ .miss y (λ w f. new (sym f)));
       listed = λ p h g. let z : p ≡ count = omega arith in rw z (A .entry);
     }
 
 pub later-self : (T : Table) → Later T T
-later-self T = record { same-left = refl; same-right = refl; same-list = refl; grows = omega arith; keeps = λ k h. refl; coarser = λ x y h g e. e }
+later-self T = record { same-left = refl; same-right = refl; same-list = refl; longer = omega arith; keeps = λ k h. refl; coarser = λ x y h g e. e }
 
 -- nothing changes if they are in one class
-pub meets-old : {T : Table} → Merging T → {q a m c x y : ℕ} → at (T .left) x ≡ at (T .right) y → Meets T T q a m c x y
-meets-old {T} M e = record { merging = M; later = later-self T; together = e; listed = λ p h g. absurd (omega arith) }
+pub joins-old : {T : Table} → Merging T → {q a m c x y : ℕ} → at (T .left) x ≡ at (T .right) y → JoinsStates T T q a m c x y
+joins-old {T} M e = record { merging = M; later = later-self T; together = e; listed = λ p h g. absurd (omega arith) }

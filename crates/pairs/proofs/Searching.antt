@@ -23,7 +23,7 @@ use Rattle.formats.proofs.Pairs.{number-less}
 use Rattle.prefixes.specs.Alphabet.{alphabet, children-inside}
 use Rattle.prefixes.specs.Inner.Heads.{Layout, machine}
 use Rattle.merging.specs.Inner.Classes.{at}
-use Rattle.pairs.specs.Inner.Pairs.{Sides, Forms, PartsAt, InStep, pairLeft, pairRight, pairParent, pairSymbol, Entry, leftBody, rightBody, Linked, Table, table, Merging, Later, Meets, Meetable, Listed, MeetsAll, Searching, Goes, Alike, Walkable, Walks, WalksPair, WalksAll, Searches, Connected, pair, itself, back, onward}
+use Rattle.pairs.specs.Inner.Pairs.{Sides, Forms, FirstClash, InStep, pairLeft, pairRight, pairParent, pairSymbol, Entry, bodyOf, leftBody, rightBody, Linked, Table, table, Merging, Later, JoinsStates, Joinable, Listed, JoinsMarks, Searching, Goes, Alike, Walkable, Walks, WalksPair, WalksAll, Searches, Connected, pair, itself, back, onward}
 use Rattle.pairs.specs.declared.pairs.Walked.{Walked}
 use Rattle.pairs.specs.declared.pairs.Stage.{Stage}
 use Rattle.pairs.specs.declared.pairs.Verdict.{Verdict}
@@ -39,15 +39,15 @@ later-then L M = record {
   same-left = M .same-left ∙ L .same-left;
   same-right = M .same-right ∙ L .same-right;
   same-list = M .same-list ∙ L .same-list;
-  grows = omega (arith, L .grows, M .grows);
-  keeps = λ k h. M .keeps k (omega (arith, L .grows)) ∙ L .keeps k h;
+  longer = omega (arith, L .longer, M .longer);
+  keeps = λ k h. M .keeps k (omega (arith, L .longer)) ∙ L .keeps k h;
   coarser = λ x y h g e. M .coarser x y (omega (arith, L .same-left)) (omega (arith, L .same-right)) (L .coarser x y h g e);
 }
 
 -- a pair stays what it is
 entry-kept : {T T′ : Table} → Later T T′ → {p q a m c x y : ℕ} → p < T .count → Entry (T .list) p q a m c x y → Entry (T′ .list) p q a m c x y
 entry-kept L {p = p} h E = record {
-  left = L .keeps (6 * p) (omega arith) ∙ E .left;
+  left = L .keeps (6 * p + 0) (omega arith) ∙ E .left;
   right = L .keeps (6 * p + 1) (omega arith) ∙ E .right;
   parent = L .keeps (6 * p + 2) (omega arith) ∙ E .parent;
   symbol = L .keeps (6 * p + 3) (omega arith) ∙ E .symbol;
@@ -56,17 +56,17 @@ entry-kept L {p = p} h E = record {
 }
 
 -- ---- the marks of two bodies in step
-pub meets-none : {T : Table} {bytes bytes′ : List ℕ} {i j q a : ℕ} → Merging T → MeetsAll T T bytes bytes′ i j 0 q a
-meets-none {T} M = record { merging = M; later = later-self T; together = λ k h. absurd (omega arith); listed = λ p h g. absurd (omega arith) }
+pub joins-none : {T : Table} {bytes bytes′ : List ℕ} {i j q a : ℕ} → Merging T → JoinsMarks T T bytes bytes′ i j 0 q a
+joins-none {T} M = record { merging = M; later = later-self T; together = λ k h. absurd (omega arith); listed = λ p h g. absurd (omega arith) }
 
 module _ {T₀ T : Table} {bytes bytes′ : List ℕ} {i j : ℕ} where
-  module _ {k q a : ℕ} (A : MeetsAll T₀ T bytes bytes′ i j k q a) where
+  module _ {k q a : ℕ} (A : JoinsMarks T₀ T bytes bytes′ i j k q a) where
     more-listed : {p : ℕ} → Listed (T .list) p q a bytes bytes′ i j k → Listed (T .list) p q a bytes bytes′ i j (k + 1)
     more-listed E = record { mark = E .mark; small = omega (arith, E .small); call = E .call; entry = E .entry }
 
     -- a symbol
-    pub meets-symbol : (0 < getD bytes (2 * (i + k)) 0 → ⊥) → MeetsAll T₀ T bytes bytes′ i j (k + 1) q a
-    meets-symbol n = record {
+    pub joins-symbol : (0 < getD bytes (2 * (i + k)) 0 → ⊥) → JoinsMarks T₀ T bytes bytes′ i j (k + 1) q a
+    joins-symbol n = record {
       merging = A .merging;
       later = A .later;
       together = below-more (λ k. 0 < getD bytes (2 * (i + k)) 0 → at (T .left) (getD bytes (2 * (i + k) + 1) 0) ≡ at (T .right) (getD bytes′ (2 * (j + k) + 1) 0)) k (A .together) (λ h. absurd (n h));
@@ -74,8 +74,8 @@ module _ {T₀ T : Table} {bytes bytes′ : List ℕ} {i j : ℕ} where
     }
 
     -- two calls
-    pub meets-call : {n : ℕ} → Meetable T₀ bytes bytes′ i j n → k < n → {T′ : Table} → 0 < getD bytes (2 * (i + k)) 0 → Meets T T′ q a k (getD bytes (2 * (i + k)) 0) (getD bytes (2 * (i + k) + 1) 0) (getD bytes′ (2 * (j + k) + 1) 0) → MeetsAll T₀ T′ bytes bytes′ i j (k + 1) q a
-    meets-call W l {T′} o E = record {
+    pub joins-call : {n : ℕ} → Joinable T₀ bytes bytes′ i j n → k < n → {T′ : Table} → 0 < getD bytes (2 * (i + k)) 0 → JoinsStates T T′ q a k (getD bytes (2 * (i + k)) 0) (getD bytes (2 * (i + k) + 1) 0) (getD bytes′ (2 * (j + k) + 1) 0) → JoinsMarks T₀ T′ bytes bytes′ i j (k + 1) q a
+    joins-call W l {T′} o E = record {
       merging = E .merging;
       later = later-then (A .later) (E .later);
       together = below-more (λ k. 0 < getD bytes (2 * (i + k)) 0 → at (T′ .left) (getD bytes (2 * (i + k) + 1) 0) ≡ at (T′ .right) (getD bytes′ (2 * (j + k) + 1) 0)) k
@@ -87,7 +87,7 @@ module _ {T₀ T : Table} {bytes bytes′ : List ℕ} {i j : ℕ} where
     }
 
     -- the states called have classes still
-    pub call-there : {n : ℕ} → Meetable T₀ bytes bytes′ i j n → k < n → 0 < getD bytes (2 * (i + k)) 0 → (getD bytes (2 * (i + k) + 1) 0 < length (T .left)) × (getD bytes′ (2 * (j + k) + 1) 0 < length (T .right))
+    pub call-there : {n : ℕ} → Joinable T₀ bytes bytes′ i j n → k < n → 0 < getD bytes (2 * (i + k)) 0 → (getD bytes (2 * (i + k) + 1) 0 < length (T .left)) × (getD bytes′ (2 * (j + k) + 1) 0 < length (T .right))
     call-there W l o = let w = W .there k l o in (omega (arith, w .0, A .later .same-left), omega (arith, w .1, A .later .same-right))
 
 -- ---- the bodies of a parent
@@ -113,7 +113,7 @@ pub record Bodies (S : Sides) (outs : List ℕ) (n n′ r j j′ : ℕ) : Type 0
 
 module _ {S : Sides} {T : Table} (F : Searching S T) where
   pub parent-bodies : (q a : ℕ) → q ≤ T .count → (0 < q → a < length (S .ins)) → (r : ℕ) × Bodies S (F .forms .outs) (length (T .left)) (length (T .right)) r (leftBody (S .ins) (T .list) q a) (rightBody (S .ins) (T .list) q a)
-  unfolding leftBody rightBody
+  unfolding bodyOf
   parent-bodies ℕ.zero a h g = (1, record { there = omega arith; there′ = omega arith; left = initial-spelt (F .forms .left); right = initial-spelt (F .forms .right) })
   parent-bodies (suc p) a h g =
       let L = F .linked p (omega arith) in
@@ -129,19 +129,14 @@ module _ {S : Sides} {T : Table} (F : Searching S T) where
 
 -- ---- the list stays linked
 module _ {T T′ : Table} (L : Later T T′) where
-  pub left-kept : (ins : List ℕ) (q a : ℕ) → q ≤ T .count → leftBody ins (T′ .list) q a ≡ leftBody ins (T .list) q a
-  unfolding leftBody
-  left-kept ins ℕ.zero a h = refl
-  left-kept ins (suc p) a h = ap (λ x. bodyNumber ins x a) (L .keeps (6 * p) (omega arith))
-
-  pub right-kept : (ins : List ℕ) (q a : ℕ) → q ≤ T .count → rightBody ins (T′ .list) q a ≡ rightBody ins (T .list) q a
-  unfolding rightBody
-  right-kept ins ℕ.zero a h = refl
-  right-kept ins (suc p) a h = ap (λ x. bodyNumber ins x a) (L .keeps (6 * p + 1) (omega arith))
+  pub body-kept : (ins : List ℕ) (side q a : ℕ) → side ≤ 5 → q ≤ T .count → bodyOf ins (T′ .list) side q a ≡ bodyOf ins (T .list) side q a
+  unfolding bodyOf
+  body-kept ins side ℕ.zero a i h = refl
+  body-kept ins side (suc p) a i h = ap (λ x. bodyNumber ins x a) (L .keeps (6 * p + side) (omega arith))
 
   linked-kept : {S : Sides} {n n′ p : ℕ} → p < T .count → Linked S n n′ (T .list) p → Linked S n n′ (T′ .list) p
   linked-kept {S} {n} {n′} {p} h K =
-      let e = L .keeps (6 * p) (omega arith) in
+      let e = L .keeps (6 * p + 0) (omega arith) in
       let f = L .keeps (6 * p + 1) (omega arith) in
       let q = L .keeps (6 * p + 2) (omega arith) in
       let a = L .keeps (6 * p + 3) (omega arith) in
@@ -153,7 +148,7 @@ module _ {T T′ : Table} (L : Later T T′) where
         right = rw f (K .right);
         parent = rw q (K .parent);
         symbol = rw (q, a) (K .symbol);
-        calls = rw (q, a, m, c, e, f, left-kept (S .ins) (pairParent (T .list) p) (pairSymbol (T .list) p) i, right-kept (S .ins) (pairParent (T .list) p) (pairSymbol (T .list) p) i) (K .calls);
+        calls = rw (q, a, m, c, e, f, body-kept (S .ins) 0 (pairParent (T .list) p) (pairSymbol (T .list) p) (omega arith) i, body-kept (S .ins) 1 (pairParent (T .list) p) (pairSymbol (T .list) p) (omega arith) i) (K .calls);
       }
 
 -- ---- a walk along two bodies
@@ -180,7 +175,7 @@ module _ {S : Sides} {T : Table} {q a j j′ : ℕ} (W : Walkable S T q a j j′
   pub walk-inside : (2 * at (S .starts) (j + 1) ≤ length (S .bytes)) × (2 * at (S .starts′) (j′ + 1) ≤ length (S .bytes′))
   walk-inside = (walk-bodies .1 .left .inside, walk-bodies .1 .right .inside)
 
-  module _ {n m : ℕ} (e : n ≡ min (at (S .starts) (j + 1) - at (S .starts) j) (at (S .starts′) (j′ + 1) - at (S .starts′) j′)) (B : PartsAt (S .bytes) (S .bytes′) (at (S .starts) j) (at (S .starts′) j′) n m) where
+  module _ {n m : ℕ} (e : n ≡ min (at (S .starts) (j + 1) - at (S .starts) j) (at (S .starts′) (j′ + 1) - at (S .starts′) j′)) (B : FirstClash (S .bytes) (S .bytes′) (at (S .starts) j) (at (S .starts′) j′) n m) where
     -- they clash
     pub walk-clash : m < n → Walks S T (T .left) (T .right) (T .list) j j′ (walked.Clash m)
     walk-clash h = record {
@@ -200,9 +195,9 @@ module _ {S : Sides} {T : Table} {q a j j′ : ℕ} (W : Walkable S T q a j j′
       step-on : (k : ℕ) → k < n → InStep (S .bytes) (S .bytes′) (at (S .starts) j + k) (at (S .starts′) j′ + k)
       step-on k h = B .step k (omega arith)
 
-      -- they go in step: their calls can meet
-      pub walk-meetable : Meetable T (S .bytes) (S .bytes′) (at (S .starts) j) (at (S .starts′) j′) n
-      walk-meetable = record {
+      -- they go in step: the states that they call can be joined
+      pub walk-joinable : Joinable T (S .bytes) (S .bytes′) (at (S .starts) j) (at (S .starts′) j′) n
+      walk-joinable = record {
         merging = W .searching .merging;
         inside = omega (arith, walk-inside .0, walk-ordered .0);
         inside′ = omega (arith, walk-inside .1, walk-ordered .1);
@@ -214,7 +209,7 @@ module _ {S : Sides} {T : Table} {q a j j′ : ℕ} (W : Walkable S T q a j j′
       sizes : at (S .starts) (j + 1) - at (S .starts) j ≡ at (S .starts′) (j′ + 1) - at (S .starts′) j′
       sizes = same-size (walk-bodies .1 .left) (walk-bodies .1 .right) (λ k h g. step-on k (omega arith))
 
-      module _ {C D P : List ℕ} {r : ℕ} (A : MeetsAll T (table C D P r) (S .bytes) (S .bytes′) (at (S .starts) j) (at (S .starts′) j′) n q a) where
+      module _ {C D P : List ℕ} {r : ℕ} (A : JoinsMarks T (table C D P r) (S .bytes) (S .bytes′) (at (S .starts) j) (at (S .starts′) j′) n q a) where
         -- a new pair is linked
         new-linked : (p : ℕ) → T .count ≤ p → p < r → Linked S lefts rights P p
         new-linked p h g =
@@ -223,14 +218,14 @@ module _ {S : Sides} {T : Table} {q a j j′ : ℕ} (W : Walkable S T q a j j′
             let o = E .call in
             let k = E .small in
             let s = step-on (E .mark) k in
-            let t = walk-meetable .there (E .mark) k o in
+            let t = walk-joinable .there (E .mark) k o in
             let i = W .parent in
             record {
               left = rw (F .left) (t .0);
               right = rw (F .right) (t .1);
               parent = omega (arith, F .parent);
               symbol = rw (F .parent, F .symbol) (W .known);
-              calls = rw (F .parent, F .symbol, F .mark, F .child, F .left, F .right, left-kept (A .later) (S .ins) q a i, right-kept (A .later) (S .ins) q a i, W .left, W .right) (record {
+              calls = rw (F .parent, F .symbol, F .mark, F .child, F .left, F .right, body-kept (A .later) (S .ins) 0 q a (omega arith) i, body-kept (A .later) (S .ins) 1 q a (omega arith) i, W .left, W .right) (record {
                 agree = record { inside = omega (arith, walk-ordered .0); inside′ = omega (arith, walk-ordered .1); step = λ x y. step-on x (omega arith) };
                 left = record { from-one = o; child = refl; state = refl };
                 right = record { from-one = o; child = sym (s .first); state = refl };
@@ -276,8 +271,8 @@ abbrev pub AlikeAt : Sides → Table → ℕ → ℕ → Type 0
 AlikeAt S T p a = Alike S T (bodyNumber (S .ins) (pairLeft (T .list) p) a) (bodyNumber (S .ins) (pairRight (T .list) p) a)
 
 alike-at-later : {S : Sides} {T T′ : Table} → Searching S T → Later T T′ → (p a : ℕ) → p < T .count → a < length (S .ins) → AlikeAt S T p a → AlikeAt S T′ p a
-unfolding leftBody rightBody
-alike-at-later F L p a h g A = rw (L .keeps (6 * p) (omega arith), L .keeps (6 * p + 1) (omega arith)) (alike-later (parent-bodies F (suc p) a (omega arith) (λ o. g) .1) L A)
+unfolding bodyOf
+alike-at-later F L p a h g A = rw (L .keeps (6 * p + 0) (omega arith), L .keeps (6 * p + 1) (omega arith)) (alike-later (parent-bodies F (suc p) a (omega arith) (λ o. g) .1) L A)
 
 -- the symbols below a are done
 pub record PairLoop (S : Sides) (T₀ T : Table) (p a : ℕ) : Type 0 where
@@ -293,10 +288,10 @@ pair-start p F = record { small = omega arith; goes = goes-self F; alike = λ b 
 
 module _ {S : Sides} {T₀ T : Table} {p a : ℕ} (L : PairLoop S T₀ T p a) (h : p < T₀ .count) where
   pub pair-kept : {x y : ℕ} → x ≡ pairLeft (T₀ .list) p → y ≡ pairRight (T₀ .list) p → (pairLeft (T .list) p ≡ x) × (pairRight (T .list) p ≡ y)
-  pair-kept e f = (L .goes .later .keeps (6 * p) (omega arith) ∙ sym e, L .goes .later .keeps (6 * p + 1) (omega arith) ∙ sym f)
+  pair-kept e f = (L .goes .later .keeps (6 * p + 0) (omega arith) ∙ sym e, L .goes .later .keeps (6 * p + 1) (omega arith) ∙ sym f)
 
   pair-inside : p < T .count
-  pair-inside = omega (arith, L .goes .later .grows)
+  pair-inside = omega (arith, L .goes .later .longer)
 
   -- their numbers are those of bodies
   pub pair-bodies : a < length (S .ins) → {x y : ℕ} → x ≡ pairLeft (T₀ .list) p → y ≡ pairRight (T₀ .list) p → (bodyNumber (S .ins) x a < bodyCount (S .ins) (length (T .left))) × (bodyNumber (S .ins) y a < bodyCount (S .ins) (length (T .right)))
@@ -306,7 +301,7 @@ module _ {S : Sides} {T₀ T : Table} {p a : ℕ} (L : PairLoop S T₀ T p a) (h
       (number-less (S .ins) _ _ a (rw (k .0) at (K .left)) g, number-less (S .ins) _ _ a (rw (k .1) at (K .right)) g)
 
   pub pair-walkable : a < length (S .ins) → {x y : ℕ} → x ≡ pairLeft (T₀ .list) p → y ≡ pairRight (T₀ .list) p → Walkable S T (p + 1) a (bodyNumber (S .ins) x a) (bodyNumber (S .ins) y a)
-  unfolding leftBody rightBody
+  unfolding bodyOf
   pair-walkable g e f =
       let k = pair-kept e f in
       record {
@@ -320,7 +315,7 @@ module _ {S : Sides} {T₀ T : Table} {p a : ℕ} (L : PairLoop S T₀ T p a) (h
 
   module _ {C D P : List ℕ} {x y : ℕ} (e : x ≡ pairLeft (T₀ .list) p) (f : y ≡ pairRight (T₀ .list) p) (g : a < length (S .ins)) {w : Walked} (K : Walks S T C D P (bodyNumber (S .ins) x a) (bodyNumber (S .ins) y a) w) where
     after-kept : {r : ℕ} → Goes S T (table C D P r) → (pairLeft P p ≡ x) × (pairRight P p ≡ y)
-    after-kept G = let k = pair-kept e f in (G .later .keeps (6 * p) (omega (arith, pair-inside)) ∙ k .0, G .later .keeps (6 * p + 1) (omega (arith, pair-inside)) ∙ k .1)
+    after-kept G = let k = pair-kept e f in (G .later .keeps (6 * p + 0) (omega (arith, pair-inside)) ∙ k .0, G .later .keeps (6 * p + 1) (omega (arith, pair-inside)) ∙ k .1)
 
     pub pair-next : (r : ℕ) → w ≡ walked.Count r → PairLoop S T₀ (table C D P r) p (a + 1)
     pair-next r z =
@@ -365,13 +360,13 @@ module _ {S : Sides} {T₀ T : Table} {p : ℕ} (L : AllLoop S T₀ T p) (h : p 
   all-next r z =
       let k = K .alike r z in
       record {
-        done = omega (arith, k .0 .later .grows);
+        done = omega (arith, k .0 .later .longer);
         goes = goes-then (L .goes) (k .0);
         alike = below-more (λ o. (a : ℕ) → a < length (S .ins) → AlikeAt S (table C D P r) o a) p (λ o i a g. alike-at-later (L .goes .searching) (k .0 .later) o a (omega arith) g (L .alike o i a g)) (k .1);
       }
 
   pub all-clash : (a m : ℕ) → w ≡ stage.Clash a m → WalksAll S T₀ C D P (verdict.Clash (p + 1) a m)
-  unfolding leftBody rightBody
+  unfolding bodyOf
   all-clash a m z =
       let k = K .clash a m z in
       let G = k .1 in
@@ -385,7 +380,7 @@ module _ {S : Sides} {T₀ T : Table} {p : ℕ} (L : AllLoop S T₀ T p) (h : p 
               count = k .0;
               few = G .searching .merging .few;
               linked = G .searching .linked;
-              parent = omega (arith, G .later .grows);
+              parent = omega (arith, G .later .longer);
               known = λ u. k .2;
               clash = rw (add-one p) (k .3);
             });
@@ -470,7 +465,7 @@ module _ {S : Sides} {T : Table} (F : Searching S T) where
 -- ---- the search
 -- it starts with each state in a class of its own
 pub search-start : {S : Sides} {C D P : List ℕ} → Forms S (length C) (length D) → 1536 ≤ length P → ((x : ℕ) → x < length C → at C x ≡ x) → ((y : ℕ) → y < length D → at D y ≡ 128 + y) → Walkable S (table C D P 0) 0 0 0 0
-unfolding leftBody rightBody
+unfolding bodyOf
 search-start {C = C} {D} {P} F room own own′ = record {
   searching = record { forms = F; merging = merging-start C D P (F .left .few-states) (F .right .few-states) room own own′; linked = λ p h. absurd (omega arith) };
   parent = omega arith;
@@ -483,7 +478,7 @@ search-start {C = C} {D} {P} F room own own′ = record {
 module _ {S : Sides} {T : Table} {C D P : List ℕ} {w : Walked} (K : Walks S T C D P 0 0 w) {n n′ : ℕ} where
   -- the initial terms clash
   pub search-clash : length C ≡ n → length D ≡ n′ → (m : ℕ) → w ≡ walked.Clash m → Searches S n n′ P (verdict.Clash 0 0 m)
-  unfolding leftBody rightBody
+  unfolding bodyOf
   search-clash e f m z =
       let k = K .clash m z in
       let G = k .0 in
@@ -505,7 +500,7 @@ module _ {S : Sides} {T : Table} {C D P : List ℕ} {w : Walked} (K : Walks S T 
 
   -- the listed pairs are walked
   pub search-end : (r : ℕ) → w ≡ walked.Count r → {C′ D′ P′ : List ℕ} {v : Verdict} → WalksAll S (table C D P r) C′ D′ P′ v → length C′ ≡ n → length D′ ≡ n′ → Searches S n n′ P′ v
-  unfolding leftBody rightBody
+  unfolding bodyOf
   search-end r z {C′} {D′} {P′} A e f =
       let k = K .alike r z in
       record {

@@ -3,9 +3,24 @@
 ghost use Prim.Native.Nat.{ℕ, _+_, _*_, _≤_, _<_, min};
 ghost use mathlib.Core.Path.{_≡_};
 ghost use lib.ListN.{length, getD};
-ghost use Rattle.pairs.specs.Inner.Pairs.{sides, table, Forms, PartsAt, Joined, Added, Merging, Meets, Meetable, MeetsAll, Searching, Walkable, Walks, WalksPair, WalksAll, Searches};
+ghost use Rattle.pairs.specs.Inner.Pairs.{sides, table, pairByte, Forms, FirstClash, Joined, Added, Merging, JoinsStates, Joinable, JoinsMarks, Searching, Walkable, Walks, WalksPair, WalksAll, Searches};
 use formats::bytes::number;
 use formats::bytes::wide;
+
+// A pair in the list has six bytes: its two states, its parent, the symbol and the mark at which it was found, and the child called there.
+pub const PAIR: usize = 6;
+
+pub const LEFT: usize = 0;
+
+pub const RIGHT: usize = 1;
+
+pub const PARENT: usize = 2;
+
+pub const SYMBOL: usize = 3;
+
+pub const MARK: usize = 4;
+
+pub const CHILD: usize = 5;
 
 // What a walk along two bodies finds: how many pairs are listed then, or the mark at which they clash.
 pub enum Walked {
@@ -70,16 +85,24 @@ fn add_pair(
     requires { ⌜ (count ≤ 255) × (1536 ≤ length (now pairs)) × (parent < 256) × (a < 256) × (m < 256) ⌝ }
     ensures { λ _. ⌜ Added (now (pairs .entry)) (now (pairs .exit)) count parent a m child left right ⌝ }
 {
-    pairs[6 * count] = left;
-    pairs[6 * count + 1] = right;
-    pairs[6 * count + 2] = parent as u8;
-    pairs[6 * count + 3] = a as u8;
-    pairs[6 * count + 4] = m as u8;
-    pairs[6 * count + 5] = child;
+    pairs[PAIR * count + LEFT] = left;
+    pairs[PAIR * count + RIGHT] = right;
+    pairs[PAIR * count + PARENT] = parent as u8;
+    pairs[PAIR * count + SYMBOL] = a as u8;
+    pairs[PAIR * count + MARK] = m as u8;
+    pairs[PAIR * count + CHILD] = child;
+}
+
+// Byte k of pair p.
+pub fn pair_byte(pairs: &[u8; 1536], p: usize, k: usize) -> usize
+    requires { ⌜ (p < 256) × (k < 6) ⌝ }
+    ensures { λ r. ⌜ r ≡ pairByte (now (pairs .entry)) k p ⌝ }
+{
+    wide(pairs[PAIR * p + k])
 }
 
 // Joins the classes of x and y, if they are two, and lists the pair.
-fn meet(
+fn join_states(
     classes1: &mut [u8],
     classes2: &mut [u8],
     pairs: &mut [u8; 1536],
@@ -92,7 +115,7 @@ fn meet(
     y: u8,
 ) -> usize
     requires { ⌜ Merging (table (now classes1) (now classes2) (now pairs) count) × (x < length (now classes1)) × (y < length (now classes2)) × (parent < 256) × (a < 256) × (m < 256) ⌝ }
-    ensures { λ r. ⌜ Meets (table (now (classes1 .entry)) (now (classes2 .entry)) (now (pairs .entry)) count) (table (now (classes1 .exit)) (now (classes2 .exit)) (now (pairs .exit)) r) parent a m child x y ⌝ }
+    ensures { λ r. ⌜ JoinsStates (table (now (classes1 .entry)) (now (classes2 .entry)) (now (pairs .entry)) count) (table (now (classes1 .exit)) (now (classes2 .exit)) (now (pairs .exit)) r) parent a m child x y ⌝ }
 {
     let c = classes1[wide(x)];
     let d = classes2[wide(y)];
@@ -106,9 +129,9 @@ fn meet(
 }
 
 // The first of n marks, from number i of the first and from number j of the second on, at which the two clash; n if there is none.
-fn part_at(marks1: &[u8], i: usize, marks2: &[u8], j: usize, n: usize) -> usize
+fn first_clash(marks1: &[u8], i: usize, marks2: &[u8], j: usize, n: usize) -> usize
     requires { ⌜ (2 * (i + n) ≤ length (now marks1)) × (2 * (j + n) ≤ length (now marks2)) ⌝ }
-    ensures { λ r. ⌜ PartsAt (now (marks1 .entry)) (now (marks2 .entry)) i j n r ⌝ }
+    ensures { λ r. ⌜ FirstClash (now (marks1 .entry)) (now (marks2 .entry)) i j n r ⌝ }
 {
     let mut k = 0;
     while k < n {
@@ -127,7 +150,7 @@ fn part_at(marks1: &[u8], i: usize, marks2: &[u8], j: usize, n: usize) -> usize
 }
 
 // Joins the states that are called at the same of n marks that go in step.
-fn meet_marks(
+fn join_marks(
     marks1: &[u8],
     i: usize,
     marks2: &[u8],
@@ -140,8 +163,8 @@ fn meet_marks(
     parent: usize,
     a: usize,
 ) -> usize
-    requires { ⌜ Meetable (table (now classes1) (now classes2) (now pairs) count) (now marks1) (now marks2) i j n × (parent < 256) × (a < 256) ⌝ }
-    ensures { λ r. ⌜ MeetsAll (table (now (classes1 .entry)) (now (classes2 .entry)) (now (pairs .entry)) count) (table (now (classes1 .exit)) (now (classes2 .exit)) (now (pairs .exit)) r) (now (marks1 .entry)) (now (marks2 .entry)) i j n parent a ⌝ }
+    requires { ⌜ Joinable (table (now classes1) (now classes2) (now pairs) count) (now marks1) (now marks2) i j n × (parent < 256) × (a < 256) ⌝ }
+    ensures { λ r. ⌜ JoinsMarks (table (now (classes1 .entry)) (now (classes2 .entry)) (now (pairs .entry)) count) (table (now (classes1 .exit)) (now (classes2 .exit)) (now (pairs .exit)) r) (now (marks1 .entry)) (now (marks2 .entry)) i j n parent a ⌝ }
 {
     let mut r = count;
     let mut k = 0;
@@ -150,7 +173,7 @@ fn meet_marks(
         if c > 0 {
             let x = marks1[2 * (i + k) + 1];
             let y = marks2[2 * (j + k) + 1];
-            r = meet(classes1, classes2, pairs, r, parent, a, k, c, x, y);
+            r = join_states(classes1, classes2, pairs, r, parent, a, k, c, x, y);
         }
         k += 1;
     }
@@ -182,11 +205,11 @@ fn walk_pair(
         number(starts1[i + 1]) - from,
         number(starts2[j + 1]) - other,
     );
-    let m = part_at(marks1, from, marks2, other, n);
+    let m = first_clash(marks1, from, marks2, other, n);
     if m < n {
         return Walked::Clash(m);
     }
-    let r = meet_marks(
+    let r = join_marks(
         marks1,
         from,
         marks2,
@@ -218,8 +241,8 @@ fn walk_symbols(
     requires { ⌜ Searching (sides (now ins) (now starts1) (now marks1) (now starts2) (now marks2)) (table (now classes1) (now classes2) (now pairs) count) × (p < count) ⌝ }
     ensures { λ w. ⌜ WalksPair (sides (now (ins .entry)) (now (starts1 .entry)) (now (marks1 .entry)) (now (starts2 .entry)) (now (marks2 .entry))) (table (now (classes1 .entry)) (now (classes2 .entry)) (now (pairs .entry)) count) (now (classes1 .exit)) (now (classes2 .exit)) (now (pairs .exit)) p w ⌝ }
 {
-    let x = wide(pairs[6 * p]);
-    let y = wide(pairs[6 * p + 1]);
+    let x = wide(pairs[PAIR * p + LEFT]);
+    let y = wide(pairs[PAIR * p + RIGHT]);
     let mut n = count;
     let mut a = 0;
     while a < ins.len() {

@@ -33,9 +33,9 @@ use Rattle.formats.proofs.Pairs.{number-less, pairs-at}
 use Rattle.prefixes.specs.Alphabet.{alphabet}
 use Rattle.prefixes.specs.Inner.Heads.{machine, Layout}
 use Rattle.prefixes.proofs.Settling.{machine-wf}
-use Rattle.witness.specs.Inner.Bottoms.{Bodied, Facing, FallFound, Faces, BottomFound, neither-falls, second-falls, first-falls}
+use Rattle.witness.specs.Inner.Bottoms.{Bodied, RootOnLeafAsked, PathFromFound, RootOnLeaf, BottomFound, no-path, second-path, first-path}
 use Rattle.witness.specs.Inner.Other.{firstMark}
-use Rattle.pairs.specs.Inner.Pairs.{leftBody, rightBody}
+use Rattle.pairs.specs.Inner.Pairs.{pairByte, bodyOf}
 use Rattle.witness.specs.Inner.Shown.{stepsTree}
 use Rattle.witness.proofs.Firsts.{First, first-symbol, first-call, first-mark, mark-fits}
 use Rattle.pairs.proofs.Stepping.{Begin, Root, root-call}
@@ -106,19 +106,19 @@ module _ {ins outs starts bytes : List ℕ} {n : ℕ} (L : Layout ins outs start
   abbrev M : Transducer ℕ
   M = machine ins outs starts bytes n
 
-  -- where a fall leads
-  pub record FallShown (q b : ℕ) (d : Tree) (x : ℕ) : Type 0 where
+  -- where such a path leads
+  pub record PathShown (q b : ℕ) (d : Tree) (x : ℕ) : Type 0 where
     pub shown : symbol (output M d q) ≡ (x, getD outs x 0)
     pub other : x ≢ b
     pub allowed : Allowed G 0 d
     pub small : Small d
 
-  pub fall-shown : {q b : ℕ} {steps : List ℕ} {count x : ℕ} → q < n → FallFound ins starts bytes q b steps count x → FallShown q b (stepsTree ins l (part steps 0 count)) x
+  pub path-shown : {q b : ℕ} {steps : List ℕ} {count x : ℕ} → q < n → PathFromFound ins starts bytes q b steps count x → PathShown q b (stepsTree ins l (part steps 0 count)) x
   unfolding transducer
-  fall-shown h F =
-      let T = F .falling .fall outs l n L h in
-      let O = falls-other (machine-wf l (L .wholes)) h (T .falls) in
-      record { shown = T .shown; other = F .falling .other; allowed = O .allowed; small = (O .thin, omega (arith, falls-levels (T .falls), F .falling .few)) }
+  path-shown h F =
+      let T = F .path .leads outs l n L h in
+      let O = falls-other (machine-wf l (L .wholes)) h (T .path) in
+      record { shown = T .shown; other = F .path .other; allowed = O .allowed; small = (O .thin, omega (arith, falls-levels (T .path), F .path .few)) }
 
   leaf-by : (x : ℕ) {r : ℕ} {t : Term (ℕ × ℕ)} {m : Mark} → r ≡ 0 → M .rhs x (l .symbol) ≡ t → First outs n r t m → symbol (output M (leafOf G 0) x) ≡ (m .1, getD outs (m .1) 0)
   unfolding leafOf alphabet bind symbol
@@ -142,7 +142,7 @@ module _ {ins outs starts bytes starts′ bytes′ : List ℕ} {n n′ : ℕ} (L
   Ends e e′ P P′ = Ended (Begin e e′) outs P (Fits K (λ q. q < n) sorts) P′ (Fits K′ (λ q. q < n′) sorts)
 
   -- child d at the spot, among leaves, shows two symbols
-  pub record Shines (spot : ℕ) (d : Tree) (b b′ : ℕ) (t u : Term (ℕ × ℕ)) : Type 0 where
+  pub record Separates (spot : ℕ) (d : Tree) (b b′ : ℕ) (t u : Term (ℕ × ℕ)) : Type 0 where
     pub roots : RootsAre outs b b′ (fill K (put (alphabet ins l) sorts spot d) t) (fill K′ (put (alphabet ins l) sorts spot d) u)
     pub unlike : b ≢ b′
     pub small : Small d
@@ -151,9 +151,9 @@ module _ {ins outs starts bytes starts′ bytes′ : List ℕ} {n n′ : ℕ} (L
 
   module _ {e : ℕ} (leaf : l .symbol ≡ e) (c x c′ x′ : ℕ) {P P′ : ℕ × ℕ → Type 0} {t u : Term (ℕ × ℕ)} (E : Ends (c, x) (c′, x′) P P′ t u) where
     -- two symbols
-    shine-neither : c ≡ 0 → c′ ≡ 0 → x ≢ x′ → Shines 0 (leafOf (alphabet ins l) 0) x x′ t u
+    separates-neither : c ≡ 0 → c′ ≡ 0 → x ≢ x′ → Separates 0 (leafOf (alphabet ins l) 0) x x′ t u
     unfolding leafOf levels put
-    shine-neither z z′ o = record {
+    separates-neither z z′ o = record {
       roots = record { left = node-symbol outs P _ t (E .holds .0) (E .ranked) z; right = node-symbol outs P′ _ u (E .holds .1) (E .ranked′) z′ };
       unlike = o;
       small = (leaf-slim (alphabet ins l) (leafOf (alphabet ins l) 0) 0, omega arith);
@@ -162,9 +162,9 @@ module _ {ins outs starts bytes starts′ bytes′ : List ℕ} {n n′ : ℕ} (L
     }
 
     -- a symbol and a call
-    shine-second : {d : Tree} {b′ : ℕ} → c ≡ 0 → 0 < c′ → (x′ < n′ → FallShown L′ l x′ x d b′) → Shines c′ d x b′ t u
+    separates-second : {d : Tree} {b′ : ℕ} → c ≡ 0 → 0 < c′ → (x′ < n′ → PathShown L′ l x′ x d b′) → Separates c′ d x b′ t u
     unfolding transducer
-    shine-second {d} z h F =
+    separates-second {d} z h F =
         let g = call-fits (alphabet ins l) K′ sorts d c′ x′ u (E .holds .1) h (E .vars′) in
         let D = F (g .valid) in
         record {
@@ -176,9 +176,9 @@ module _ {ins outs starts bytes starts′ bytes′ : List ℕ} {n n′ : ℕ} (L
         }
 
     -- the second term, if the child of the first is no child of its own
-    face-shown : (d : Tree) {b′ : ℕ} → Faces ins starts′ bytes′ e c′ x′ b′ → (0 < c′ → c ≢ c′) → symbol (fill K′ (put (alphabet ins l) sorts c d) u) ≡ (b′, getD outs b′ 0)
+    leaf-root-shown : (d : Tree) {b′ : ℕ} → RootOnLeaf ins starts′ bytes′ e c′ x′ b′ → (0 < c′ → c ≢ c′) → symbol (fill K′ (put (alphabet ins l) sorts c d) u) ≡ (b′, getD outs b′ 0)
     unfolding transducer
-    face-shown d {b′} F o = by-cases (ℕ-discrete c′ 0)
+    leaf-root-shown d {b′} F o = by-cases (ℕ-discrete c′ 0)
         (λ z. node-symbol outs P′ _ u (E .holds .1) (E .ranked′) z ∙ ap (λ b. (b, getD outs b 0)) (sym (F .symbol z)))
         (λ z.
         let h : 0 < c′ = omega arith in
@@ -186,70 +186,60 @@ module _ {ins outs starts bytes starts′ bytes′ : List ℕ} {n n′ : ℕ} (L
         ap symbol (call-else (alphabet ins l) K′ sorts d c′ x′ u (E .holds .1) h (E .vars′) c (o h)) ∙ leaf-shown L′ l (g .valid) leaf ∙ ap (λ b. (b, getD outs b 0)) (sym (F .call h)))
 
     -- a call
-    shine-first : {d : Tree} {b b′ : ℕ} → 0 < c → (0 < c′ → c ≢ c′) → Faces ins starts′ bytes′ e c′ x′ b′ → (x < n → FallShown L l x b′ d b) → Shines c d b b′ t u
+    separates-first : {d : Tree} {b b′ : ℕ} → 0 < c → (0 < c′ → c ≢ c′) → RootOnLeaf ins starts′ bytes′ e c′ x′ b′ → (x < n → PathShown L l x b′ d b) → Separates c d b b′ t u
     unfolding transducer
-    shine-first {d} h o A F =
+    separates-first {d} h o A F =
         let g = call-fits (alphabet ins l) K sorts d c x t (E .holds .0) h (E .vars) in
         let D = F (g .valid) in
         record {
-          roots = record { left = ap symbol (call-there (alphabet ins l) K sorts d c x t (E .holds .0) h (E .vars)) ∙ D .shown; right = face-shown d A o };
+          roots = record { left = ap symbol (call-there (alphabet ins l) K sorts d c x t (E .holds .0) h (E .vars)) ∙ D .shown; right = leaf-root-shown d A o };
           unlike = D .other;
           small = D .small;
           allowed = put-allowed (alphabet ins l) sorts c (g .sort) (D .allowed);
           alone = λ y. put-alone (alphabet ins l) d 0 c (rw y at (g .sort));
         }
 
-    pub shines : {steps : List ℕ} {child count b b′ : ℕ} → (c ≡ 0 → c′ ≡ 0 → x ≢ x′) → (0 < c → 0 < c′ → c ≢ c′) → BottomFound ins starts bytes starts′ bytes′ e c x c′ x′ steps child count b b′ → Shines child (stepsTree ins l (part steps 0 count)) b b′ t u
+    pub separates : {steps : List ℕ} {child count b b′ : ℕ} → (c ≡ 0 → c′ ≡ 0 → x ≢ x′) → (0 < c → 0 < c′ → c ≢ c′) → BottomFound ins starts bytes starts′ bytes′ e c x c′ x′ steps child count b b′ → Separates child (stepsTree ins l (part steps 0 count)) b b′ t u
     unfolding stepsTree
-    shines o p (neither-falls z z′) = shine-neither z z′ (o z z′)
-    shines o p (second-falls z h F) = shine-second z h (λ v. fall-shown L′ l v F)
-    shines o p (first-falls h A F) = shine-first h (p h) A (λ v. fall-shown L l v F)
+    separates o p (no-path z z′) = separates-neither z z′ (o z z′)
+    separates o p (second-path z h F) = separates-second z h (λ v. path-shown L′ l v F)
+    separates o p (first-path h A F) = separates-first h (p h) A (λ v. path-shown L l v F)
 
--- the fall is of at most 128 steps, and each step has a symbol and one of its children, or 0
+-- the path has at most 128 steps, and each step has a symbol and one of its children, or 0
 pub bottom-few : {ins starts bytes starts′ bytes′ : List ℕ} {e c x c′ x′ : ℕ} {steps : List ℕ} {child count b b′ : ℕ} → BottomFound ins starts bytes starts′ bytes′ e c x c′ x′ steps child count b b′ → count ≤ 128
-bottom-few (neither-falls z z′) = omega arith
-bottom-few (second-falls z h F) = F .falling .few
-bottom-few (first-falls h A F) = F .falling .few
+bottom-few (no-path z z′) = omega arith
+bottom-few (second-path z h F) = F .path .few
+bottom-few (first-path h A F) = F .path .few
 
 -- ---- the symbol that a call shows on a leaf
-module _ {ins starts bytes : List ℕ} {e c x : ℕ} (F : Facing ins starts bytes e c x) (h : 0 < c) where
-  pub face-number : bodyNumber ins x e < length starts
-  face-number = omega (arith, number-less ins x (F .states) e (F .state h) (F .leaf), F .layout .laid .long)
+module _ {ins starts bytes : List ℕ} {e c x : ℕ} (F : RootOnLeafAsked ins starts bytes e c x) (h : 0 < c) where
+  pub leaf-body-number : bodyNumber ins x e < length starts
+  leaf-body-number = omega (arith, number-less ins x (F .states) e (F .state h) (F .leaf), F .layout .laid .long)
 
-  pub face-mark : {at : ℕ} → at ≡ getD starts (bodyNumber ins x e) 0 → 2 * at + 1 < length bytes
-  face-mark f = omega (arith, mark-fits (F .layout) (F .state h) (F .leaf))
+  pub leaf-mark-inside : {at : ℕ} → at ≡ getD starts (bodyNumber ins x e) 0 → 2 * at + 1 < length bytes
+  leaf-mark-inside f = omega (arith, mark-fits (F .layout) (F .state h) (F .leaf))
 
-  pub face-shows : {at b : ℕ} → at ≡ getD starts (bodyNumber ins x e) 0 → b ≡ getD bytes (2 * at + 1) 0 → Faces ins starts bytes e c x b
-  face-shows f g = record {
+  pub leaf-root : {at b : ℕ} → at ≡ getD starts (bodyNumber ins x e) 0 → b ≡ getD bytes (2 * at + 1) 0 → RootOnLeaf ins starts bytes e c x b
+  leaf-root f g = record {
     symbol = λ z. absurd (omega arith);
     call = λ z. g ∙ ap (λ k. getD bytes (2 * k + 1) 0) f ∙ sym (ap (λ (m : Mark). m .1) (pairs-at bytes (getD starts (bodyNumber ins x e) 0) (mark-fits (F .layout) (F .state h) (F .leaf))));
   }
 
 -- ---- the number of a body
-module _ (ins P : List ℕ) (a : ℕ) where
-  pub left-top : (q : ℕ) → q ≡ 0 → 0 ≡ leftBody ins P q a
-  unfolding leftBody
-  left-top ℕ.zero e = refl
-  left-top (suc p) e = absurd (omega arith)
+module _ (ins P : List ℕ) (side a : ℕ) where
+  pub body-top : (q : ℕ) → q ≡ 0 → 0 ≡ bodyOf ins P side q a
+  unfolding bodyOf
+  body-top ℕ.zero e = refl
+  body-top (suc p) e = absurd (omega arith)
 
-  pub left-pair : (q : ℕ) → q ≢ 0 → {x : ℕ} → x ≡ getD P (6 * (q - 1)) 0 → bodyNumber ins x a ≡ leftBody ins P q a
-  unfolding leftBody
-  left-pair ℕ.zero o f = absurd (o refl)
-  left-pair (suc p) o f = let z : suc p - 1 ≡ p = omega arith in ap (λ x. bodyNumber ins x a) (f ∙ ap (λ k. getD P (6 * k) 0) z)
-
-  pub right-top : (q : ℕ) → q ≡ 0 → 0 ≡ rightBody ins P q a
-  unfolding rightBody
-  right-top ℕ.zero e = refl
-  right-top (suc p) e = absurd (omega arith)
-
-  pub right-pair : (q : ℕ) → q ≢ 0 → {x : ℕ} → x ≡ getD P (6 * (q - 1) + 1) 0 → bodyNumber ins x a ≡ rightBody ins P q a
-  unfolding rightBody
-  right-pair ℕ.zero o f = absurd (o refl)
-  right-pair (suc p) o f = let z : suc p - 1 ≡ p = omega arith in ap (λ x. bodyNumber ins x a) (f ∙ ap (λ k. getD P (6 * k + 1) 0) z)
+  pub body-pair : (q : ℕ) → q ≢ 0 → {x : ℕ} → x ≡ pairByte P side (q - 1) → bodyNumber ins x a ≡ bodyOf ins P side q a
+  unfolding bodyOf
+  body-pair ℕ.zero o f = absurd (o refl)
+  body-pair (suc p) o f = let z : suc p - 1 ≡ p = omega arith in ap (λ x. bodyNumber ins x a) (f ∙ ap (λ k. pairByte P side k) z)
 
   -- it is small
-  pub number-small : {q x s : ℕ} → Bodied ins q a s → q ≢ 0 → x ≡ s → bodyNumber ins x a ≤ 2064
-  number-small {q} {x} B o e =
+  pub body-small : {q x s : ℕ} → Bodied ins q a s → q ≢ 0 → x ≡ s → bodyNumber ins x a ≤ 2064
+  body-small {q} {x} B o e =
       let i = B .known (omega arith) in
       let u : x ≤ 127 = omega (arith, B .state (omega arith)) in
       let r : x * length ins ≤ 127 * 16 = mul-le-mul u (B .few-inputs) in

@@ -21,7 +21,7 @@ use Rattle.formats.specs.Inner.Layout.{bodyNumber}
 use Rattle.formats.proofs.Pairs.{pairs-at}
 use Rattle.transducer.specs.Linear.{oneIf}
 use Rattle.prefixes.proofs.Settling.{number-fits, machine-wf}
-use Rattle.witness.specs.Inner.Other.{otherDistance, callDistance, markDistance, firstMark, stepDistance, Founded, NoneAt, Finished, missing, Searched, SearchedAt, FindsDistance, Settable, NewDistance, SetsDistance, Sweepable, SweepsDistances, Fillable, FillsDistances, FindsStep, PutsStep}
+use Rattle.witness.specs.Inner.Other.{otherDistance, callDistance, markDistance, firstMark, stepDistance, Founded, NoneAt, Finished, missing, DistanceTable, DistanceTableAt, FindsDistance, Settable, NewDistance, SetsDistance, Sweepable, SweepsDistances, Fillable, FillsDistances, FindsStep, PutsStep}
 use Rattle.witness.proofs.Firsts.{First, Seen, seen-root, seen-call, seen, first-symbol, first-call, mark-fits, first-mark, founded-sound, finished-complete}
 
 -- ---- the distance of one right-hand side
@@ -44,7 +44,7 @@ called-state : {outs : List ℕ} {n r : ℕ} {m : Mark} {t : _} → First outs n
 called-state (first-symbol h e) o = absurd (o refl)
 called-state (first-call c) o = (c .child, c .state)
 
-module _ {ins starts bytes dist : List ℕ} {q a : ℕ} (S : SearchedAt ins starts bytes dist q) (there : a < length ins) where
+module _ {ins starts bytes dist : List ℕ} {q a : ℕ} (S : DistanceTableAt ins starts bytes dist q) (there : a < length ins) where
   -- the number of the right-hand side is in the table of starts
   pub number-there : (bodyNumber ins q a < 2049) × (bodyNumber ins q a + 1 < length starts)
   number-there = number-fits (S .table .layout) (S .state) there
@@ -202,7 +202,7 @@ pub sweep-start : {ins starts bytes : List ℕ} {n b : ℕ} {dist : List ℕ} �
 sweep-start F = record { inside = omega arith; same-length = refl; founded = F; fewer = λ z. conflict (cc); same = λ z. refl; passed = λ z p h. absurd (omega arith) }
 
 -- a table of distances of the same length
-pub longer : {ins starts bytes : List ℕ} {n : ℕ} {dist₀ dist : List ℕ} → Searched ins starts bytes n dist₀ → length dist ≡ length dist₀ → Searched ins starts bytes n dist
+pub longer : {ins starts bytes : List ℕ} {n : ℕ} {dist₀ dist : List ℕ} → DistanceTable ins starts bytes n dist₀ → length dist ≡ length dist₀ → DistanceTable ins starts bytes n dist
 longer S e = record { outs = S .outs; layout = S .layout; leaf = S .leaf; long = omega (arith, S .long) }
 
 module _ {ins starts bytes : List ℕ} {n b : ℕ} {dist₀ : List ℕ} (S : Sweepable ins starts bytes n b dist₀)

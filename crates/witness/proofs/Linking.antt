@@ -19,8 +19,8 @@ use Rattle.formats.specs.Inner.Layout.{body, transducer}
 use Rattle.prefixes.specs.Alphabet.{alphabet, children-of}
 use Rattle.prefixes.specs.Inner.Heads.{machine, Layout}
 use Rattle.merging.specs.Inner.Classes.{at}
-use Rattle.pairs.specs.Inner.Pairs.{Sides, Agree, CallAt, ClashesAt, pairLeft, pairRight, pairParent, pairSymbol, pairMark, pairChild, leftBody, rightBody, Linked}
-use Rattle.witness.specs.Inner.Paths.{leftTerm, rightTerm, sortsFor, pairPlace, treeFor, Path, path-end, path-on}
+use Rattle.pairs.specs.Inner.Pairs.{Sides, Agree, CallAt, ClashesAt, pairLeft, pairRight, pairParent, pairSymbol, pairMark, pairChild, bodyOf, leftBody, rightBody, Linked}
+use Rattle.witness.specs.Inner.Paths.{termOf, leftTerm, rightTerm, sortsFor, pairPlace, treeFor, Path, path-end, path-on}
 use Rattle.earliest.specs.Inner.Places.{place}
 use Rattle.pairs.proofs.Searching.{initial-spelt, rhs-spelt}
 use Rattle.pairs.proofs.Stepping.{Begin, byteMark, along-map, spelt-along, spelt-child, begin-calls, begin-differ}
@@ -38,7 +38,7 @@ module _ (S : Sides) (n n′ : ℕ) (outs : List ℕ) (l : Leaf (S .ins)) (L : L
   -- ---- the terms of a parent
   -- in step up to mark m, they are alike along its address
   pub agree-along : (q a m : ℕ) → q ≤ count → (0 < q → a < length (S .ins)) → Agree S (leftBody (S .ins) P q a) (rightBody (S .ins) P q a) m → Along (Begin (byteMark (S .bytes) (at (S .starts) (leftBody (S .ins) P q a) + m)) (byteMark (S .bytes′) (at (S .starts′) (rightBody (S .ins) P q a) + m))) (leftTerm M P q a) (rightTerm M′ P q a) (place (leftTerm M P q a) m)
-  unfolding leftBody rightBody leftTerm rightTerm transducer body
+  unfolding bodyOf termOf transducer body
   agree-along ℕ.zero a m h g A = spelt-along (initial-spelt L) (initial-spelt L′) m (omega (arith, A .inside)) (omega (arith, A .inside′)) (A .step)
   agree-along (suc p) a m h g A =
       let K = linked p (omega arith) in
@@ -62,7 +62,7 @@ module _ (S : Sides) (n n′ : ℕ) (outs : List ℕ) (l : Leaf (S .ins)) (L : L
 
     -- in the initial terms it is the first
     pub top-child : pairParent P p ≡ 0 → pairChild P p ≡ 1
-    unfolding leftBody rightBody
+    unfolding bodyOf
     top-child e =
         let K = linked p h in
         let C = K .calls in
@@ -76,7 +76,7 @@ module _ (S : Sides) (n n′ : ℕ) (outs : List ℕ) (l : Leaf (S .ins)) (L : L
 
   -- ---- the way to a pair
   reach-by : (q p a : ℕ) {x y : ℕ} → ((o : ℕ) → q ≡ suc o → (r : Reach G M M′ (pairLeft P o) (pairRight P o)) × (far r ≤ suc o)) → q ≤ p → (0 < q → a < length (S .ins)) → (c : ℕ) (v : List ℕ) → Along (Are (var (c, x)) (var (c, y))) (leftTerm M P q a) (rightTerm M′ P q a) v → (r : Reach G M M′ x y) × (far r ≤ suc p)
-  unfolding leftTerm rightTerm far
+  unfolding termOf far
   reach-by ℕ.zero p a f h g c v m = (reach-initial v c m, omega arith)
   reach-by (suc o) p a f h g c v m =
       let i = g (omega arith) in
@@ -102,13 +102,13 @@ module _ (S : Sides) (n n′ : ℕ) (outs : List ℕ) (l : Leaf (S .ins)) (L : L
 
     -- a clash that is shown is such a chain
     pub shown-holds : (q a : ℕ) → (0 < q → a < length (S .ins)) → {v : List ℕ} (s : Shown G M M′ Small (sortsFor (S .ins) q a) (leftTerm M P q a) (rightTerm M′ P q a) v) → (q ≡ 0 → only-child (put G (0 ∷ []) (s .spot) (s .tree)) ≡ s .tree) → Holds q (treeFor G (S .ins) q a (s .spot) (s .tree)) v (s .tree) 0
-    unfolding leftTerm rightTerm sortsFor treeFor chain-address chain-core chain-spot chain-trees chain-last chain-steps witness
+    unfolding termOf sortsFor treeFor chain-address chain-core chain-spot chain-trees chain-last chain-steps witness
     shown-holds ℕ.zero a g {v} s one = subst (λ d. Holds 0 d v (s .tree) 0) (one refl) (at-top (stop v s))
     shown-holds (suc p) a g {v} s one = at-pair p a (replicate (getD (S .ins) a 0) 0) (symbol-children (pairLeft P p) a (g (omega arith))) (stop v s)
 
     -- one step up
     holds-by : (q p b : ℕ) → (0 < q → b < length (S .ins)) → (i : ℕ) → (q ≡ 0 → i ≡ 1) → (v : List ℕ) → Along (Are (var (i, pairLeft P p)) (var (i, pairRight P p))) (leftTerm M P q b) (rightTerm M′ P q b) v → {d last : Tree} {u : List ℕ} {k : ℕ} → Holds (suc p) d u last k → Holds q (treeFor G (S .ins) q b i d) (v ++ u) last (suc k)
-    unfolding leftTerm rightTerm treeFor chain-address chain-core chain-spot chain-trees chain-last chain-steps witness only-child put
+    unfolding termOf treeFor chain-address chain-core chain-spot chain-trees chain-last chain-steps witness only-child put
     holds-by ℕ.zero p b g i one v m (at-pair z a sorts e c) = subst (λ j. Holds 0 (only-child (put G (0 ∷ []) j (node a (chain-trees c)))) (v ++ chain-address c) (chain-last c) (suc (chain-steps c))) (one refl) (at-top (go-on v i (pairLeft P p) (pairRight P p) a sorts m e c))
     holds-by (suc o) p b g i one v m (at-pair z a sorts e c) = at-pair o b (replicate (getD (S .ins) b 0) 0) (symbol-children (pairLeft P o) b (g (omega arith))) (go-on v i (pairLeft P p) (pairRight P p) a sorts m e c)
 

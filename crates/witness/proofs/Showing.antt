@@ -36,37 +36,40 @@ use Rattle.earliest.specs.Inner.Places.{place}
 use Rattle.merging.specs.Inner.Classes.{at}
 use Rattle.canonical.proofs.Alike.{allowed-ranked}
 use Rattle.witness.specs.Difference.{addressArea, Difference}
-use Rattle.witness.specs.Inner.Bottoms.{Bodied, BottomFound, RootAsked, RootFound, Stands, Leading, Roomy, LeftBelow, LedTo, Rises, Traces}
-use Rattle.pairs.specs.Inner.Pairs.{Sides, sides, ClashesAt, Clashes, pairLeft, pairRight, pairParent, pairSymbol, pairMark, pairChild, leftBody, rightBody, Linked}
-use Rattle.witness.specs.Inner.Paths.{leftTerm, rightTerm, sortsFor, pairPlace, treeFor, Path, path-end, path-on}
-use Rattle.witness.specs.Inner.Shown.{stepsTree, Climbable, EndsBefore, Climbed}
+use Rattle.witness.specs.Inner.Bottoms.{Bodied, BottomFound, RootAsked, RootFound, Stands, Leading, Roomy, StatesBelow, LedTo, TracesBack, Traces}
+use Rattle.pairs.specs.Inner.Pairs.{Sides, sides, ClashesAt, Clashes, pairByte, pairLeft, pairRight, pairParent, pairSymbol, pairMark, pairChild, leftBody, rightBody, Linked}
+use Rattle.witness.specs.Inner.Paths.{termOf, leftTerm, rightTerm, sortsFor, pairPlace, treeFor, Path, path-end, path-on}
+use Rattle.witness.specs.Inner.Shown.{stepsTree, AddressAsked, EndsBefore, AddressWritten}
 use Rattle.witness.specs.Inner.Forms.{Comparable, Shows}
-use Rattle.witness.proofs.Bottoms.{RootsAre, Small, along-ended, Ends, Shines, shines}
+use Rattle.witness.proofs.Bottoms.{RootsAre, Small, along-ended, Ends, Separates, separates}
 use Rattle.witness.proofs.Firsts.{allowed-here}
 use Rattle.witness.proofs.Linking.{agree-along, pair-along, top-child, Holds, shown-holds, path-witnessed}
-use Rattle.witness.proofs.Rising.{BodyThere, body-start, mark-small, mark-inside, mark-state, mark-child, LeftThere, left-there, right-there, left-climbable, left-address, ends-before}
+use Rattle.witness.proofs.WayBack.{body-start, mark-small, mark-inside, mark-state, mark-child, SideThere, side-there, left-address-asked, left-address, ends-before}
 use Rattle.pairs.proofs.Stepping.{byteMark, symbols-differ, children-differ}
 
--- what parent q gives on d: the translation, or the output of a state of a pair
-unfoldable pub leftOut : Transducer ℕ → List ℕ → ℕ → Tree → Tree
-leftOut M P ℕ.zero d = translate M d
-leftOut M P (suc p) d = output M d (pairLeft P p)
-
-unfoldable pub rightOut : Transducer ℕ → List ℕ → ℕ → Tree → Tree
-rightOut M P ℕ.zero d = translate M d
-rightOut M P (suc p) d = output M d (pairRight P p)
+-- what parent q gives on d, on one side: the translation, or the output of a state of a pair
+unfoldable pub outOf : Transducer ℕ → List ℕ → ℕ → ℕ → Tree → Tree
+outOf M P side ℕ.zero d = translate M d
+outOf M P side (suc p) d = output M d (pairByte P side p)
 
 -- ---- what parent q gives on the tree that it reads is its term, filled
 module _ {G : Grammar} {M : Transducer ℕ} {Valid : ℕ → Type 0} (W : Wf G M Valid) (ins P : List ℕ) where
-  left-fill : (q a c : ℕ) (d : Tree) → (q ≡ 0 → put G (0 ∷ []) c d ≡ more d none) → leftOut M P q (treeFor G ins q a c d) ≡ fill M (put G (sortsFor ins q a) c d) (leftTerm M P q a)
-  unfolding leftOut treeFor sortsFor leftTerm
-  left-fill ℕ.zero a c d alone = translate-fill M W d ∙ ap (λ ds. fill M ds (M .initial)) (sym (alone refl))
-  left-fill (suc p) a c d alone = output-node M (pairLeft P p) a _
+  out-fill : (side q a c : ℕ) (d : Tree) → (q ≡ 0 → put G (0 ∷ []) c d ≡ more d none) → outOf M P side q (treeFor G ins q a c d) ≡ fill M (put G (sortsFor ins q a) c d) (termOf M P side q a)
+  unfolding outOf treeFor sortsFor termOf
+  out-fill side ℕ.zero a c d alone = translate-fill M W d ∙ ap (λ ds. fill M ds (M .initial)) (sym (alone refl))
+  out-fill side (suc p) a c d alone = output-node M (pairByte P side p) a _
 
-  right-fill : (q a c : ℕ) (d : Tree) → (q ≡ 0 → put G (0 ∷ []) c d ≡ more d none) → rightOut M P q (treeFor G ins q a c d) ≡ fill M (put G (sortsFor ins q a) c d) (rightTerm M P q a)
-  unfolding rightOut treeFor sortsFor rightTerm
-  right-fill ℕ.zero a c d alone = translate-fill M W d ∙ ap (λ ds. fill M ds (M .initial)) (sym (alone refl))
-  right-fill (suc p) a c d alone = output-node M (pairRight P p) a _
+-- ---- the terms of a parent call on children of its sorts, and are ranked
+module _ {ins outs starts bytes : List ℕ} {n : ℕ} (L : Layout ins outs starts bytes n) (P : List ℕ) where
+  term-vars : (l : Leaf ins) (side q a : ℕ) → StatesBelow P side q n → (0 < q → a < length ins) → AllVars (Fits (machine ins outs starts bytes n) (λ x. x < n) (sortsFor ins q a)) (termOf (machine ins outs starts bytes n) P side q a)
+  unfolding termOf sortsFor
+  term-vars l side ℕ.zero a b g = machine-wf l (L .wholes) .initial
+  term-vars l side (suc p) a b g = machine-wf l (L .wholes) .rhs (pairByte P side p) a (b p (omega arith)) (allowed-here L l (pairByte P side p) (g (omega arith)))
+
+  term-ranked : (side q a : ℕ) → StatesBelow P side q n → (0 < q → a < length ins) → (r : ℕ) × Ranked (Call n r) outs (termOf (machine ins outs starts bytes n) P side q a)
+  unfolding termOf
+  term-ranked side ℕ.zero a b g = (1, transducer-over ins outs n (at starts) bytes (L .wholes) .initial)
+  term-ranked side (suc p) a b g = (getD ins a 0, transducer-over ins outs n (at starts) bytes (L .wholes) .rhs (pairByte P side p) a (b p (omega arith)) (g (omega arith)))
 
 -- symbols have at most four children
 children-few : {ins : List ℕ} → Ranks 16 ins → (l : Leaf ins) (s a : ℕ) (sorts : List ℕ) → alphabet ins l .children s a ≡ some sorts → length sorts ≤ 4
@@ -101,46 +104,31 @@ module _ (S : Sides) (n n′ : ℕ) (outs : List ℕ) (l : Leaf (S .ins)) (L : L
   wf′ : Wf G M′ (λ q. q < n′)
   wf′ = machine-wf l (L′ .wholes)
 
-  -- ---- the terms of a parent call on children of its sorts, and are ranked
-  left-vars : (q a : ℕ) → q ≤ count → (0 < q → a < length (S .ins)) → AllVars (Fits M (λ x. x < n) (sortsFor (S .ins) q a)) (leftTerm M P q a)
-  unfolding leftTerm sortsFor
-  left-vars ℕ.zero a h g = wf .initial
-  left-vars (suc p) a h g = wf .rhs (pairLeft P p) a (linked p (omega arith) .left) (allowed-here L l (pairLeft P p) (g (omega arith)))
+  lefts-below : (q : ℕ) → q ≤ count → StatesBelow P 0 q n
+  lefts-below q h p i = linked p (omega arith) .left
 
-  right-vars : (q a : ℕ) → q ≤ count → (0 < q → a < length (S .ins)) → AllVars (Fits M′ (λ x. x < n′) (sortsFor (S .ins) q a)) (rightTerm M′ P q a)
-  unfolding rightTerm sortsFor
-  right-vars ℕ.zero a h g = wf′ .initial
-  right-vars (suc p) a h g = wf′ .rhs (pairRight P p) a (linked p (omega arith) .right) (allowed-here L′ l (pairRight P p) (g (omega arith)))
-
-  left-ranked : (q a : ℕ) → q ≤ count → (0 < q → a < length (S .ins)) → (r : ℕ) × Ranked (Call n r) outs (leftTerm M P q a)
-  unfolding leftTerm
-  left-ranked ℕ.zero a h g = (1, transducer-over (S .ins) outs n (at (S .starts)) (S .bytes) (L .wholes) .initial)
-  left-ranked (suc p) a h g = (getD (S .ins) a 0, transducer-over (S .ins) outs n (at (S .starts)) (S .bytes) (L .wholes) .rhs (pairLeft P p) a (linked p (omega arith) .left) (g (omega arith)))
-
-  right-ranked : (q a : ℕ) → q ≤ count → (0 < q → a < length (S .ins)) → (r : ℕ) × Ranked (Call n′ r) outs (rightTerm M′ P q a)
-  unfolding rightTerm
-  right-ranked ℕ.zero a h g = (1, transducer-over (S .ins) outs n′ (at (S .starts′)) (S .bytes′) (L′ .wholes) .initial)
-  right-ranked (suc p) a h g = (getD (S .ins) a 0, transducer-over (S .ins) outs n′ (at (S .starts′)) (S .bytes′) (L′ .wholes) .rhs (pairRight P p) a (linked p (omega arith) .right) (g (omega arith)))
+  rights-below : (q : ℕ) → q ≤ count → StatesBelow P 1 q n′
+  rights-below q h p i = linked p (omega arith) .right
 
   -- ---- the symbols, from a pair up to the initial terms
   module _ (b b′ : ℕ) where
     -- parent q gives the two symbols on d at address v
     abbrev Gives : ℕ → Tree → List ℕ → Type 0
-    Gives q d v = Along (RootsAre outs b b′) (leftOut M P q d) (rightOut M′ P q d) v
+    Gives q d v = Along (RootsAre outs b b′) (outOf M P 0 q d) (outOf M′ P 1 q d) v
 
     gives-up : (p : ℕ) → p < count → (d : Tree) {v : List ℕ} → Gives (suc p) d v → Gives (pairParent P p) (treeFor G (S .ins) (pairParent P p) (pairSymbol P p) (pairChild P p) d) (pairPlace M P p ++ v)
-    unfolding bind put leftOut rightOut
+    unfolding bind put outOf
     gives-up p h d {v} w =
         let q = pairParent P p in
         let a = pairSymbol P p in
         let c = pairChild P p in
         let K = linked p h in
         let m = pair-along S n n′ outs l L L′ P count linked p h in
-        let e = along-end m (left-vars q a (omega (arith, K .parent)) (K .symbol)) (right-vars q a (omega (arith, K .parent)) (K .symbol)) in
+        let e = along-end m (term-vars L P l 0 q a (lefts-below q (omega (arith, K .parent))) (K .symbol)) (term-vars L′ P l 1 q a (rights-below q (omega (arith, K .parent))) (K .symbol)) in
         let f : Fits M (λ x. x < n) (sortsFor (S .ins) q a) (c, pairLeft P p) = all-one (rw (e .holds .0) at (e .left-vars)) in
         let f′ : Fits M′ (λ x. x < n′) (sortsFor (S .ins) q a) (c, pairRight P p) = all-one (rw (e .holds .1) at (e .right-vars)) in
         let alone : q ≡ 0 → put G (0 ∷ []) c d ≡ more d none = λ z. ap (λ i. put G (0 ∷ []) i d) (top-child S n n′ outs l L L′ P count linked p h z) in
-        rw (left-fill wf (S .ins) P q a c d alone, right-fill wf′ (S .ins) P q a c d alone)
+        rw (out-fill wf (S .ins) P 0 q a c d alone, out-fill wf′ (S .ins) P 1 q a c d alone)
         (along-bind _ _ (λ t u r. rw (r .0, r .1, call-put G d M (sortsFor (S .ins) q a) c (pairLeft P p) (f .sort), call-put G d M′ (sortsFor (S .ins) q a) c (pairRight P p) (f′ .sort)) w) m)
 
     path-gives : {q : ℕ} {d T : Tree} {v U : List ℕ} → Path G (S .ins) M P q d v T U → q ≤ count → Gives q d v → Gives 0 T U
@@ -149,6 +137,12 @@ module _ (S : Sides) (n n′ : ℕ) (outs : List ℕ) (l : Leaf (S .ins)) (L : L
 
   -- ---- the clash
   module _ (q a m : ℕ) (low : q ≤ count) (known : 0 < q → a < length (S .ins)) (C : ClashesAt S (leftBody (S .ins) P q a) (rightBody (S .ins) P q a) m) where
+    left-ranked : (r : ℕ) × Ranked (Call n r) outs (leftTerm M P q a)
+    left-ranked = term-ranked L P 0 q a (lefts-below q low) known
+
+    right-ranked : (r : ℕ) × Ranked (Call n′ r) outs (rightTerm M′ P q a)
+    right-ranked = term-ranked L′ P 1 q a (rights-below q low) known
+
     abbrev mark : ℕ × ℕ
     mark = byteMark (S .bytes) (at (S .starts) (leftBody (S .ins) P q a) + m)
 
@@ -158,34 +152,34 @@ module _ (S : Sides) (n n′ : ℕ) (outs : List ℕ) (l : Leaf (S .ins)) (L : L
     abbrev spot : List ℕ
     spot = place (leftTerm M P q a) m
 
-    clash-ended : Along (Ends L L′ l (sortsFor (S .ins) q a) mark mark′ (Call n (left-ranked q a low known .0)) (Call n′ (right-ranked q a low known .0))) (leftTerm M P q a) (rightTerm M′ P q a) spot
-    clash-ended = along-ended outs (agree-along S n n′ outs l L L′ P count linked q a m low known (C .agree)) (left-ranked q a low known .1) (right-ranked q a low known .1) (left-vars q a low known) (right-vars q a low known)
+    clash-ended : Along (Ends L L′ l (sortsFor (S .ins) q a) mark mark′ (Call n (left-ranked .0)) (Call n′ (right-ranked .0))) (leftTerm M P q a) (rightTerm M′ P q a) spot
+    clash-ended = along-ended outs (agree-along S n n′ outs l L L′ P count linked q a m low known (C .agree)) (left-ranked .1) (right-ranked .1) (term-vars L P l 0 q a (lefts-below q low) known) (term-vars L′ P l 1 q a (rights-below q low) known)
 
-    module _ {e : ℕ} (leaf : l .symbol ≡ e) {steps : List ℕ} {child falls b b′ : ℕ} (B : BottomFound (S .ins) (S .starts) (S .bytes) (S .starts′) (S .bytes′) e (mark .0) (mark .1) (mark′ .0) (mark′ .1) steps child falls b b′) where
+    module _ {e : ℕ} (leaf : l .symbol ≡ e) {steps : List ℕ} {child step-count b b′ : ℕ} (B : BottomFound (S .ins) (S .starts) (S .bytes) (S .starts′) (S .bytes′) e (mark .0) (mark .1) (mark′ .0) (mark′ .1) steps child step-count b b′) where
       abbrev below : Tree
-      below = stepsTree (S .ins) l (part steps 0 falls)
+      below = stepsTree (S .ins) l (part steps 0 step-count)
 
-      clash-shines : (t u : Term (ℕ × ℕ)) → Ends L L′ l (sortsFor (S .ins) q a) mark mark′ (Call n (left-ranked q a low known .0)) (Call n′ (right-ranked q a low known .0)) t u → Shines L L′ l (sortsFor (S .ins) q a) child below b b′ t u
-      clash-shines t u E = shines L L′ l (sortsFor (S .ins) q a) leaf (mark .0) (mark .1) (mark′ .0) (mark′ .1) E (λ z z′. symbols-differ (C .clash) (sym z) (sym z′)) (children-differ (C .clash)) B
+      clash-separates : (t u : Term (ℕ × ℕ)) → Ends L L′ l (sortsFor (S .ins) q a) mark mark′ (Call n (left-ranked .0)) (Call n′ (right-ranked .0)) t u → Separates L L′ l (sortsFor (S .ins) q a) child below b b′ t u
+      clash-separates t u E = separates L L′ l (sortsFor (S .ins) q a) leaf (mark .0) (mark .1) (mark′ .0) (mark′ .1) E (λ z z′. symbols-differ (C .clash) (sym z) (sym z′)) (children-differ (C .clash)) B
 
       clash-alone : q ≡ 0 → put G (0 ∷ []) child below ≡ more below none
-      clash-alone z = let x = along-sub clash-ended in clash-shines (x .left) (x .right) (x .holds) .alone (no-sorts (S .ins) q a z)
+      clash-alone z = let x = along-sub clash-ended in clash-separates (x .left) (x .right) (x .holds) .alone (no-sorts (S .ins) q a z)
 
       clash-gives : Gives b b′ q (treeFor G (S .ins) q a child below) spot
       clash-gives =
-          rw (left-fill wf (S .ins) P q a child below clash-alone, right-fill wf′ (S .ins) P q a child below clash-alone)
-          (subst (Along (RootsAre outs b b′) _ _) (append-nil spot) (along-bind _ _ (λ t u E. here (clash-shines t u E .roots)) clash-ended))
+          rw (out-fill wf (S .ins) P 0 q a child below clash-alone, out-fill wf′ (S .ins) P 1 q a child below clash-alone)
+          (subst (Along (RootsAre outs b b′) _ _) (append-nil spot) (along-bind _ _ (λ t u E. here (clash-separates t u E .roots)) clash-ended))
 
       clash-shown : Shown G M M′ Small (sortsFor (S .ins) q a) (leftTerm M P q a) (rightTerm M′ P q a) spot
       clash-shown =
           let x = along-sub clash-ended in
-          let s = clash-shines (x .left) (x .right) (x .holds) in
+          let s = clash-separates (x .left) (x .right) (x .holds) in
           record {
             spot = child;
             tree = below;
             small = s .small;
             allowed = s .allowed;
-            unlike = subst (Along _ _ _) (append-nil spot) (along-bind _ _ (λ t u E. let r = clash-shines t u E .roots in here (λ y. s .unlike (ap (λ (k : ℕ × ℕ). k .0) (sym (r .left) ∙ y ∙ r .right)))) clash-ended);
+            unlike = subst (Along _ _ _) (append-nil spot) (along-bind _ _ (λ t u E. let r = clash-separates t u E .roots in here (λ y. s .unlike (ap (λ (k : ℕ × ℕ). k .0) (sym (r .left) ∙ y ∙ r .right)))) clash-ended);
           }
 
       clash-holds : Holds S n n′ outs l L L′ P count linked Small q (treeFor G (S .ins) q a child below) spot below 0
@@ -194,12 +188,12 @@ module _ (S : Sides) (n n′ : ℕ) (outs : List ℕ) (l : Leaf (S .ins)) (L : L
 
       -- what shows the clash shows, where the list leads, a difference of the two transducers
       pub clash-difference : Ranks 16 (S .ins) → count ≤ 255 → {T : Tree} {U : List ℕ} → Path G (S .ins) M P q (treeFor G (S .ins) q a child below) spot T U → length U ≤ addressArea → Difference (S .ins) outs M M′ T U b b′
-      unfolding leftOut rightOut
+      unfolding outOf
       clash-difference R few {T} {U} r short =
           let W = path-witnessed S n n′ outs l L L′ P count linked Small r low clash-holds in
           let w = witness-differs wf wf′ (W .chain) in
           let x = along-sub clash-ended in
-          let s = clash-shines (x .left) (x .right) (x .holds) in
+          let s = clash-separates (x .left) (x .right) (x .holds) in
           let ok : Allowed G 0 T = rw (W .tree) at (w .0) in
           let flat : levels T ≤ 384 = omega (arith, ap levels (W .tree), ap levels (W .end), witness-levels (W .chain), W .steps, s .small .1) in
           let thin : Slim T = rw (W .tree) at (witness-slim (W .chain) (rw (W .end) (s .small .0))) in
@@ -216,17 +210,17 @@ module _ (S : Sides) (n n′ : ℕ) (outs : List ℕ) (l : Leaf (S .ins)) (L : L
 
 -- ---- what inner functions ask and answer, from a clash to a shown difference
 module _ {ins outs starts bytes : List ℕ} {n : ℕ} {starts′ bytes′ : List ℕ} {n′ : ℕ} (C : Comparable ins outs starts bytes n starts′ bytes′ n′) {P : List ℕ} {q a m : ℕ} (K : Clashes (sides ins starts bytes starts′ bytes′) n n′ P q a m) where
-  lefts : LeftBelow P q n
+  lefts : StatesBelow P 0 q n
   lefts p h = K .linked p (omega (arith, K .parent)) .left
 
-  rights : (p : ℕ) → p < q → pairRight P p < n′
+  rights : StatesBelow P 1 q n′
   rights p h = K .linked p (omega (arith, K .parent)) .right
 
-  left : LeftThere ins outs starts bytes n P q a
-  left = left-there (C .left) P q a lefts (K .known)
+  left : SideThere ins outs starts bytes n P 0 q a
+  left = side-there (C .left) P 0 q a lefts (K .known)
 
-  right : BodyThere ins outs starts′ bytes′ n′ q a (rightBody ins P q a)
-  right = right-there (C .right) P q a rights (K .known)
+  right : SideThere ins outs starts′ bytes′ n′ P 1 q a
+  right = side-there (C .right) P 1 q a rights (K .known)
 
   show-bodied : {x : ℕ} → (0 < q → x < 128) → Bodied ins q a x
   show-bodied h = record { long = omega (arith, K .parent, K .few); few-inputs = C .ins-ranks .few; known = K .known; state = h }
@@ -241,13 +235,13 @@ module _ {ins outs starts bytes : List ℕ} {n : ℕ} {starts′ bytes′ : List
   show-left = body-start (C .left) (left .body)
 
   pub show-right : rightBody ins P q a < length starts′
-  show-right = body-start (C .right) right
+  show-right = body-start (C .right) (right .body)
 
   small : m ≤ 63
   small = mark-small (C .left) (left .body) m (K .clash .agree .inside)
 
   pub show-fits : (2 * (at starts (leftBody ins P q a) + m) + 2 ≤ length bytes) × (2 * (at starts′ (rightBody ins P q a) + m) + 2 ≤ length bytes′)
-  show-fits = (mark-inside (C .left) (left .body) m (K .clash .agree .inside), mark-inside (C .right) right m (K .clash .agree .inside′))
+  show-fits = (mark-inside (C .left) (left .body) m (K .clash .agree .inside), mark-inside (C .right) (right .body) m (K .clash .agree .inside′))
 
   module _ {e : ℕ} (leaf : e < length ins) {i j : ℕ} (f : i ≡ at starts (leftBody ins P q a)) (g : j ≡ at starts′ (rightBody ins P q a)) where
     pub show-root : {buffer : List ℕ} → length buffer ≡ 3584 → RootAsked ins starts bytes n starts′ bytes′ n′ e (i + m) (j + m) q a buffer
@@ -260,21 +254,21 @@ module _ {ins outs starts bytes : List ℕ} {n : ℕ} {starts′ bytes′ : List
           inside = show-fits .0;
           inside′ = show-fits .1;
           state = mark-state (C .left) (left .body) m (A .inside);
-          state′ = mark-state (C .right) right m (A .inside′);
+          state′ = mark-state (C .right) (right .body) m (A .inside′);
           known = K .known;
           child = mark-child (C .left) (left .body) m (A .inside);
-          child′ = mark-child (C .right) right m (A .inside′);
+          child′ = mark-child (C .right) (right .body) m (A .inside′);
           room = room;
         })
 
-  pub show-climbable : {area : List ℕ} {i : ℕ} → i ≡ at starts (leftBody ins P q a) → length area ≡ 16128 → Climbable outs bytes i m area 16128
-  show-climbable {area} {i} f h = left-climbable (C .left) P q a m left (K .clash .agree .inside) area 16128 i f (C .outs-ranks) (omega (arith, small)) (omega arith)
+  pub show-address-asked : {area : List ℕ} {i : ℕ} → i ≡ at starts (leftBody ins P q a) → length area ≡ 16128 → AddressAsked outs bytes i m area 16128
+  show-address-asked {area} {i} f h = left-address-asked (C .left) P q a m left (K .clash .agree .inside) area 16128 i f (C .outs-ranks) (omega (arith, small)) (omega arith)
 
   stands : (p : ℕ) → p < q → Stands ins starts n P p
   stands p h =
       let R = K .linked p (omega (arith, K .parent)) in
       let A = R .calls in
-      let T = left-there (C .left) P (pairParent P p) (pairSymbol P p) (λ o t. lefts o (omega (arith, R .parent))) (R .symbol) in
+      let T = side-there (C .left) P 0 (pairParent P p) (pairSymbol P p) (λ o t. lefts o (omega (arith, R .parent))) (R .symbol) in
       record {
         left = R .left;
         parent = R .parent;
@@ -286,7 +280,7 @@ module _ {ins outs starts bytes : List ℕ} {n : ℕ} {starts′ bytes′ : List
   pub show-leading : {e : ℕ} → e < length ins → Leading ins outs starts bytes P e q
   show-leading leaf = record { states = n; layout = C .left; ins-ranks = C .ins-ranks; outs-ranks = C .outs-ranks; leaf = leaf; long = omega (arith, K .parent, K .few); stands = stands }
 
-  module _ {e i j : ℕ} {buffer : List ℕ} {lo hi b b′ : ℕ} (F : RootFound ins starts bytes starts′ bytes′ e (i + m) (j + m) q a buffer lo hi b b′) {area₀ area : List ℕ} {w : ℕ} (Z : Climbed outs bytes i m area₀ 16128 area w) (long : length buffer ≡ 3584) (long₀ : length area₀ ≡ 16128) (same : length area ≡ length area₀) (f : i ≡ at starts (leftBody ins P q a)) (g : j ≡ at starts′ (rightBody ins P q a)) where
+  module _ {e i j : ℕ} {buffer : List ℕ} {lo hi b b′ : ℕ} (F : RootFound ins starts bytes starts′ bytes′ e (i + m) (j + m) q a buffer lo hi b b′) {area₀ area : List ℕ} {w : ℕ} (Z : AddressWritten outs bytes i m area₀ 16128 area w) (long : length buffer ≡ 3584) (long₀ : length area₀ ≡ 16128) (same : length area ≡ length area₀) (f : i ≡ at starts (leftBody ins P q a)) (g : j ≡ at starts′ (rightBody ins P q a)) where
     ends : EndsBefore (place (leftTerm (machine ins outs starts bytes n) P q a) m) area₀ 16128 area w
     ends = left-address (C .left) P q a m left (K .clash .agree .inside) f Z
 
@@ -298,7 +292,7 @@ module _ {ins outs starts bytes : List ℕ} {n : ℕ} {starts′ bytes′ : List
     address-here = ends-before ends (omega arith) ∙ ap (_++_ (place (leftTerm (machine ins outs starts bytes n) P q a) m)) (drop-of-length-le area₀ {i = 16128} (omega arith)) ∙ append-nil _
 
     -- a difference, with its tree and its address in the bytes
-    module _ (leaf : e < length ins) (rank : getD ins e 0 ≡ 0) {buffer′ : List ℕ} {from to : ℕ} {area′ : List ℕ} {at′ : ℕ} (R : Rises ins outs starts bytes P e q buffer lo hi area w buffer′ from to area′ at′) (long′ : length buffer′ ≡ length buffer) (same′ : length area′ ≡ length area) where
+    module _ (leaf : e < length ins) (rank : getD ins e 0 ≡ 0) {buffer′ : List ℕ} {from to : ℕ} {area′ : List ℕ} {at′ : ℕ} (R : TracesBack ins outs starts bytes P e q buffer lo hi area w buffer′ from to area′ at′) (long′ : length buffer′ ≡ length buffer) (same′ : length area′ ≡ length area) where
       abbrev l : Leaf ins
       l = record { symbol = e; there = leaf; rank = rank }
 

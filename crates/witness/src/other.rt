@@ -1,8 +1,8 @@
-// The search for an input tree on which a state's output has a root symbol other than b: the distances of the states, and the steps along which they fall.
+// An input tree on which a state's output has a root symbol other than b: the distances of the states, and the steps along which they decrease.
 ghost use Prim.Native.Nat.{_+_, _*_, _≤_, _<_};
 ghost use mathlib.Core.Path.{_≡_};
 ghost use lib.ListN.{length};
-ghost use Rattle.witness.specs.Inner.Other.{stepDistance, SearchedAt, FindsDistance, Settable, SetsDistance, Sweepable, SweepsDistances, Fillable, FillsDistances, Steppable, FindsStep, PutsStep, Fallable, Falling};
+ghost use Rattle.witness.specs.Inner.Other.{stepDistance, DistanceTableAt, FindsDistance, Settable, SetsDistance, Sweepable, SweepsDistances, Fillable, FillsDistances, Steppable, FindsStep, PutsStep, PathAsked, DecreasingPath};
 use formats::bytes::number;
 use formats::bytes::wide;
 
@@ -16,7 +16,7 @@ fn step_distance(
     a: usize,
     b: usize,
 ) -> usize
-    requires { ⌜ SearchedAt (now ins) (now starts) (now marks) (now dist) q × (a < length (now ins)) ⌝ }
+    requires { ⌜ DistanceTableAt (now ins) (now starts) (now marks) (now dist) q × (a < length (now ins)) ⌝ }
     ensures { λ r. ⌜ (r ≡ stepDistance (now (ins .entry)) (now (starts .entry)) (now (marks .entry)) (now (dist .entry)) b q a) × (r ≤ 256) ⌝ }
 {
     let at = 2 * number(starts[1 + q * ins.len() + a]);
@@ -36,7 +36,7 @@ fn step_distance(
 
 // The distance of the first right-hand side of q that has one, or 0.
 fn find_distance(ins: &[u8], starts: &[u16], marks: &[u8], dist: &[u8], q: usize, b: usize) -> usize
-    requires { ⌜ SearchedAt (now ins) (now starts) (now marks) (now dist) q ⌝ }
+    requires { ⌜ DistanceTableAt (now ins) (now starts) (now marks) (now dist) q ⌝ }
     ensures { λ r. ⌜ FindsDistance (now (ins .entry)) (now (starts .entry)) (now (marks .entry)) (now (dist .entry)) q b r ⌝ }
 {
     let mut a = 0;
@@ -154,7 +154,7 @@ pub struct PathEnd {
     pub symbol: usize,
 }
 
-// The steps from q along which the distances fall, two bytes each: a symbol, and the child that the next step goes on with, 0 at the last.
+// The steps from q along which the distances decrease, two bytes each: a symbol, and the child that the next step goes on with, 0 at the last.
 pub(crate) fn write_path(
     ins: &[u8],
     starts: &[u16],
@@ -164,8 +164,8 @@ pub(crate) fn write_path(
     b: usize,
     steps: &mut [u8],
 ) -> PathEnd
-    requires { ⌜ Fallable (now ins) (now starts) (now marks) (now dist) q b (now steps) ⌝ }
-    ensures { λ r. ⌜ Falling (now (ins .entry)) (now (starts .entry)) (now (marks .entry)) (now (dist .entry)) q b (now (steps .exit)) (r .count) (r .symbol) ⌝ }
+    requires { ⌜ PathAsked (now ins) (now starts) (now marks) (now dist) q b (now steps) ⌝ }
+    ensures { λ r. ⌜ DecreasingPath (now (ins .entry)) (now (starts .entry)) (now (marks .entry)) (now (dist .entry)) q b (now (steps .exit)) (r .count) (r .symbol) ⌝ }
 {
     let count = wide(dist[q]);
     let mut p = q;

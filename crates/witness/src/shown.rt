@@ -4,7 +4,7 @@ ghost use mathlib.Core.Path.{_≡_};
 ghost use lib.ListN.{length, replicate};
 ghost use lib.Seq.{sets};
 ghost use Rattle.formats.specs.Inner.Layout.{markAt};
-ghost use Rattle.witness.specs.Inner.Shown.{Plantable, Planted, Wrappable, Wrapped, Addable, Added, AllPlantable, AllPlanted, rankOf, Climbable, Climbed};
+ghost use Rattle.witness.specs.Inner.Shown.{SymbolAsked, SymbolWritten, Wrappable, Wrapped, Addable, Added, StepsAsked, StepsWritten, rankOf, AddressAsked, AddressWritten};
 use formats::bytes::wide;
 
 // Where a tree stands in a buffer: its first byte, and the byte behind its last.
@@ -27,8 +27,8 @@ fn fill(buffer: &mut [u8], at: usize, n: usize, e: u8)
 
 // Writes the symbol a with leaves e for all its children, from position `at` on.
 pub(crate) fn write_symbol(ins: &[u8], e: usize, a: usize, buffer: &mut [u8], at: usize) -> Span
-    requires { ⌜ Plantable (now ins) e a (now buffer) at ⌝ }
-    ensures { λ r. ⌜ Planted (now (ins .entry)) e a at (now (buffer .exit)) (r .from) (r .to) ⌝ }
+    requires { ⌜ SymbolAsked (now ins) e a (now buffer) at ⌝ }
+    ensures { λ r. ⌜ SymbolWritten (now (ins .entry)) e a at (now (buffer .exit)) (r .from) (r .to) ⌝ }
 {
     let rank = wide(ins[a]);
     buffer[at] = a as u8;
@@ -90,8 +90,8 @@ pub(crate) fn write_steps(
     count: usize,
     buffer: &mut [u8],
 ) -> Span
-    requires { ⌜ AllPlantable (now ins) e (now steps) count (now buffer) ⌝ }
-    ensures { λ r. ⌜ AllPlanted (now (ins .entry)) e (now (steps .entry)) count (now (buffer .exit)) (r .from) (r .to) ⌝ }
+    requires { ⌜ StepsAsked (now ins) e (now steps) count (now buffer) ⌝ }
+    ensures { λ r. ⌜ StepsWritten (now (ins .entry)) e (now (steps .entry)) count (now (buffer .exit)) (r .from) (r .to) ⌝ }
 {
     buffer[1792] = e as u8;
     let mut from = 1792;
@@ -133,8 +133,8 @@ pub(crate) fn write_address(
     place: &mut [u8],
     at: usize,
 ) -> usize
-    requires { ⌜ Climbable (now outs) (now marks) from m (now place) at ⌝ }
-    ensures { λ r. ⌜ Climbed (now (outs .entry)) (now (marks .entry)) from m (now (place .entry)) at (now (place .exit)) r ⌝ }
+    requires { ⌜ AddressAsked (now outs) (now marks) from m (now place) at ⌝ }
+    ensures { λ r. ⌜ AddressWritten (now (outs .entry)) (now (marks .entry)) from m (now (place .entry)) at (now (place .exit)) r ⌝ }
 {
     let mut w = at;
     let mut between = 0;

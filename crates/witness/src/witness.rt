@@ -1,10 +1,10 @@
 // A shown difference, from a clash of two bodies: the input tree, the address and the two symbols there.
-ghost use Prim.Native.Nat.{_+_, _-_, _≤_};
+ghost use Prim.Native.Nat.{_+_, _-_, _≤_, _<_};
 ghost use mathlib.Core.Path.{_≡_};
 ghost use lib.ListN.{length};
 ghost use Rattle.prefixes.specs.Inner.Heads.{machine};
-ghost use Rattle.witness.specs.Inner.Bottoms.{Bodied, FallAsked, FallFound, Facing, Faces, BottomAsked, BottomFound, Upable, Upped, RootAsked, RootFound, Leading, Roomy, StepsBack, Rises, Tracing, Traces};
-ghost use Rattle.pairs.specs.Inner.Pairs.{sides, pairLeft, pairRight, leftBody, rightBody, Clashes};
+ghost use Rattle.witness.specs.Inner.Bottoms.{Bodied, PathFromAsked, PathFromFound, RootOnLeafAsked, RootOnLeaf, BottomAsked, BottomFound, Upable, Upped, RootAsked, RootFound, Leading, Roomy, StepsBack, TracesBack, Tracing, Traces};
+ghost use Rattle.pairs.specs.Inner.Pairs.{sides, pairByte, bodyOf, Clashes};
 ghost use Rattle.witness.specs.Inner.Forms.{Comparable, Shows};
 use crate::other::PathEnd;
 use crate::other::fill_distances;
@@ -16,6 +16,13 @@ use crate::shown::write_steps;
 use formats::bytes::number;
 use formats::bytes::wide;
 use formats::file::copy_at;
+use pairs::pairs::CHILD;
+use pairs::pairs::LEFT;
+use pairs::pairs::MARK;
+use pairs::pairs::PARENT;
+use pairs::pairs::RIGHT;
+use pairs::pairs::SYMBOL;
+use pairs::pairs::pair_byte;
 use prefixes::prefix::leaf_symbol;
 
 // Below a clash: the child that matters, 0 if none does, the number of steps of its tree, and the root symbols of the two outputs.
@@ -58,26 +65,15 @@ pub struct Shown {
     pub right: usize,
 }
 
-// The number of the left body of parent q for symbol a.
-fn left_body(ins: &[u8], pairs: &[u8; 1536], q: usize, a: usize) -> usize
-    requires { ⌜ Bodied (now ins) q a (pairLeft (now pairs) (q - 1)) ⌝ }
-    ensures { λ r. ⌜ r ≡ leftBody (now (ins .entry)) (now (pairs .entry)) q a ⌝ }
+// The number of the body of parent q for symbol a, on one side.
+fn body_of(ins: &[u8], pairs: &[u8; 1536], q: usize, a: usize, side: usize) -> usize
+    requires { ⌜ Bodied (now ins) q a (pairByte (now pairs) side (q - 1)) × (side < 6) ⌝ }
+    ensures { λ r. ⌜ r ≡ bodyOf (now (ins .entry)) (now (pairs .entry)) side q a ⌝ }
 {
     if q == 0 {
         return 0;
     }
-    1 + wide(pairs[6 * (q - 1)]) * ins.len() + a
-}
-
-// The number of the right body of parent q for symbol a.
-fn right_body(ins: &[u8], pairs: &[u8; 1536], q: usize, a: usize) -> usize
-    requires { ⌜ Bodied (now ins) q a (pairRight (now pairs) (q - 1)) ⌝ }
-    ensures { λ r. ⌜ r ≡ rightBody (now (ins .entry)) (now (pairs .entry)) q a ⌝ }
-{
-    if q == 0 {
-        return 0;
-    }
-    1 + wide(pairs[6 * (q - 1) + 1]) * ins.len() + a
+    1 + pair_byte(pairs, q - 1, side) * ins.len() + a
 }
 
 // The steps from state q down to a root symbol other than b.
@@ -90,8 +86,8 @@ fn path_from(
     b: usize,
     steps: &mut [u8],
 ) -> PathEnd
-    requires { ⌜ FallAsked (now ins) (now starts) (now marks) n q (now steps) ⌝ }
-    ensures { λ r. ⌜ FallFound (now (ins .entry)) (now (starts .entry)) (now (marks .entry)) q b (now (steps .exit)) (r .count) (r .symbol) ⌝ }
+    requires { ⌜ PathFromAsked (now ins) (now starts) (now marks) n q (now steps) ⌝ }
+    ensures { λ r. ⌜ PathFromFound (now (ins .entry)) (now (starts .entry)) (now (marks .entry)) q b (now (steps .exit)) (r .count) (r .symbol) ⌝ }
 {
     let mut dist = [0u8; 128];
     fill_distances(ins, starts, marks, n, b, &mut dist);
@@ -99,9 +95,9 @@ fn path_from(
 }
 
 // The root symbol of the mark (c, x), a call reading the leaf e.
-fn facing(ins: &[u8], starts: &[u16], marks: &[u8], e: usize, c: usize, x: usize) -> usize
-    requires { ⌜ Facing (now ins) (now starts) (now marks) e c x ⌝ }
-    ensures { λ b. ⌜ Faces (now (ins .entry)) (now (starts .entry)) (now (marks .entry)) e c x b ⌝ }
+fn root_on_leaf(ins: &[u8], starts: &[u16], marks: &[u8], e: usize, c: usize, x: usize) -> usize
+    requires { ⌜ RootOnLeafAsked (now ins) (now starts) (now marks) e c x ⌝ }
+    ensures { λ b. ⌜ RootOnLeaf (now (ins .entry)) (now (starts .entry)) (now (marks .entry)) e c x b ⌝ }
 {
     if c == 0 {
         return x;
@@ -130,7 +126,7 @@ fn find_bottom(
     ensures { λ r. ⌜ BottomFound (now (ins .entry)) (now (starts1 .entry)) (now (marks1 .entry)) (now (starts2 .entry)) (now (marks2 .entry)) e c1 x1 c2 x2 (now (steps .exit)) (r .child) (r .count) (r .left) (r .right) ⌝ }
 {
     if c1 > 0 {
-        let b = facing(ins, starts2, marks2, e, c2, x2);
+        let b = root_on_leaf(ins, starts2, marks2, e, c2, x2);
         let f = path_from(ins, starts1, marks1, n1, x1, b, steps);
         return Bottom {
             child: c1,
@@ -243,11 +239,11 @@ fn step_back(
     requires { ⌜ Leading (now ins) (now outs) (now starts1) (now marks1) (now pairs) e (p + 1) × Roomy (p + 1) (now buffer) lo hi (now place) at ⌝ }
     ensures { λ r. ⌜ StepsBack (now (ins .entry)) (now (outs .entry)) (now (starts1 .entry)) (now (marks1 .entry)) (now (pairs .entry)) e p (now (buffer .entry)) lo hi (now (place .entry)) at (now (buffer .exit)) (r .from) (r .to) (now (place .exit)) (r .at) ⌝ }
 {
-    let q = wide(pairs[6 * p + 2]);
-    let a = wide(pairs[6 * p + 3]);
-    let m = wide(pairs[6 * p + 4]);
-    let i = wide(pairs[6 * p + 5]);
-    let from = number(starts1[left_body(ins, pairs, q, a)]);
+    let q = pair_byte(pairs, p, PARENT);
+    let a = pair_byte(pairs, p, SYMBOL);
+    let m = pair_byte(pairs, p, MARK);
+    let i = pair_byte(pairs, p, CHILD);
+    let from = number(starts1[body_of(ins, pairs, q, a, LEFT)]);
     let w = write_address(outs, marks1, from, m, place, at);
     let s = step_up(ins, e, q, a, i, buffer, lo, hi);
     Placed {
@@ -273,7 +269,7 @@ fn trace_back(
     at: usize,
 ) -> Placed
     requires { ⌜ Leading (now ins) (now outs) (now starts1) (now marks1) (now pairs) e q × Roomy q (now buffer) lo hi (now place) at ⌝ }
-    ensures { λ r. ⌜ Rises (now (ins .entry)) (now (outs .entry)) (now (starts1 .entry)) (now (marks1 .entry)) (now (pairs .entry)) e q (now (buffer .entry)) lo hi (now (place .entry)) at (now (buffer .exit)) (r .from) (r .to) (now (place .exit)) (r .at) ⌝ }
+    ensures { λ r. ⌜ TracesBack (now (ins .entry)) (now (outs .entry)) (now (starts1 .entry)) (now (marks1 .entry)) (now (pairs .entry)) e q (now (buffer .entry)) lo hi (now (place .entry)) at (now (buffer .exit)) (r .from) (r .to) (now (place .exit)) (r .at) ⌝ }
 {
     let mut from = lo;
     let mut to = hi;
@@ -297,7 +293,7 @@ fn trace_back(
         from = s.from;
         to = s.to;
         w = s.at;
-        r = wide(pairs[6 * (r - 1) + 2]);
+        r = pair_byte(pairs, r - 1, PARENT);
     }
     Placed {
         from: from,
@@ -327,8 +323,8 @@ fn trace(
     requires { ⌜ Comparable (now ins) (now outs) (now starts1) (now marks1) n1 (now starts2) (now marks2) n2 × Clashes (sides (now ins) (now starts1) (now marks1) (now starts2) (now marks2)) n1 n2 (now pairs) q a m × Tracing (now ins) e (now buffer) (now place) ⌝ }
     ensures { λ r. ⌜ Traces (now (ins .entry)) (now (outs .entry)) (machine (now (ins .entry)) (now (outs .entry)) (now (starts1 .entry)) (now (marks1 .entry)) n1) (machine (now (ins .entry)) (now (outs .entry)) (now (starts2 .entry)) (now (marks2 .entry)) n2) (now (buffer .exit)) (r .from) (r .to) (now (place .exit)) (r .at) (r .left) (r .right) ⌝ }
 {
-    let i = number(starts1[left_body(ins, pairs, q, a)]);
-    let j = number(starts2[right_body(ins, pairs, q, a)]);
+    let i = number(starts1[body_of(ins, pairs, q, a, LEFT)]);
+    let j = number(starts2[body_of(ins, pairs, q, a, RIGHT)]);
     let f = root_tree(
         ins,
         starts1,

@@ -53,7 +53,7 @@ pub data Clashing (bytes bytes′ : List ℕ) (i j : ℕ) : Type 0 where
   two-children : 0 < getD bytes (2 * i) 0 → 0 < getD bytes′ (2 * j) 0 → getD bytes (2 * i) 0 ≢ getD bytes′ (2 * j) 0 → Clashing bytes bytes′ i j
 
 -- of n marks from number i and from number j on, those before r go in step, and those at r clash, if r is below n
-pub record PartsAt (bytes bytes′ : List ℕ) (i j n r : ℕ) : Type 0 where
+pub record FirstClash (bytes bytes′ : List ℕ) (i j n r : ℕ) : Type 0 where
   pub small : r ≤ n
   pub step : (k : ℕ) → k < r → InStep bytes bytes′ (i + k) (j + k)
   pub clash : r < n → Clashing bytes bytes′ (i + r) (j + r)
@@ -82,24 +82,28 @@ pub record ClashesAt (S : Sides) (j j′ m : ℕ) : Type 0 where
   pub clash : Clashing (S .bytes) (S .bytes′) (at (S .starts) j + m) (at (S .starts′) j′ + m)
 
 -- ---- the list of pairs, six bytes each
+-- byte k of pair p
+abbrev pub pairByte : List ℕ → ℕ → ℕ → ℕ
+pairByte P k p = getD P (6 * p + k) 0
+
 -- its left state, its right state; its parent: 0 if it stands in the initial terms, p + 1 if in right-hand sides of pair p; their symbol; the number of the mark there; the child called
 abbrev pub pairLeft : List ℕ → ℕ → ℕ
-pairLeft P p = getD P (6 * p) 0
+pairLeft P p = pairByte P 0 p
 
 abbrev pub pairRight : List ℕ → ℕ → ℕ
-pairRight P p = getD P (6 * p + 1) 0
+pairRight P p = pairByte P 1 p
 
 abbrev pub pairParent : List ℕ → ℕ → ℕ
-pairParent P p = getD P (6 * p + 2) 0
+pairParent P p = pairByte P 2 p
 
 abbrev pub pairSymbol : List ℕ → ℕ → ℕ
-pairSymbol P p = getD P (6 * p + 3) 0
+pairSymbol P p = pairByte P 3 p
 
 abbrev pub pairMark : List ℕ → ℕ → ℕ
-pairMark P p = getD P (6 * p + 4) 0
+pairMark P p = pairByte P 4 p
 
 abbrev pub pairChild : List ℕ → ℕ → ℕ
-pairChild P p = getD P (6 * p + 5) 0
+pairChild P p = pairByte P 5 p
 
 -- pair p is x and y, on child c at mark m of the bodies for symbol a of parent q
 pub record Entry (P : List ℕ) (p q a m c x y : ℕ) : Type 0 where
@@ -116,14 +120,16 @@ pub record Added (P P′ : List ℕ) (count q a m c x y : ℕ) : Type 0 where
   pub keeps : (k : ℕ) → k < 6 * count → getD P′ k 0 ≡ getD P k 0
   pub entry : Entry P′ count q a m c x y
 
--- the bodies of parent q for symbol a: the initial terms, or the right-hand sides of a pair
-unfoldable pub leftBody : List ℕ → List ℕ → ℕ → ℕ → ℕ
-leftBody ins P ℕ.zero a = 0
-leftBody ins P (suc p) a = bodyNumber ins (pairLeft P p) a
+-- the body of parent q for symbol a on one side, 0 the left and 1 the right: the initial term, or a right-hand side of a pair
+unfoldable pub bodyOf : List ℕ → List ℕ → ℕ → ℕ → ℕ → ℕ
+bodyOf ins P side ℕ.zero a = 0
+bodyOf ins P side (suc p) a = bodyNumber ins (pairByte P side p) a
 
-unfoldable pub rightBody : List ℕ → List ℕ → ℕ → ℕ → ℕ
-rightBody ins P ℕ.zero a = 0
-rightBody ins P (suc p) a = bodyNumber ins (pairRight P p) a
+abbrev pub leftBody : List ℕ → List ℕ → ℕ → ℕ → ℕ
+leftBody ins P q a = bodyOf ins P 0 q a
+
+abbrev pub rightBody : List ℕ → List ℕ → ℕ → ℕ → ℕ
+rightBody ins P q a = bodyOf ins P 1 q a
 
 -- pair p stands where the list says, in bodies of a pair before it or in the initial terms
 pub record Linked (S : Sides) (n n′ : ℕ) (P : List ℕ) (p : ℕ) : Type 0 where
@@ -191,24 +197,24 @@ pub record Merging (T : Table) : Type 0 where
   pub rooted : (e : ℕ) → State T e → State T (class T e) × (class T (class T e) ≡ class T e)
   pub forced : (s t : ℕ) → State T s → State T t → class T s ≡ class T t → Connected (T .list) (T .count) s t
 
--- the list is longer, and states of one class stay in one class
+-- the list has as many pairs or more, and states of one class stay in one class
 pub record Later (T T′ : Table) : Type 0 where
   pub same-left : length (T′ .left) ≡ length (T .left)
   pub same-right : length (T′ .right) ≡ length (T .right)
   pub same-list : length (T′ .list) ≡ length (T .list)
-  pub grows : T .count ≤ T′ .count
+  pub longer : T .count ≤ T′ .count
   pub keeps : (k : ℕ) → k < 6 * T .count → getD (T′ .list) k 0 ≡ getD (T .list) k 0
   pub coarser : (x y : ℕ) → x < length (T .left) → y < length (T .right) → at (T .left) x ≡ at (T .right) y → at (T′ .left) x ≡ at (T′ .right) y
 
 -- x and y are in one class now, and if they were not, they are the new pair
-pub record Meets (T T′ : Table) (q a m c x y : ℕ) : Type 0 where
+pub record JoinsStates (T T′ : Table) (q a m c x y : ℕ) : Type 0 where
   pub merging : Merging T′
   pub later : Later T T′
   pub together : at (T′ .left) x ≡ at (T′ .right) y
   pub listed : (p : ℕ) → T .count ≤ p → p < T′ .count → Entry (T′ .list) p q a m c x y
 
 -- n marks from number i and from number j on go in step, and call states that have classes
-pub record Meetable (T : Table) (bytes bytes′ : List ℕ) (i j n : ℕ) : Type 0 where
+pub record Joinable (T : Table) (bytes bytes′ : List ℕ) (i j n : ℕ) : Type 0 where
   pub merging : Merging T
   pub inside : 2 * (i + n) ≤ length bytes
   pub inside′ : 2 * (j + n) ≤ length bytes′
@@ -224,7 +230,7 @@ pub record Listed (P : List ℕ) (p q a : ℕ) (bytes bytes′ : List ℕ) (i j 
   pub entry : Entry P p q a mark (getD bytes (2 * (i + mark)) 0) (getD bytes (2 * (i + mark) + 1) 0) (getD bytes′ (2 * (j + mark) + 1) 0)
 
 -- states called at the same mark are in one class now
-pub record MeetsAll (T T′ : Table) (bytes bytes′ : List ℕ) (i j n q a : ℕ) : Type 0 where
+pub record JoinsMarks (T T′ : Table) (bytes bytes′ : List ℕ) (i j n q a : ℕ) : Type 0 where
   pub merging : Merging T′
   pub later : Later T T′
   pub together : (k : ℕ) → k < n → 0 < getD bytes (2 * (i + k)) 0 → at (T′ .left) (getD bytes (2 * (i + k) + 1) 0) ≡ at (T′ .right) (getD bytes′ (2 * (j + k) + 1) 0)

@@ -11,8 +11,8 @@ use Rattle.formats.specs.Inner.Marked.{part}
 use Rattle.prefixes.specs.Alphabet.{alphabet}
 use Rattle.prefixes.specs.Inner.Heads.{machine, Layout}
 use Rattle.witness.specs.Difference.{Difference}
-use Rattle.witness.specs.Inner.Other.{firstMark, Falling}
-use Rattle.pairs.specs.Inner.Pairs.{pairLeft, pairParent, pairSymbol, pairMark, pairChild, leftBody}
+use Rattle.witness.specs.Inner.Other.{firstMark, DecreasingPath}
+use Rattle.pairs.specs.Inner.Pairs.{pairByte, pairLeft, pairParent, pairSymbol, pairMark, pairChild, leftBody}
 use Rattle.witness.specs.Inner.Paths.{treeFor, pairPlace, Path}
 use Rattle.witness.specs.Inner.Shown.{stepsTree, Holds, Addable}
 use Rattle.witness.specs.Inner.Forms.{Comparable}
@@ -27,7 +27,7 @@ pub record Bodied (ins : List ℕ) (q a x : ℕ) : Type 0 where
 
 -- ---- the tree below the clash
 -- a state of an earliest transducer, and room for 128 steps
-pub record FallAsked (ins starts bytes : List ℕ) (n q : ℕ) (steps : List ℕ) : Type 0 where
+pub record PathFromAsked (ins starts bytes : List ℕ) (n q : ℕ) (steps : List ℕ) : Type 0 where
   pub outs : List ℕ
   pub layout : Layout ins outs starts bytes n
   pub leaf : Leaf ins
@@ -35,18 +35,18 @@ pub record FallAsked (ins starts bytes : List ℕ) (n q : ℕ) (steps : List ℕ
   pub state : q < n
   pub room : 256 ≤ length steps
 
--- the first `count` steps are a fall from q, along some distances, to x, which is not b
-pub record FallFound (ins starts bytes : List ℕ) (q b : ℕ) (steps : List ℕ) (count x : ℕ) : Type 0 where
+-- the first `count` steps are a path from q, along which some distances decrease, to x, which is not b
+pub record PathFromFound (ins starts bytes : List ℕ) (q b : ℕ) (steps : List ℕ) (count x : ℕ) : Type 0 where
   pub dist : List ℕ
-  pub falling : Falling ins starts bytes dist q b steps count x
+  pub path : DecreasingPath ins starts bytes dist q b steps count x
 
 -- the root symbol on a tree of leaves: of a symbol itself, of a call that of the right-hand side for the leaf e
-pub record Faces (ins starts bytes : List ℕ) (e c x b : ℕ) : Type 0 where
+pub record RootOnLeaf (ins starts bytes : List ℕ) (e c x b : ℕ) : Type 0 where
   pub symbol : c ≡ 0 → b ≡ x
   pub call : 0 < c → b ≡ firstMark ins starts bytes x e .1
 
 -- a mark (c, x) whose state is there, if it is a call, and a leaf e
-pub record Facing (ins starts bytes : List ℕ) (e c x : ℕ) : Type 0 where
+pub record RootOnLeafAsked (ins starts bytes : List ℕ) (e c x : ℕ) : Type 0 where
   pub outs : List ℕ
   pub states : ℕ
   pub layout : Layout ins outs starts bytes states
@@ -63,11 +63,11 @@ pub record BottomAsked (ins starts bytes : List ℕ) (n : ℕ) (starts′ bytes�
   pub room : 256 ≤ length steps
 
 -- The child that matters, 0 if none does, the number of the steps of its tree, and the root symbols of the two outputs:
--- two symbols; a symbol and a call, which falls to another symbol; a call, which falls to another symbol than that of the second.
+-- two symbols; a symbol and a call, from which a path leads to another symbol; a call, from which a path leads to another symbol than that of the second.
 pub data BottomFound (ins starts bytes starts′ bytes′ : List ℕ) (e c x c′ x′ : ℕ) (steps : List ℕ) : ℕ → ℕ → ℕ → ℕ → Type 0 where
-  neither-falls : c ≡ 0 → c′ ≡ 0 → BottomFound ins starts bytes starts′ bytes′ e c x c′ x′ steps 0 0 x x′
-  second-falls : {count b′ : ℕ} → c ≡ 0 → 0 < c′ → FallFound ins starts′ bytes′ x′ x steps count b′ → BottomFound ins starts bytes starts′ bytes′ e c x c′ x′ steps c′ count x b′
-  first-falls : {count b b′ : ℕ} → 0 < c → Faces ins starts′ bytes′ e c′ x′ b′ → FallFound ins starts bytes x b′ steps count b → BottomFound ins starts bytes starts′ bytes′ e c x c′ x′ steps c count b b′
+  no-path : c ≡ 0 → c′ ≡ 0 → BottomFound ins starts bytes starts′ bytes′ e c x c′ x′ steps 0 0 x x′
+  second-path : {count b′ : ℕ} → c ≡ 0 → 0 < c′ → PathFromFound ins starts′ bytes′ x′ x steps count b′ → BottomFound ins starts bytes starts′ bytes′ e c x c′ x′ steps c′ count x b′
+  first-path : {count b b′ : ℕ} → 0 < c → RootOnLeaf ins starts′ bytes′ e c′ x′ b′ → PathFromFound ins starts bytes x b′ steps count b → BottomFound ins starts bytes starts′ bytes′ e c x c′ x′ steps c count b b′
 
 -- ---- one step up
 -- what stands in the buffer can be child i of symbol a, if a parent other than 0 reads it
@@ -135,9 +135,9 @@ pub record Roomy (q : ℕ) (buffer : List ℕ) (lo hi : ℕ) (area : List ℕ) (
   pub before : 63 * q ≤ at
   pub end : at ≤ length area
 
--- the left states of the first pairs are below n
-abbrev pub LeftBelow : List ℕ → ℕ → ℕ → Type 0
-LeftBelow P q n = (p : ℕ) → p < q → pairLeft P p < n
+-- the states of the first pairs on one side are below n
+abbrev pub StatesBelow : List ℕ → ℕ → ℕ → ℕ → Type 0
+StatesBelow P side q n = (p : ℕ) → p < q → pairByte P side p < n
 
 -- d stands in the buffer, and v at the end of the area
 abbrev pub Stand : List ℕ → ℕ → ℕ → Tree → List ℕ → ℕ → List ℕ → Type 0
@@ -146,7 +146,7 @@ Stand buffer lo hi d area at v = Holds buffer lo hi d × (drop at area ≡ v)
 -- one step back: from pair p to its parent
 pub record StepsBack (ins outs starts bytes P : List ℕ) (e p : ℕ) (buffer : List ℕ) (lo hi : ℕ) (area : List ℕ) (at : ℕ) (buffer′ : List ℕ) (lo′ hi′ : ℕ) (area′ : List ℕ) (at′ : ℕ) : Type 0 where
   pub roomy : Roomy (pairParent P p) buffer′ lo′ hi′ area′ at′
-  pub back : (n : ℕ) (l : Leaf ins) → Layout ins outs starts bytes n → l .symbol ≡ e → LeftBelow P p n → (d : Tree) (v : List ℕ) → Stand buffer lo hi d area at v → Stand buffer′ lo′ hi′ (treeFor (alphabet ins l) ins (pairParent P p) (pairSymbol P p) (pairChild P p) d) area′ at′ (pairPlace (machine ins outs starts bytes n) P p ++ v)
+  pub back : (n : ℕ) (l : Leaf ins) → Layout ins outs starts bytes n → l .symbol ≡ e → StatesBelow P 0 p n → (d : Tree) (v : List ℕ) → Stand buffer lo hi d area at v → Stand buffer′ lo′ hi′ (treeFor (alphabet ins l) ins (pairParent P p) (pairSymbol P p) (pairChild P p) d) area′ at′ (pairPlace (machine ins outs starts bytes n) P p ++ v)
 
 -- where the list leads from parent q, which reads d at address v
 pub record LedTo (ins outs starts bytes P : List ℕ) (n : ℕ) (l : Leaf ins) (q : ℕ) (d : Tree) (v buffer : List ℕ) (lo hi : ℕ) (area : List ℕ) (at : ℕ) : Type 0 where
@@ -156,11 +156,11 @@ pub record LedTo (ins outs starts bytes P : List ℕ) (n : ℕ) (l : Leaf ins) (
   pub stand : Stand buffer lo hi tree area at address
 
 -- all steps back
-pub record Rises (ins outs starts bytes P : List ℕ) (e q : ℕ) (buffer : List ℕ) (lo hi : ℕ) (area : List ℕ) (at : ℕ) (buffer′ : List ℕ) (lo′ hi′ : ℕ) (area′ : List ℕ) (at′ : ℕ) : Type 0 where
+pub record TracesBack (ins outs starts bytes P : List ℕ) (e q : ℕ) (buffer : List ℕ) (lo hi : ℕ) (area : List ℕ) (at : ℕ) (buffer′ : List ℕ) (lo′ hi′ : ℕ) (area′ : List ℕ) (at′ : ℕ) : Type 0 where
   pub ordered : lo′ < hi′
   pub inside : hi′ ≤ length buffer′
   pub end : at′ ≤ length area′
-  pub led : (n : ℕ) (l : Leaf ins) → Layout ins outs starts bytes n → l .symbol ≡ e → LeftBelow P q n → (d : Tree) (v : List ℕ) → Stand buffer lo hi d area at v → LedTo ins outs starts bytes P n l q d v buffer′ lo′ hi′ area′ at′
+  pub led : (n : ℕ) (l : Leaf ins) → Layout ins outs starts bytes n → l .symbol ≡ e → StatesBelow P 0 q n → (d : Tree) (v : List ℕ) → Stand buffer lo hi d area at v → LedTo ins outs starts bytes P n l q d v buffer′ lo′ hi′ area′ at′
 
 -- ---- from the clash to the initial terms
 -- a leaf e, and room for every tree and every address

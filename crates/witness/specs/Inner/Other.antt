@@ -1,4 +1,4 @@
--- The search for an input tree on which a state's output has a root symbol other than b: distances, one byte a state, and the steps along which they fall.
+-- An input tree on which a state's output has a root symbol other than b: distances, one byte a state, and the steps along which they decrease.
 use Prim.Native.Nat.{ℕ, suc, _+_, _*_, _≤_, _<_}
 use mathlib.Core.Bool.{Bool, true, false}
 use mathlib.Core.List.{List}
@@ -58,16 +58,16 @@ missing dist n = sum (λ q. oneIf (eqb (getD dist q 0) 0)) n
 
 -- ---- what inner functions ask and do
 -- a transducer with n states, and room for a distance for each
-pub record Searched (ins starts bytes : List ℕ) (n : ℕ) (dist : List ℕ) : Type 0 where
+pub record DistanceTable (ins starts bytes : List ℕ) (n : ℕ) (dist : List ℕ) : Type 0 where
   pub outs : List ℕ
   pub layout : Layout ins outs starts bytes n
   pub leaf : Leaf ins
   pub long : n ≤ length dist
 
 -- q is one of its states
-pub record SearchedAt (ins starts bytes dist : List ℕ) (q : ℕ) : Type 0 where
+pub record DistanceTableAt (ins starts bytes dist : List ℕ) (q : ℕ) : Type 0 where
   pub states : ℕ
-  pub table : Searched ins starts bytes states dist
+  pub table : DistanceTable ins starts bytes states dist
   pub state : q < states
 
 -- r is the distance of a right-hand side of q, or none has one
@@ -77,7 +77,7 @@ pub record FindsDistance (ins starts bytes dist : List ℕ) (q b r : ℕ) : Type
 
 -- the distances so far are those of right-hand sides
 pub record Settable (ins starts bytes dist : List ℕ) (q b : ℕ) : Type 0 where
-  pub at : SearchedAt ins starts bytes dist q
+  pub at : DistanceTableAt ins starts bytes dist q
   pub founded : Founded ins starts bytes (at .states) b dist
 
 -- q, which had no distance, got that of a right-hand side
@@ -96,7 +96,7 @@ pub record SetsDistance (ins starts bytes dist : List ℕ) (q b : ℕ) (dist′ 
   pub none : r ≡ false → getD dist q 0 ≡ 0 → NoneAt ins starts bytes b dist q
 
 pub record Sweepable (ins starts bytes : List ℕ) (n b : ℕ) (dist : List ℕ) : Type 0 where
-  pub table : Searched ins starts bytes n dist
+  pub table : DistanceTable ins starts bytes n dist
   pub founded : Founded ins starts bytes n b dist
 
 -- of all states
@@ -108,7 +108,7 @@ pub record SweepsDistances (ins starts bytes : List ℕ) (n b : ℕ) (dist dist�
 
 -- the distances are zeros
 pub record Fillable (ins starts bytes : List ℕ) (n : ℕ) (dist : List ℕ) : Type 0 where
-  pub table : Searched ins starts bytes n dist
+  pub table : DistanceTable ins starts bytes n dist
   pub zeros : (q : ℕ) → q < n → getD dist q 0 ≡ 0
 
 -- the table of distances is sound and complete, whatever the ranks of the output symbols are and whichever leaf is named
@@ -116,10 +116,10 @@ pub record FillsDistances (ins starts bytes : List ℕ) (n b : ℕ) (dist : List
   pub sound : (outs : List ℕ) (l : Leaf ins) → Layout ins outs starts bytes n → Sound (alphabet ins l) (machine ins outs starts bytes n) (λ q. q < n) (b, getD outs b 0) (λ q. getD dist q 0)
   pub complete : (outs : List ℕ) (l : Leaf ins) → Layout ins outs starts bytes n → Complete (alphabet ins l) (machine ins outs starts bytes n) (λ q. q < n) (b, getD outs b 0) (λ q. getD dist q 0)
 
--- ---- the fall
+-- ---- the path along which the distances decrease
 -- a right-hand side of q is as far as q
 pub record Steppable (ins starts bytes dist : List ℕ) (q b : ℕ) : Type 0 where
-  pub at : SearchedAt ins starts bytes dist q
+  pub at : DistanceTableAt ins starts bytes dist q
   pub step : (a : ℕ) × (a < length ins) × (stepDistance ins starts bytes dist b q a ≡ getD dist q 0)
 
 -- that for a is
@@ -135,22 +135,22 @@ pub record PutsStep (ins starts bytes dist : List ℕ) (q b : ℕ) (steps : List
   pub onward : r ≡ firstMark ins starts bytes q symbol .1
 
 -- a state with a distance, in a sound table, and room for 128 steps
-pub record Fallable (ins starts bytes dist : List ℕ) (q b : ℕ) (steps : List ℕ) : Type 0 where
-  pub at : SearchedAt ins starts bytes dist q
+pub record PathAsked (ins starts bytes dist : List ℕ) (q b : ℕ) (steps : List ℕ) : Type 0 where
+  pub at : DistanceTableAt ins starts bytes dist q
   pub sound : Sound (alphabet ins (at .table .leaf)) (machine ins (at .table .outs) starts bytes (at .states)) (λ p. p < at .states) (b, getD (at .table .outs) b 0) (λ p. getD dist p 0)
   pub found : getD dist q 0 ≢ 0
   pub room : 256 ≤ length steps
 
--- the steps ss are a fall from q, and the output of q on their tree has root symbol x
-pub record FallsTo (ins outs : List ℕ) (l : Leaf ins) (starts bytes : List ℕ) (n b q count : ℕ) (ss : List Mark) (x : ℕ) : Type 0 where
-  pub falls : Falls (alphabet ins l) (machine ins outs starts bytes n) (b, getD outs b 0) q count (stepsTree ins l ss)
+-- the steps ss are a path from q, and the output of q on their tree has root symbol x
+pub record PathTo (ins outs : List ℕ) (l : Leaf ins) (starts bytes : List ℕ) (n b q count : ℕ) (ss : List Mark) (x : ℕ) : Type 0 where
+  pub path : Falls (alphabet ins l) (machine ins outs starts bytes n) (b, getD outs b 0) q count (stepsTree ins l ss)
   pub there : x < length outs
   pub shown : symbol (output (machine ins outs starts bytes n) (stepsTree ins l ss) q) ≡ (x, getD outs x 0)
 
--- the first `count` pairs of bytes are a fall from q to x, which is not b; each has an input symbol and one of its children, or 0
-pub record Falling (ins starts bytes dist : List ℕ) (q b : ℕ) (steps : List ℕ) (count x : ℕ) : Type 0 where
+-- the first `count` pairs of bytes are a path from q to x, which is not b; each has an input symbol and one of its children, or 0
+pub record DecreasingPath (ins starts bytes dist : List ℕ) (q b : ℕ) (steps : List ℕ) (count x : ℕ) : Type 0 where
   pub distance : count ≡ getD dist q 0
   pub few : count ≤ 128
   pub inside : (k : ℕ) → k < count → (getD steps (2 * k) 0 < length ins) × (getD steps (2 * k + 1) 0 ≤ getD ins (getD steps (2 * k) 0) 0)
   pub other : x ≢ b
-  pub fall : (outs : List ℕ) (l : Leaf ins) (n : ℕ) → Layout ins outs starts bytes n → q < n → FallsTo ins outs l starts bytes n b q count (part steps 0 count) x
+  pub leads : (outs : List ℕ) (l : Leaf ins) (n : ℕ) → Layout ins outs starts bytes n → q < n → PathTo ins outs l starts bytes n b q count (part steps 0 count) x

@@ -6,17 +6,19 @@ use Rattle.theory.specs.Grammar.{Grammar}
 use Rattle.theory.specs.Inner.Leaves.{put}
 use Rattle.theory.specs.Term.{Term, Tree, node}
 use Rattle.theory.specs.Transducer.{Transducer}
-use Rattle.pairs.specs.Inner.Pairs.{pairLeft, pairRight, pairParent, pairSymbol, pairMark, pairChild}
+use Rattle.pairs.specs.Inner.Pairs.{pairByte, pairParent, pairSymbol, pairMark, pairChild}
 use Rattle.earliest.specs.Inner.Places.{place}
 
--- the terms of parent q for symbol a: the initial terms, or the right-hand sides of a pair
-unfoldable pub leftTerm : Transducer ℕ → List ℕ → ℕ → ℕ → Term (ℕ × ℕ)
-leftTerm M P ℕ.zero a = M .initial
-leftTerm M P (suc p) a = M .rhs (pairLeft P p) a
+-- the term of parent q for symbol a on one side: the initial term, or a right-hand side of a pair
+unfoldable pub termOf : Transducer ℕ → List ℕ → ℕ → ℕ → ℕ → Term (ℕ × ℕ)
+termOf M P side ℕ.zero a = M .initial
+termOf M P side (suc p) a = M .rhs (pairByte P side p) a
 
-unfoldable pub rightTerm : Transducer ℕ → List ℕ → ℕ → ℕ → Term (ℕ × ℕ)
-rightTerm M P ℕ.zero a = M .initial
-rightTerm M P (suc p) a = M .rhs (pairRight P p) a
+abbrev pub leftTerm : Transducer ℕ → List ℕ → ℕ → ℕ → Term (ℕ × ℕ)
+leftTerm M P q a = termOf M P 0 q a
+
+abbrev pub rightTerm : Transducer ℕ → List ℕ → ℕ → ℕ → Term (ℕ × ℕ)
+rightTerm M P q a = termOf M P 1 q a
 
 -- the sorts of the children that they call
 unfoldable pub sortsFor : List ℕ → ℕ → ℕ → List ℕ

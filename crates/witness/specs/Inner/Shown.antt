@@ -34,13 +34,13 @@ pub record Symbols (ins : List ℕ) (e a : ℕ) : Type 0 where
   pub leaf : e < length ins
   pub there : a < length ins
 
--- planting asks room for a symbol and four leaves
-pub record Plantable (ins : List ℕ) (e a : ℕ) (buffer : List ℕ) (at : ℕ) : Type 0 where
+-- writing a symbol asks room for it and four leaves
+pub record SymbolAsked (ins : List ℕ) (e a : ℕ) (buffer : List ℕ) (at : ℕ) : Type 0 where
   pub symbols : Symbols ins e a
   pub room : at + 5 ≤ length buffer
 
 -- what it does: the symbol and its leaves stand from `at` on
-pub record Planted (ins : List ℕ) (e a at : ℕ) (after : List ℕ) (from to : ℕ) : Type 0 where
+pub record SymbolWritten (ins : List ℕ) (e a at : ℕ) (after : List ℕ) (from to : ℕ) : Type 0 where
   pub left : from ≡ at
   pub right : to ≡ at + 1 + getD ins a 0
   pub tree : (l : Leaf ins) → l .symbol ≡ e → (d : Tree) → Holds after from to (stepTree ins l (a, 0) d)
@@ -80,8 +80,8 @@ pub record Step (ins : List ℕ) (s : ℕ × ℕ) : Type 0 where
   pub there : s .0 < length ins
   pub child : s .1 ≤ getD ins (s .0) 0
 
--- what planting a list of steps asks
-pub record AllPlantable (ins : List ℕ) (e : ℕ) (steps : List ℕ) (count : ℕ) (buffer : List ℕ) : Type 0 where
+-- what writing the tree of a list of steps asks
+pub record StepsAsked (ins : List ℕ) (e : ℕ) (steps : List ℕ) (count : ℕ) (buffer : List ℕ) : Type 0 where
   pub ranks : Ranks 16 ins
   pub leaf : e < length ins
   pub few : count ≤ 384
@@ -90,7 +90,7 @@ pub record AllPlantable (ins : List ℕ) (e : ℕ) (steps : List ℕ) (count : �
   pub room : length buffer ≡ 3584
 
 -- what it does: the tree of the steps stands around byte 1792, with at most four bytes for a step on either side
-pub record AllPlanted (ins : List ℕ) (e : ℕ) (steps : List ℕ) (count : ℕ) (after : List ℕ) (from to : ℕ) : Type 0 where
+pub record StepsWritten (ins : List ℕ) (e : ℕ) (steps : List ℕ) (count : ℕ) (after : List ℕ) (from to : ℕ) : Type 0 where
   pub left : 1792 ≤ from + 4 * count
   pub ordered : from < to
   pub right : to ≤ 1793 + 4 * count
@@ -108,8 +108,8 @@ pub record InBody (outs marks : List ℕ) (n r from to m : ℕ) : Type 0 where
   pub inside : 2 * to ≤ length marks
   pub there : from + m < to
 
--- what climbing asks: letter m of a body, and room for an address of m numbers
-pub record Climbable (outs marks : List ℕ) (from m : ℕ) (area : List ℕ) (at : ℕ) : Type 0 where
+-- what writing an address asks: letter m of a body, and room for an address of m numbers
+pub record AddressAsked (outs marks : List ℕ) (from m : ℕ) (area : List ℕ) (at : ℕ) : Type 0 where
   pub low : (k : ℕ) → k < length outs → getD outs k 0 ≤ 4
   pub states : ℕ
   pub children : ℕ
@@ -124,6 +124,6 @@ pub record EndsBefore (v area : List ℕ) (at : ℕ) (after : List ℕ) (w : ℕ
   pub long : w + length v ≡ at
 
 -- what it does: the address of letter m ends before `at`, and has at most m numbers
-pub record Climbed (outs marks : List ℕ) (from m : ℕ) (area : List ℕ) (at : ℕ) (after : List ℕ) (w : ℕ) : Type 0 where
+pub record AddressWritten (outs marks : List ℕ) (from m : ℕ) (area : List ℕ) (at : ℕ) (after : List ℕ) (w : ℕ) : Type 0 where
   pub near : at ≤ w + m
   pub address : (n r to : ℕ) → InBody outs marks n r from to m → EndsBefore (place (first (forest (markOf outs n r) (part marks from to))) m) area at after w

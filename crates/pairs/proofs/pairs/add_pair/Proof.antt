@@ -10,14 +10,17 @@ use Rattle.pairs.proofs.pairs.add_pair.Tie as tie
 mul-pairs : tie.Need-mul-pairs
 mul-pairs c = search needs
 
+add-pairs : tie.Need-add-pairs
+add-pairs c = search needs
+
 element-write-pairs : tie.Need-element-write-pairs
 element-write-pairs c = search needs
 
 mul-pairs-2 : tie.Need-mul-pairs-2
 mul-pairs-2 c = search needs
 
-add-pairs : tie.Need-add-pairs
-add-pairs c = search needs
+add-pairs-2 : tie.Need-add-pairs-2
+add-pairs-2 c = search needs
 
 element-write-pairs-2 : tie.Need-element-write-pairs-2
 element-write-pairs-2 c = search needs
@@ -28,8 +31,8 @@ cast-pairs c = search needs
 mul-pairs-3 : tie.Need-mul-pairs-3
 mul-pairs-3 c = search needs
 
-add-pairs-2 : tie.Need-add-pairs-2
-add-pairs-2 c = search needs
+add-pairs-3 : tie.Need-add-pairs-3
+add-pairs-3 c = search needs
 
 element-write-pairs-3 : tie.Need-element-write-pairs-3
 element-write-pairs-3 c = search needs
@@ -40,8 +43,8 @@ cast-pairs-2 c = search needs
 mul-pairs-4 : tie.Need-mul-pairs-4
 mul-pairs-4 c = search needs
 
-add-pairs-3 : tie.Need-add-pairs-3
-add-pairs-3 c = search needs
+add-pairs-4 : tie.Need-add-pairs-4
+add-pairs-4 c = search needs
 
 element-write-pairs-4 : tie.Need-element-write-pairs-4
 element-write-pairs-4 c = search needs
@@ -52,8 +55,8 @@ cast-pairs-3 c = search needs
 mul-pairs-5 : tie.Need-mul-pairs-5
 mul-pairs-5 c = search needs
 
-add-pairs-4 : tie.Need-add-pairs-4
-add-pairs-4 c = search needs
+add-pairs-5 : tie.Need-add-pairs-5
+add-pairs-5 c = search needs
 
 element-write-pairs-5 : tie.Need-element-write-pairs-5
 element-write-pairs-5 c = search needs
@@ -61,8 +64,8 @@ element-write-pairs-5 c = search needs
 mul-pairs-6 : tie.Need-mul-pairs-6
 mul-pairs-6 c = search needs
 
-add-pairs-5 : tie.Need-add-pairs-5
-add-pairs-5 c = search needs
+add-pairs-6 : tie.Need-add-pairs-6
+add-pairs-6 c = search needs
 
 element-write-pairs-6 : tie.Need-element-write-pairs-6
 element-write-pairs-6 c = search needs
@@ -75,23 +78,24 @@ add-pair-spec =
     tie.close
     (tie.spec
     mul-pairs
+    add-pairs
     element-write-pairs
     mul-pairs-2
-    add-pairs
+    add-pairs-2
     element-write-pairs-2
     cast-pairs
     mul-pairs-3
-    add-pairs-2
+    add-pairs-3
     element-write-pairs-3
     cast-pairs-2
     mul-pairs-4
-    add-pairs-3
+    add-pairs-4
     element-write-pairs-4
     cast-pairs-3
     mul-pairs-5
-    add-pairs-4
+    add-pairs-5
     element-write-pairs-5
     mul-pairs-6
-    add-pairs-5
+    add-pairs-6
     element-write-pairs-6
     returns)

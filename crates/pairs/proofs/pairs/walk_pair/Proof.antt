@@ -1,7 +1,7 @@
 -- `walk_pair` meets its contract: bodies that go in step as far as the shorter one are of one size. Assumes nothing.
 use native.Mathlib.Omega.{arith}
 use borrow.Author.Needs.{needs}
-use Rattle.pairs.proofs.Searching.{walk-there, walk-ordered, walk-inside, size-of, walk-clash, walk-meetable, walk-alike}
+use Rattle.pairs.proofs.Searching.{walk-there, walk-ordered, walk-inside, size-of, walk-clash, walk-joinable, walk-alike}
 use Rattle.pairs.proofs.pairs.walk_pair.Statement.{statement}
 use Rattle.pairs.proofs.pairs.walk_pair.Tie as tie
 
@@ -56,8 +56,8 @@ sub-smaller-2 c = omega (arith, walk-ordered (c .before .before .before .before 
 smaller-requires : tie.Need-smaller-requires
 smaller-requires c κs = search needs
 
-part-at-requires : tie.Need-part-at-requires
-part-at-requires c κs =
+first-clash-requires : tie.Need-first-clash-requires
+first-clash-requires c κs =
     let i = walk-inside (c .before .before .before .before .before .before .before .before .before .before .before .before .before .before .before .before .pre) in
     let o = walk-ordered (c .before .before .before .before .before .before .before .before .before .before .before .before .before .before .before .before .pre) in
     (omega (arith, i .0, o .0, c .before .before .before .before .before .before .before .number .ensures, c .before .before .before .number3 .ensures, c .before .before .before .before .before .number2 .ensures, c .before .number4 .ensures, c .smaller .ensures), omega (arith, i .1, o .1, c .before .before .before .before .before .before .before .number .ensures, c .before .before .before .number3 .ensures, c .before .before .before .before .before .number2 .ensures, c .before .number4 .ensures, c .smaller .ensures))
@@ -65,12 +65,12 @@ part-at-requires c κs =
 returns : tie.Need-returns
 returns c =
     let W = c .before .before .before .before .before .before .before .before .before .before .before .before .before .before .before .before .before .before .pre in
-    walk-clash W (size-of (c .before .before .before .before .before .before .before .before .before .number .ensures) (c .before .before .before .before .before .before .before .number2 .ensures) (c .before .before .before .before .before .number3 .ensures) (c .before .before .before .number4 .ensures) (c .before .before .smaller .ensures)) (rw (c .before .before .before .before .before .before .before .before .before .number .ensures, c .before .before .before .before .before .before .before .number2 .ensures) at (c .before .part-at .ensures)) (c .if1 .taken)
+    walk-clash W (size-of (c .before .before .before .before .before .before .before .before .before .number .ensures) (c .before .before .before .before .before .before .before .number2 .ensures) (c .before .before .before .before .before .number3 .ensures) (c .before .before .before .number4 .ensures) (c .before .before .smaller .ensures)) (rw (c .before .before .before .before .before .before .before .before .before .number .ensures, c .before .before .before .before .before .before .before .number2 .ensures) at (c .before .first-clash .ensures)) (c .if1 .taken)
 
-meet-marks-requires : tie.Need-meet-marks-requires
-meet-marks-requires c κs =
+join-marks-requires : tie.Need-join-marks-requires
+join-marks-requires c κs =
     let W = c .before .before .before .before .before .before .before .before .before .before .before .before .before .before .before .before .before .before .before .before .before .pre in
-    (rw (c .before .before .before .before .before .before .before .before .before .before .before .before .number .ensures, c .before .before .before .before .before .before .before .before .before .before .number2 .ensures) (walk-meetable W (size-of (c .before .before .before .before .before .before .before .before .before .before .before .before .number .ensures) (c .before .before .before .before .before .before .before .before .before .before .number2 .ensures) (c .before .before .before .before .before .before .before .before .number3 .ensures) (c .before .before .before .before .before .before .number4 .ensures) (c .before .before .before .before .before .smaller .ensures)) (rw (c .before .before .before .before .before .before .before .before .before .before .before .before .number .ensures, c .before .before .before .before .before .before .before .before .before .before .number2 .ensures) at (c .before .before .before .before .part-at .ensures)) (λ h. omega (arith, h, c .before .before .before .if1 .left))), omega (arith, W .parent, W .searching .merging .few), W .symbol)
+    (rw (c .before .before .before .before .before .before .before .before .before .before .before .before .number .ensures, c .before .before .before .before .before .before .before .before .before .before .number2 .ensures) (walk-joinable W (size-of (c .before .before .before .before .before .before .before .before .before .before .before .before .number .ensures) (c .before .before .before .before .before .before .before .before .before .before .number2 .ensures) (c .before .before .before .before .before .before .before .before .number3 .ensures) (c .before .before .before .before .before .before .number4 .ensures) (c .before .before .before .before .before .smaller .ensures)) (rw (c .before .before .before .before .before .before .before .before .before .before .before .before .number .ensures, c .before .before .before .before .before .before .before .before .before .before .number2 .ensures) at (c .before .before .before .before .first-clash .ensures)) (λ h. omega (arith, h, c .before .before .before .if1 .left))), omega (arith, W .parent, W .searching .merging .few), W .symbol)
 
 same-length : tie.Need-same-length
 same-length c = search needs
@@ -81,7 +81,7 @@ same-length-2 c = search needs
 returns-2 : tie.Need-returns-2
 returns-2 c =
     let W = c .before .before .before .before .before .before .before .before .before .before .before .before .before .before .before .before .before .before .before .before .before .before .before .before .before .before .pre in
-    walk-alike W (size-of (c .before .before .before .before .before .before .before .before .before .before .before .before .before .before .before .before .before .number .ensures) (c .before .before .before .before .before .before .before .before .before .before .before .before .before .before .before .number2 .ensures) (c .before .before .before .before .before .before .before .before .before .before .before .before .before .number3 .ensures) (c .before .before .before .before .before .before .before .before .before .before .before .number4 .ensures) (c .before .before .before .before .before .before .before .before .before .before .smaller .ensures)) (rw (c .before .before .before .before .before .before .before .before .before .before .before .before .before .before .before .before .before .number .ensures, c .before .before .before .before .before .before .before .before .before .before .before .before .before .before .before .number2 .ensures) at (c .before .before .before .before .before .before .before .before .before .part-at .ensures)) (λ h. omega (arith, h, c .before .before .before .before .before .before .before .before .if1 .left)) (rw (c .before .before .before .before .before .before .before .before .before .before .before .before .before .before .before .before .before .number .ensures, c .before .before .before .before .before .before .before .before .before .before .before .before .before .before .before .number2 .ensures) at (c .before .before .before .before .meet-marks .ensures))
+    walk-alike W (size-of (c .before .before .before .before .before .before .before .before .before .before .before .before .before .before .before .before .before .number .ensures) (c .before .before .before .before .before .before .before .before .before .before .before .before .before .before .before .number2 .ensures) (c .before .before .before .before .before .before .before .before .before .before .before .before .before .number3 .ensures) (c .before .before .before .before .before .before .before .before .before .before .before .number4 .ensures) (c .before .before .before .before .before .before .before .before .before .before .smaller .ensures)) (rw (c .before .before .before .before .before .before .before .before .before .before .before .before .before .before .before .before .before .number .ensures, c .before .before .before .before .before .before .before .before .before .before .before .before .before .before .before .number2 .ensures) at (c .before .before .before .before .before .before .before .before .before .first-clash .ensures)) (λ h. omega (arith, h, c .before .before .before .before .before .before .before .before .if1 .left)) (rw (c .before .before .before .before .before .before .before .before .before .before .before .before .before .before .before .before .before .number .ensures, c .before .before .before .before .before .before .before .before .before .before .before .before .before .before .before .number2 .ensures) at (c .before .before .before .before .join-marks .ensures))
 
 pub walk-pair-spec : {M : Type 1} → statement M
 walk-pair-spec =
@@ -104,9 +104,9 @@ walk-pair-spec =
     number-requires-4
     sub-smaller-2
     smaller-requires
-    part-at-requires
+    first-clash-requires
     returns
-    meet-marks-requires
+    join-marks-requires
     same-length
     same-length-2
     returns-2)

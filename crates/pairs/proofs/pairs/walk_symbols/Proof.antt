@@ -19,6 +19,9 @@ abbrev μ-loop : tie.MeasureT-loop
 mul-wide : tie.Need-mul-wide Inv-loop μ-loop
 mul-wide c = omega (arith, c .before .before .before .before .before .before .before .pre .0 .merging .few, c .before .before .before .before .before .before .before .pre .0 .merging .room, c .before .before .before .before .before .before .before .pre .1)
 
+add-wide : tie.Need-add-wide Inv-loop μ-loop
+add-wide c = omega (arith, c .before .before .before .before .before .before .before .pre .0 .merging .few, c .before .before .before .before .before .before .before .pre .0 .merging .room, c .before .before .before .before .before .before .before .pre .1)
+
 element-copy-out-wide : tie.Need-element-copy-out-wide Inv-loop μ-loop
 element-copy-out-wide c = omega (arith, c .before .before .before .before .before .before .before .pre .0 .merging .few, c .before .before .before .before .before .before .before .pre .0 .merging .room, c .before .before .before .before .before .before .before .pre .1)
 
@@ -28,8 +31,8 @@ wide-requires c κs = search needs
 mul-wide-2 : tie.Need-mul-wide-2 Inv-loop μ-loop
 mul-wide-2 c = omega (arith, c .before .before .before .before .before .before .before .before .before .pre .0 .merging .few, c .before .before .before .before .before .before .before .before .before .pre .0 .merging .room, c .before .before .before .before .before .before .before .before .before .pre .1)
 
-add-wide : tie.Need-add-wide Inv-loop μ-loop
-add-wide c = omega (arith, c .before .before .before .before .before .before .before .before .before .pre .0 .merging .few, c .before .before .before .before .before .before .before .before .before .pre .0 .merging .room, c .before .before .before .before .before .before .before .before .before .pre .1)
+add-wide-2 : tie.Need-add-wide-2 Inv-loop μ-loop
+add-wide-2 c = omega (arith, c .before .before .before .before .before .before .before .before .before .pre .0 .merging .few, c .before .before .before .before .before .before .before .before .before .pre .0 .merging .room, c .before .before .before .before .before .before .before .before .before .pre .1)
 
 element-copy-out-wide-2 : tie.Need-element-copy-out-wide-2 Inv-loop μ-loop
 element-copy-out-wide-2 c = omega (arith, c .before .before .before .before .before .before .before .before .before .pre .0 .merging .few, c .before .before .before .before .before .before .before .before .before .pre .0 .merging .room, c .before .before .before .before .before .before .before .before .before .pre .1)
@@ -104,10 +107,11 @@ walk-symbols-spec =
     Inv-loop
     μ-loop
     mul-wide
+    add-wide
     element-copy-out-wide
     wide-requires
     mul-wide-2
-    add-wide
+    add-wide-2
     element-copy-out-wide-2
     wide-requires-2
     loop-holds

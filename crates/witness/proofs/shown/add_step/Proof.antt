@@ -1,12 +1,12 @@
 -- `add_step` meets its contract. Assumes nothing.
 use native.Mathlib.Omega.{arith}
 use borrow.Author.Needs.{needs}
-use Rattle.witness.proofs.Planting.{to-plant, to-wrap, added-leaves, added-above}
+use Rattle.witness.proofs.Wrapping.{symbol-asked, to-wrap, added-leaves, added-above}
 use Rattle.witness.proofs.shown.add_step.Statement.{statement}
 use Rattle.witness.proofs.shown.add_step.Tie as tie
 
 write-symbol-requires : tie.Need-write-symbol-requires
-write-symbol-requires c κs = to-plant (c .before .before .before .before .pre)
+write-symbol-requires c κs = symbol-asked (c .before .before .before .before .pre)
 
 same-length : tie.Need-same-length
 same-length c = search needs

@@ -3,7 +3,7 @@ use mathlib.Core.Path.{_∙_}
 use native.Mathlib.Omega.{arith}
 use denote.Ref.{now}
 use borrow.Author.Needs.{needs}
-use Rattle.witness.proofs.Climbing.{rank-call, rank-symbol, rank-unknown}
+use Rattle.witness.proofs.Addresses.{rank-call, rank-symbol, rank-unknown}
 use Rattle.witness.proofs.shown.mark_rank.Statement.{statement}
 use Rattle.witness.proofs.shown.mark_rank.Tie as tie
 

@@ -5,7 +5,7 @@ use mathlib.Core.Path.{refl, ap, _∙_}
 use lib.ListN.{length-set}
 use denote.Ref.{now}
 use borrow.Author.Needs.{needs}
-use Rattle.witness.proofs.Planting.{wrapped}
+use Rattle.witness.proofs.Wrapping.{wrapped}
 use Rattle.witness.proofs.shown.wrap.Statement.{statement}
 use Rattle.witness.proofs.shown.wrap.Tie as tie
 

@@ -7,18 +7,18 @@ use lib.ListN.{length, length-set}
 use denote.Ref.{now}
 use Rattle.formats.specs.Inner.Layout.{markAt}
 use Rattle.witness.specs.Inner.Shown.{InBody}
-use Rattle.witness.proofs.Climbing.{rank-low, Climbing, climbing-start, climbing-room, climbing-few, climbing-up, climbing-past, climbing-done}
+use Rattle.witness.proofs.Addresses.{rank-low, AddressLoop, address-start, address-room, address-few, address-up, address-past, address-done}
 use Rattle.witness.proofs.shown.write_address.Statement.{statement}
 use Rattle.witness.proofs.shown.write_address.Tie as tie
 
 abbrev Inv-loop : tie.InvT-loop
-Inv-loop outs marks from m place₀ at w₀ between₀ j₀ place w between j = (length place ≡ length place₀) × ((n r to : ℕ) → InBody outs marks n r from to m → Climbing outs marks n r from to m place₀ at place w between j)
+Inv-loop outs marks from m place₀ at w₀ between₀ j₀ place w between j = (length place ≡ length place₀) × ((n r to : ℕ) → InBody outs marks n r from to m → AddressLoop outs marks n r from to m place₀ at place w between j)
 
 abbrev μ-loop : tie.MeasureT-loop
 μ-loop outs marks from m place₀ at w₀ between₀ j₀ place w between j = j
 
 loop-holds : tie.Need-loop-holds Inv-loop μ-loop
-loop-holds c = (refl, λ n r to B. climbing-start B)
+loop-holds c = (refl, λ n r to B. address-start B)
 
 sub-j : tie.Need-sub-j Inv-loop μ-loop
 sub-j c = search needs
@@ -42,14 +42,14 @@ sub-w c =
     let P = c .before .before .before .before .before .before .before .pre in
     let l = c .before .before .before .loop in
     let C = l .inv .1 (P .states) (P .children) (P .to) (P .body) in
-    omega (arith, climbing-room (P .body) C, P .room)
+    omega (arith, address-room (P .body) C, P .room)
 
 add-place : tie.Need-add-place Inv-loop μ-loop
 add-place c =
     let P = c .before .before .before .before .before .before .before .pre in
     let l = c .before .before .before .loop in
     let C = l .inv .1 (P .states) (P .children) (P .to) (P .body) in
-    omega (arith, climbing-few (P .body) C)
+    omega (arith, address-few (P .body) C)
 
 cast-place : tie.Need-cast-place Inv-loop μ-loop
 cast-place c =
@@ -61,7 +61,7 @@ slice-write-place c =
     let P = c .before .before .before .before .before .before .before .pre in
     let l = c .before .before .before .loop in
     let C = l .inv .1 (P .states) (P .children) (P .to) (P .body) in
-    omega (arith, climbing-room (P .body) C, P .room, C .ends .long, P .end, l .inv .0)
+    omega (arith, address-room (P .body) C, P .room, C .ends .long, P .end, l .inv .0)
 
 loop-less : tie.Need-loop-less Inv-loop μ-loop
 loop-less c = search needs
@@ -71,14 +71,14 @@ loop-again c =
     let P = c .before .before .before .before .before .before .before .pre in
     let l = c .before .before .before .loop in
     let C = l .inv .1 (P .states) (P .children) (P .to) (P .body) in
-    (length-set (l .place) (l .w - 1) (l .between + 1) ∙ l .inv .0, λ n r to B. climbing-up B (l .inv .1 n r to B) (omega (arith, c .before .before .loop-test .taken)) (c .before .mark-rank .ensures) (c .if1 .taken) refl (omega (arith, climbing-room (P .body) C, P .room)))
+    (length-set (l .place) (l .w - 1) (l .between + 1) ∙ l .inv .0, λ n r to B. address-up B (l .inv .1 n r to B) (omega (arith, c .before .before .loop-test .taken)) (c .before .mark-rank .ensures) (c .if1 .taken) refl (omega (arith, address-room (P .body) C, P .room)))
 
 add-between : tie.Need-add-between Inv-loop μ-loop
 add-between c =
     let P = c .before .before .before .before .before .before .before .pre in
     let l = c .before .before .before .loop in
     let C = l .inv .1 (P .states) (P .children) (P .to) (P .body) in
-    omega (arith, climbing-few (P .body) C)
+    omega (arith, address-few (P .body) C)
 
 sub-between : tie.Need-sub-between Inv-loop μ-loop
 sub-between c = search needs
@@ -89,7 +89,7 @@ loop-less-2 c = search needs
 loop-again-2 : tie.Need-loop-again-2 Inv-loop μ-loop
 loop-again-2 c =
     let l = c .before .before .before .loop in
-    (l .inv .0, λ n r to B. climbing-past B (l .inv .1 n r to B) (omega (arith, c .before .before .loop-test .taken)) (c .before .mark-rank .ensures) (c .if1 .left))
+    (l .inv .0, λ n r to B. address-past B (l .inv .1 n r to B) (omega (arith, c .before .before .loop-test .taken)) (c .before .mark-rank .ensures) (c .if1 .left))
 
 same-length : tie.Need-same-length Inv-loop μ-loop
 same-length c = c .before .loop .inv .0
@@ -99,7 +99,7 @@ returns c =
     let P = c .before .before .before .before .before .pre in
     let l = c .before .loop in
     let C = l .inv .1 (P .states) (P .children) (P .to) (P .body) in
-    record { near = omega (arith, climbing-room (P .body) C); address = λ n r to B. climbing-done B (l .inv .1 n r to B) (omega (arith, c .loop-test .left)) }
+    record { near = omega (arith, address-room (P .body) C); address = λ n r to B. address-done B (l .inv .1 n r to B) (omega (arith, c .loop-test .left)) }
 
 pub write-address-spec : {M : Type 1} → statement M
 write-address-spec =

@@ -2,12 +2,12 @@
 use native.Mathlib.Omega.{arith}
 use mathlib.Core.Path.{refl, sym, _∙_}
 use borrow.Author.Needs.{needs}
-use Rattle.witness.proofs.Planting.{Planting, planting-start, planting-asks, planting-next, planting-done}
+use Rattle.witness.proofs.Wrapping.{StepsLoop, steps-loop-start, steps-loop-asks, steps-loop-next, steps-loop-done}
 use Rattle.witness.proofs.shown.write_steps.Statement.{statement}
 use Rattle.witness.proofs.shown.write_steps.Tie as tie
 
 abbrev Inv-loop : tie.InvT-loop
-Inv-loop ins e steps count buffer₀ from₀ to₀ k₀ buffer from to k = Planting ins e steps count buffer from to k
+Inv-loop ins e steps count buffer₀ from₀ to₀ k₀ buffer from to k = StepsLoop ins e steps count buffer from to k
 
 abbrev μ-loop : tie.MeasureT-loop
 μ-loop ins e steps count buffer₀ from₀ to₀ k₀ buffer from to k = k
@@ -19,7 +19,7 @@ slice-write-buffer : tie.Need-slice-write-buffer Inv-loop μ-loop
 slice-write-buffer c = omega (arith, c .before .before .before .pre .room)
 
 loop-holds : tie.Need-loop-holds Inv-loop μ-loop
-loop-holds c = planting-start (c .before .before .before .pre) refl
+loop-holds c = steps-loop-start (c .before .before .before .pre) refl
 
 sub-k : tie.Need-sub-k Inv-loop μ-loop
 sub-k c = search needs
@@ -46,19 +46,19 @@ wide-requires-2 : tie.Need-wide-requires-2 Inv-loop μ-loop
 wide-requires-2 c κs = search needs
 
 add-step-requires : tie.Need-add-step-requires Inv-loop μ-loop
-add-step-requires c κs = planting-asks (c .before .before .before .before .before .before .before .before .before .before .pre) (c .before .before .before .before .before .before .loop .inv) (c .before .before .before .before .before .loop-test .taken) (c .before .before .before .wide .ensures) (c .before .wide2 .ensures)
+add-step-requires c κs = steps-loop-asks (c .before .before .before .before .before .before .before .before .before .before .pre) (c .before .before .before .before .before .before .loop .inv) (c .before .before .before .before .before .loop-test .taken) (c .before .before .before .wide .ensures) (c .before .wide2 .ensures)
 
 loop-less : tie.Need-loop-less Inv-loop μ-loop
 loop-less c = search needs
 
 loop-again : tie.Need-loop-again Inv-loop μ-loop
-loop-again c = planting-next (c .before .before .before .before .before .before .before .before .before .before .before .before .before .pre) (c .before .before .before .before .before .before .before .before .before .loop .inv) (c .before .before .before .before .before .before .before .before .loop-test .taken) (c .before .before .before .before .before .before .wide .ensures) (c .before .before .before .before .wide2 .ensures) (c .before .before .add-step .kept .1 .1 .1 .1 .0) (c .before .before .add-step .ensures)
+loop-again c = steps-loop-next (c .before .before .before .before .before .before .before .before .before .before .before .before .before .pre) (c .before .before .before .before .before .before .before .before .before .loop .inv) (c .before .before .before .before .before .before .before .before .loop-test .taken) (c .before .before .before .before .before .before .wide .ensures) (c .before .before .before .before .wide2 .ensures) (c .before .before .add-step .kept .1 .1 .1 .1 .0) (c .before .before .add-step .ensures)
 
 same-length : tie.Need-same-length Inv-loop μ-loop
 same-length c = c .before .loop .inv .room ∙ sym (c .before .before .before .before .before .pre .room)
 
 returns : tie.Need-returns Inv-loop μ-loop
-returns c = planting-done (c .before .before .before .before .before .pre) (c .before .loop .inv) (omega (arith, c .loop-test .left))
+returns c = steps-loop-done (c .before .before .before .before .before .pre) (c .before .loop .inv) (omega (arith, c .loop-test .left))
 
 pub write-steps-spec : {M : Type 1} → statement M
 write-steps-spec =

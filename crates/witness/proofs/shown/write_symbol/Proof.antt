@@ -4,7 +4,7 @@ use mathlib.Core.Path.{refl, _∙_}
 use lib.ListN.{length-set}
 use denote.Ref.{now}
 use borrow.Author.Needs.{needs}
-use Rattle.witness.proofs.Planting.{planted}
+use Rattle.witness.proofs.Wrapping.{symbol-written}
 use Rattle.witness.proofs.shown.write_symbol.Statement.{statement}
 use Rattle.witness.proofs.shown.write_symbol.Tie as tie
 
@@ -47,7 +47,7 @@ same-length c =
     c .before .before .fill .kept .0 ∙ length-set (now (a .buffer)) (a .at) (a .a)
 
 returns : tie.Need-returns
-returns c = planted (c .before .before .before .before .before .before .before .before .pre) (c .before .before .before .before .wide .ensures) (c .before .before .fill .ensures) refl
+returns c = symbol-written (c .before .before .before .before .before .before .before .before .pre) (c .before .before .before .before .wide .ensures) (c .before .before .fill .ensures) refl
 
 pub write-symbol-spec : {M : Type 1} → statement M
 write-symbol-spec =

@@ -2,7 +2,7 @@
 use Prim.Native.Nat.{ℕ}
 use native.Mathlib.Omega.{arith}
 use lib.ListN.{length-replicate, getD-replicate}
-use Rattle.witness.proofs.Falling.{filled-falls}
+use Rattle.witness.proofs.Decreasing.{filled-path}
 use borrow.Author.Needs.{needs}
 use Rattle.witness.proofs.witness.path_from.Statement.{statement}
 use Rattle.witness.proofs.witness.path_from.Tie as tie
@@ -24,7 +24,7 @@ slice-aggregate-write-path c = search needs
 write-path-requires : tie.Need-write-path-requires
 write-path-requires c κs =
     let P = c .before .before .before .before .before .before .before .before .before .pre in
-    filled-falls (record { outs = P .outs; layout = P .layout; leaf = P .leaf; long = omega (arith, P .layout .few-states, c .before .before .before .fill-distances .kept .1 .1 .1 .1 .1 .0, length-replicate {A = ℕ} 128 0) }) (c .before .before .before .fill-distances .ensures) (P .earliest) (P .state) (P .room)
+    filled-path (record { outs = P .outs; layout = P .layout; leaf = P .leaf; long = omega (arith, P .layout .few-states, c .before .before .before .fill-distances .kept .1 .1 .1 .1 .1 .0, length-replicate {A = ℕ} 128 0) }) (c .before .before .before .fill-distances .ensures) (P .earliest) (P .state) (P .room)
 
 same-length : tie.Need-same-length
 same-length c = search needs

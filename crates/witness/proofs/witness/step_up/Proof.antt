@@ -1,6 +1,6 @@
 -- `step_up` meets its contract. Assumes nothing.
 use native.Mathlib.Omega.{arith}
-use Rattle.witness.proofs.Rising.{up-none, up-step}
+use Rattle.witness.proofs.WayBack.{up-none, up-step}
 use borrow.Author.Needs.{needs}
 use Rattle.witness.proofs.witness.step_up.Statement.{statement}
 use Rattle.witness.proofs.witness.step_up.Tie as tie

@@ -1,4 +1,4 @@
--- `part_at` meets its contract. The invariant: the marks passed go in step. Assumes nothing.
+-- `first_clash` meets its contract. The invariant: the marks passed go in step. Assumes nothing.
 use Prim.Native.Nat.{ℕ, _+_, _-_, _≤_, _<_}
 use native.Mathlib.Omega.{arith}
 use mathlib.Core.Logic.{⊎-elim}
@@ -6,8 +6,8 @@ use borrow.Author.Count.{below-more}
 use denote.Ref.{now}
 use Rattle.pairs.specs.Inner.Pairs.{InStep}
 use Rattle.pairs.proofs.Stepping.{clash-first, clash-second}
-use Rattle.pairs.proofs.pairs.part_at.Statement.{statement}
-use Rattle.pairs.proofs.pairs.part_at.Tie as tie
+use Rattle.pairs.proofs.pairs.first_clash.Statement.{statement}
+use Rattle.pairs.proofs.pairs.first_clash.Tie as tie
 
 abbrev Inv-loop : tie.InvT-loop
 Inv-loop marks1 i marks2 j n k₀ k = (k ≤ n) × ((h : ℕ) → h < k → InStep marks1 marks2 (i + h) (j + h))
@@ -87,8 +87,8 @@ loop-again c =
 returns-3 : tie.Need-returns-3 Inv-loop μ-loop
 returns-3 c = record { small = omega arith; step = λ k h. c .before .loop .inv .1 k (omega arith); clash = λ h. absurd (omega arith) }
 
-pub part-at-spec : {M : Type 1} → statement M
-part-at-spec =
+pub first-clash-spec : {M : Type 1} → statement M
+first-clash-spec =
     tie.close
     (tie.spec
     Inv-loop

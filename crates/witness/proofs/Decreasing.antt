@@ -1,4 +1,4 @@
--- The fall along the distances: steps that lead to a root symbol other than b are a fall of the theory, and writing them one after the other ends with one.
+-- The path along which the distances decrease: steps that lead to a root symbol other than b are a fall of the theory, and writing them one after the other ends with one.
 -- Assumes nothing.
 use Prim.Native.Nat.{ℕ, suc, _+_, _*_, _≤_, _<_}
 use native.Mathlib.Numerals.{add-one}
@@ -26,7 +26,7 @@ use Rattle.formats.proofs.Pairs.{pairs-length}
 use Rattle.prefixes.specs.Alphabet.{alphabet}
 use Rattle.prefixes.specs.Inner.Heads.{machine, Layout}
 use Rattle.prefixes.proofs.Settling.{machine-wf}
-use Rattle.witness.specs.Inner.Other.{firstMark, stepDistance, Searched, FillsDistances, Settable, Steppable, PutsStep, Fallable, FallsTo, Falling}
+use Rattle.witness.specs.Inner.Other.{firstMark, stepDistance, DistanceTable, FillsDistances, Settable, Steppable, PutsStep, PathAsked, PathTo, DecreasingPath}
 use Rattle.witness.specs.Inner.Shown.{stepsTree}
 use Rattle.witness.proofs.Firsts.{First, first-symbol, first-call, first-mark, Seen, seen-root, seen-call, seen, allowed-here, sound-founded}
 use Rattle.witness.proofs.Distances.{low}
@@ -41,36 +41,36 @@ pub leads-other : {ins starts bytes : List ℕ} {b q x : ℕ} {ss : List Mark} �
 leads-other (leads-end h e o) = o
 leads-other (leads-on h e s) = leads-other s
 
--- ---- they are a fall
+-- ---- they are a fall of the theory
 module _ {ins outs starts bytes : List ℕ} {n : ℕ} (L : Layout ins outs starts bytes n) (l : Leaf ins) (b : ℕ) where
-  end-falls : {q a x : ℕ} {t : Term (ℕ × ℕ)} {m : Mark} → a < length ins → m ≡ (0, x) → x ≢ b → machine ins outs starts bytes n .rhs q a ≡ t → First outs n (getD ins a 0) t m → FallsTo ins outs l starts bytes n b q 1 ((a, 0) ∷ []) x
+  end-path : {q a x : ℕ} {t : Term (ℕ × ℕ)} {m : Mark} → a < length ins → m ≡ (0, x) → x ≢ b → machine ins outs starts bytes n .rhs q a ≡ t → First outs n (getD ins a 0) t m → PathTo ins outs l starts bytes n b q 1 ((a, 0) ∷ []) x
   unfolding stepsTree bind symbol
-  end-falls {q} {a} {x} h e o f (first-symbol {x = y} {ts} g c) =
+  end-path {q} {a} {x} h e o f (first-symbol {x = y} {ts} g c) =
       let z : y ≡ x = ap (λ (s : Mark). s .1) e in
       record {
-        falls = fall-root (record { allowed = allowed-here L l q h; name = y; below = ts; is = f; other = λ w. o (sym z ∙ ap (λ (s : ℕ × ℕ). s .0) w) });
+        path = fall-root (record { allowed = allowed-here L l q h; name = y; below = ts; is = f; other = λ w. o (sym z ∙ ap (λ (s : ℕ × ℕ). s .0) w) });
         there = rw z at g;
         shown = rw (output-node (machine ins outs starts bytes n) q a _, f, count-binds ts _, c, z);
       }
-  end-falls h e o f (first-call c) = let z = ap (λ (s : Mark). s .0) e in absurd (omega arith)
+  end-path h e o f (first-call c) = let z = ap (λ (s : Mark). s .0) e in absurd (omega arith)
 
-  on-falls : {q a i r x k : ℕ} {ss : List Mark} {t : Term (ℕ × ℕ)} {m : Mark} → q < n → a < length ins → m ≡ (suc i, r) → machine ins outs starts bytes n .rhs q a ≡ t → First outs n (getD ins a 0) t m → (r < n → FallsTo ins outs l starts bytes n b r k ss x) → FallsTo ins outs l starts bytes n b q (suc k) ((a, suc i) ∷ ss) x
+  on-path : {q a i r x k : ℕ} {ss : List Mark} {t : Term (ℕ × ℕ)} {m : Mark} → q < n → a < length ins → m ≡ (suc i, r) → machine ins outs starts bytes n .rhs q a ≡ t → First outs n (getD ins a 0) t m → (r < n → PathTo ins outs l starts bytes n b r k ss x) → PathTo ins outs l starts bytes n b q (suc k) ((a, suc i) ∷ ss) x
   unfolding stepsTree bind
-  on-falls h g e f (first-symbol d c) rest = let z = ap (λ (s : Mark). s .0) e in absurd (omega arith)
-  on-falls {q} {a} {i} {r} {ss = ss} h g e f (first-call {i = j} {p} c) rest =
+  on-path h g e f (first-symbol d c) rest = let z = ap (λ (s : Mark). s .0) e in absurd (omega arith)
+  on-path {q} {a} {i} {r} {ss = ss} h g e f (first-call {i = j} {p} c) rest =
       let M = machine ins outs starts bytes n in
       let C : CallsOnly (alphabet ins l) M q a (replicate (getD ins a 0) 0) (suc i) r = record { allowed = allowed-here L l q g; is = f ∙ ap var e } in
       let z : p ≡ r = ap (λ (s : Mark). s .1) e in
       let R = rest (rw z at (c .state)) in
       record {
-        falls = fall-call C (R .falls);
+        path = fall-call C (R .path);
         there = R .there;
         shown = rw (output-node M q a (put (alphabet ins l) (replicate (getD ins a 0) 0) (suc i) (stepsTree ins l ss)), C .is, call-put (alphabet ins l) (stepsTree ins l ss) M (replicate (getD ins a 0) 0) (suc i) r (only-call (machine-wf l (L .wholes)) h C .sort)) (R .shown);
       }
 
-  pub leads-falls : {q x : ℕ} {ss : List Mark} → q < n → Leads ins starts bytes b q ss x → FallsTo ins outs l starts bytes n b q (length ss) ss x
-  leads-falls h (leads-end g e o) = end-falls g e o refl (first-mark L h g)
-  leads-falls h (leads-on g e s) = on-falls h g e refl (first-mark L h g) (λ v. leads-falls v s)
+  pub leads-path : {q x : ℕ} {ss : List Mark} → q < n → Leads ins starts bytes b q ss x → PathTo ins outs l starts bytes n b q (length ss) ss x
+  leads-path h (leads-end g e o) = end-path g e o refl (first-mark L h g)
+  leads-path h (leads-on g e s) = on-path h g e refl (first-mark L h g) (λ v. leads-path v s)
 
 -- ---- one more step
 pairs-set : (s : List ℕ) (k a i : ℕ) → 2 * k + 1 < length s → pairs (set (set s (2 * k) a) (2 * k + 1) i) ≡ set (pairs s) k (a, i)
@@ -103,7 +103,7 @@ module _ (ins s : List ℕ) (k a i : ℕ) where
       (rw (e, f) (g, r))
 
 -- ---- the loop: step after step, until the distance is 1
-pub record FallLoop (ins starts bytes dist : List ℕ) (q b : ℕ) (steps₀ steps : List ℕ) (count p k : ℕ) : Type 0 where
+pub record PathLoop (ins starts bytes dist : List ℕ) (q b : ℕ) (steps₀ steps : List ℕ) (count p k : ℕ) : Type 0 where
   pub same-length : length steps ≡ length steps₀
   pub few : count ≤ 128
   pub less : k < count
@@ -122,9 +122,9 @@ root-view : {outs : List ℕ} {n r : ℕ} {dist : List ℕ} {b : ℕ} {t : Term 
 root-view e (seen-root {x} h f o) = (x, refl, o)
 root-view e (seen-call c f) = absurd (omega arith)
 
-module _ {ins starts bytes dist : List ℕ} {q b : ℕ} {steps₀ : List ℕ} (F : Fallable ins starts bytes dist q b steps₀) where
-  pub fall-start : {count : ℕ} → count ≡ getD dist q 0 → FallLoop ins starts bytes dist q b steps₀ steps₀ count q 0
-  fall-start e =
+module _ {ins starts bytes dist : List ℕ} {q b : ℕ} {steps₀ : List ℕ} (F : PathAsked ins starts bytes dist q b steps₀) where
+  pub decreasing-start : {count : ℕ} → count ≡ getD dist q 0 → PathLoop ins starts bytes dist q b steps₀ steps₀ count q 0
+  decreasing-start e =
       let T = F .at .table in
       let R : Settable ins starts bytes dist q b = record { at = F .at; founded = sound-founded (T .layout) (T .leaf) b dist (F .sound) } in
       record {
@@ -137,9 +137,9 @@ module _ {ins starts bytes dist : List ℕ} {q b : ℕ} {steps₀ : List ℕ} (F
         onward = λ ss x s. s;
       }
 
-  module _ {steps : List ℕ} {count p k : ℕ} (L : FallLoop ins starts bytes dist q b steps₀ steps count p k) where
-    pub fall-steppable : Steppable ins starts bytes dist p b × (2 * k + 1 < length steps)
-    fall-steppable = (record { at = L .ready .at; step = go (getD dist p 0) refl }, omega (arith, L .few, L .less, L .same-length, F .room))
+  module _ {steps : List ℕ} {count p k : ℕ} (L : PathLoop ins starts bytes dist q b steps₀ steps count p k) where
+    pub decreasing-steppable : Steppable ins starts bytes dist p b × (2 * k + 1 < length steps)
+    decreasing-steppable = (record { at = L .ready .at; step = go (getD dist p 0) refl }, omega (arith, L .few, L .less, L .same-length, F .room))
       where
         go : (d : ℕ) → getD dist p 0 ≡ d → (a : ℕ) × (a < length ins) × (stepDistance ins starts bytes dist b p a ≡ getD dist p 0)
         go ℕ.zero e = absurd (omega (arith, L .here, L .less))
@@ -155,16 +155,16 @@ module _ {ins starts bytes dist : List ℕ} {q b : ℕ} {steps₀ : List ℕ} (F
         wrote-here = P .wrote ∙ ap (λ (m : Mark). set (set steps (2 * k) (P .symbol)) (2 * k + 1) (m .0)) e
 
         part-here : part steps′ 0 (k + 1) ≡ part steps 0 k ++ ((P .symbol, i) ∷ [])
-        part-here = ap (λ l. part l 0 (k + 1)) wrote-here ∙ part-more steps k (P .symbol) i (fall-steppable .1)
+        part-here = ap (λ l. part l 0 (k + 1)) wrote-here ∙ part-more steps k (P .symbol) i (decreasing-steppable .1)
 
         inside-here : (j : ℕ) → j < k + 1 → StepIn ins steps′ j
-        inside-here = rw wrote-here (steps-in ins steps k (P .symbol) i (fall-steppable .1) (P .found .there) low (L .inside))
+        inside-here = rw wrote-here (steps-in ins steps k (P .symbol) i (decreasing-steppable .1) (P .found .there) low (L .inside))
 
         length-here : length steps′ ≡ length steps₀
         length-here = ap length wrote-here ∙ length-set (set steps (2 * k) (P .symbol)) (2 * k + 1) i ∙ length-set steps (2 * k) (P .symbol) ∙ L .same-length
 
-      fall-go : {d : ℕ} → k + 1 < count → getD dist p 0 ≡ suc (suc d) → FallLoop ins starts bytes dist q b steps₀ steps′ count r (k + 1)
-      fall-go {d} h e =
+      decreasing-go : {d : ℕ} → k + 1 < count → getD dist p 0 ≡ suc (suc d) → PathLoop ins starts bytes dist q b steps₀ steps′ count r (k + 1)
+      decreasing-go {d} h e =
           let w = call-view refl (step-seen e) in
           let z : r ≡ w .1 = P .onward ∙ ap (λ (m : Mark). m .1) (w .2) in
           record {
@@ -177,16 +177,16 @@ module _ {ins starts bytes dist : List ℕ} {q b : ℕ} {steps₀ : List ℕ} (F
             onward = λ ss x s. rw (part-here (w .2) (w .3), append-assoc) (L .onward ((P .symbol, suc (w .0)) ∷ ss) x (leads-on (P .found .there) (w .2) (rw z at s)));
           }
 
-      pub fall-next : k + 1 < count → FallLoop ins starts bytes dist q b steps₀ steps′ count r (k + 1)
-      fall-next h = go (getD dist p 0) refl
+      pub decreasing-next : k + 1 < count → PathLoop ins starts bytes dist q b steps₀ steps′ count r (k + 1)
+      decreasing-next h = go (getD dist p 0) refl
         where
-          go : (d : ℕ) → getD dist p 0 ≡ d → FallLoop ins starts bytes dist q b steps₀ steps′ count r (k + 1)
+          go : (d : ℕ) → getD dist p 0 ≡ d → PathLoop ins starts bytes dist q b steps₀ steps′ count r (k + 1)
           go ℕ.zero e = absurd (omega (arith, L .here))
           go (suc ℕ.zero) e = absurd (omega (arith, L .here))
-          go (suc (suc d)) e = fall-go h e
+          go (suc (suc d)) e = decreasing-go h e
 
-      pub fall-end : count ≡ getD dist q 0 → count ≤ k + 1 → Falling ins starts bytes dist q b steps′ count r
-      fall-end f h =
+      pub decreasing-end : count ≡ getD dist q 0 → count ≤ k + 1 → DecreasingPath ins starts bytes dist q b steps′ count r
+      decreasing-end f h =
           let w = root-view refl (step-seen {d = 0} (omega (arith, L .here, L .less))) in
           let z : r ≡ w .0 = P .onward ∙ ap (λ (m : Mark). m .1) (w .1) in
           let c : k + 1 ≡ count = omega (arith, L .less) in
@@ -197,12 +197,12 @@ module _ {ins starts bytes dist : List ℕ} {q b : ℕ} {steps₀ : List ℕ} (F
             few = L .few;
             inside = λ j g. inside-here (w .1) (omega arith) j (omega arith);
             other = leads-other s;
-            fall = λ outs l n Y v. rw size at (leads-falls Y l b v s);
+            leads = λ outs l n Y v. rw size at (leads-path Y l b v s);
           }
 
--- in the filled table of an earliest transducer every state can fall
-pub filled-falls : {ins starts bytes : List ℕ} {n b q : ℕ} {dist steps : List ℕ} (S : Searched ins starts bytes n dist) → FillsDistances ins starts bytes n b dist → Earliest (alphabet ins (S .leaf)) (machine ins (S .outs) starts bytes n) (λ p. p < n) → q < n → 256 ≤ length steps → Fallable ins starts bytes dist q b steps
-filled-falls {n = n} {q = q} S D E h r = record {
+-- in the filled table of an earliest transducer a path leads from every state
+pub filled-path : {ins starts bytes : List ℕ} {n b q : ℕ} {dist steps : List ℕ} (S : DistanceTable ins starts bytes n dist) → FillsDistances ins starts bytes n b dist → Earliest (alphabet ins (S .leaf)) (machine ins (S .outs) starts bytes n) (λ p. p < n) → q < n → 256 ≤ length steps → PathAsked ins starts bytes dist q b steps
+filled-path {n = n} {q = q} S D E h r = record {
   at = record { states = n; table = S; state = h };
   sound = D .sound (S .outs) (S .leaf) (S .layout);
   found = all-found (machine-wf (S .leaf) (S .layout .wholes)) (D .complete (S .outs) (S .leaf) (S .layout)) E q h;

@@ -16,7 +16,7 @@ use Rattle.formats.proofs.Pairs.{pairs-length, pairs-at}
 use Rattle.prefixes.specs.Alphabet.{alphabet}
 use Rattle.prefixes.proofs.Grafts.{slice-from}
 use Rattle.merging.proofs.Patterns.{slice-join}
-use Rattle.witness.specs.Inner.Shown.{stepsTree, Holds, Planted, Wrapped, Addable, Added, Plantable, Wrappable, Step, AllPlantable, AllPlanted}
+use Rattle.witness.specs.Inner.Shown.{stepsTree, Holds, SymbolWritten, Wrapped, Addable, Added, SymbolAsked, Wrappable, Step, StepsAsked, StepsWritten}
 
 -- ---- parts of what was written
 -- a list that was written stands where it was written
@@ -70,10 +70,10 @@ module _ (ins : List ℕ) (l : Leaf ins) (d : Tree) where
   put-code (suc r) (suc i) h = let e : r - suc i ≡ suc r - suc (suc i) = omega arith in ap (_∷_ (l .symbol)) (put-code r i (omega arith) ∙ ap (λ k. replicate i (l .symbol) ++ (code d ++ replicate k (l .symbol))) e)
 
 -- ---- a symbol with leaves alone
-module _ {ins buffer : List ℕ} {e a at : ℕ} (P : Plantable ins e a buffer at) where
-  pub planted : {after : List ℕ} {r to : ℕ} → r ≡ getD ins a 0 → after ≡ sets (set buffer at a) (at + 1) (replicate r e) → to ≡ at + 1 + r → Planted ins e a at after at to
+module _ {ins buffer : List ℕ} {e a at : ℕ} (P : SymbolAsked ins e a buffer at) where
+  pub symbol-written : {after : List ℕ} {r to : ℕ} → r ≡ getD ins a 0 → after ≡ sets (set buffer at a) (at + 1) (replicate r e) → to ≡ at + 1 + r → SymbolWritten ins e a at after at to
   unfolding flat
-  planted {after} {r} {to} f g h =
+  symbol-written {after} {r} {to} f g h =
       let low = P .symbols .ranks .low a (P .symbols .there) in
       let n = length-replicate r e in
       record {
@@ -121,13 +121,13 @@ module _ {ins buffer : List ℕ} {e a i lo hi : ℕ} (P : Wrappable ins e a i bu
 
 -- ---- a step more
 module _ {ins buffer : List ℕ} {e a i lo hi : ℕ} (P : Addable ins e a i buffer lo hi) where
-  pub to-plant : Plantable ins e a buffer lo
-  to-plant = record { symbols = P .symbols; room = omega (arith, P .ordered, P .right) }
+  pub symbol-asked : SymbolAsked ins e a buffer lo
+  symbol-asked = record { symbols = P .symbols; room = omega (arith, P .ordered, P .right) }
 
   pub to-wrap : 0 < i → Wrappable ins e a i buffer lo hi
   to-wrap h = record { symbols = P .symbols; from-one = h; child = P .child; left = P .left; ordered = omega (arith, P .ordered); right = P .right }
 
-  pub added-leaves : {after : List ℕ} {from to : ℕ} → i ≡ 0 → Planted ins e a lo after from to → Added ins e a i buffer lo hi after from to
+  pub added-leaves : {after : List ℕ} {from to : ℕ} → i ≡ 0 → SymbolWritten ins e a lo after from to → Added ins e a i buffer lo hi after from to
   added-leaves {after} {from} {to} z R =
       let low = P .symbols .ranks .low a (P .symbols .there) in
       record {
@@ -144,7 +144,7 @@ module _ {ins buffer : List ℕ} {e a i lo hi : ℕ} (P : Addable ins e a i buff
 
 -- ---- all steps
 -- the steps from number k on stand in the buffer
-pub record Planting (ins : List ℕ) (e : ℕ) (steps : List ℕ) (count : ℕ) (buffer : List ℕ) (from to k : ℕ) : Type 0 where
+pub record StepsLoop (ins : List ℕ) (e : ℕ) (steps : List ℕ) (count : ℕ) (buffer : List ℕ) (from to k : ℕ) : Type 0 where
   pub inside : k ≤ count
   pub room : length buffer ≡ 3584
   pub left : 1792 + 4 * k ≤ from + 4 * count
@@ -157,13 +157,13 @@ leaf-there : {ins : List ℕ} {e : ℕ} (l : Leaf ins) → l .symbol ≡ e → (
 unfolding stepsTree leafOf alphabet flat
 leaf-there {e = e} l z buffer at to f h = slice-sets (e ∷ []) buffer at to f h ∙ ap (λ x. x ∷ []) (sym z)
 
-module _ {ins steps buffer : List ℕ} {e count : ℕ} (P : AllPlantable ins e steps count buffer) where
+module _ {ins steps buffer : List ℕ} {e count : ℕ} (P : StepsAsked ins e steps count buffer) where
   steps-long : length (take count (pairs steps)) ≡ count
   steps-long = length-take-le count (pairs steps) (pairs-length steps count (P .long))
 
   -- no step: a leaf
-  pub planting-start : {after : List ℕ} → after ≡ set buffer 1792 e → Planting ins e steps count after 1792 1793 count
-  planting-start q = record {
+  pub steps-loop-start : {after : List ℕ} → after ≡ set buffer 1792 e → StepsLoop ins e steps count after 1792 1793 count
+  steps-loop-start q = record {
     inside = omega arith;
     room = ap length q ∙ length-set buffer 1792 e ∙ P .room;
     left = omega arith;
@@ -172,7 +172,7 @@ module _ {ins steps buffer : List ℕ} {e count : ℕ} (P : AllPlantable ins e s
     tree = λ l z. ap (slice 1792 1793) q ∙ leaf-there l z buffer 1792 1793 (omega arith) (omega (arith, P .room)) ∙ sym (ap (λ ss. code (stepsTree ins l ss)) (drop-of-length-le (take count (pairs steps)) {i = count} (omega (arith, steps-long))));
   }
 
-  module _ {now : List ℕ} {from to k : ℕ} (T : Planting ins e steps count now from to k) (more : 0 < k) {a i : ℕ} (f : a ≡ getD steps (2 * (k - 1)) 0) (g : i ≡ getD steps (2 * (k - 1) + 1) 0) where
+  module _ {now : List ℕ} {from to k : ℕ} (T : StepsLoop ins e steps count now from to k) (more : 0 < k) {a i : ℕ} (f : a ≡ getD steps (2 * (k - 1)) 0) (g : i ≡ getD steps (2 * (k - 1) + 1) 0) where
     -- the step above those that stand there
     step-at : markAt steps (k - 1) ≡ (a, i)
     step-at = pairs-at steps (k - 1) (omega (arith, P .long, T .inside)) ∙ ap₂ (λ x y. (x, y)) (sym f) (sym g)
@@ -184,8 +184,8 @@ module _ {ins steps buffer : List ℕ} {e count : ℕ} (P : AllPlantable ins e s
         drop-cons (take count (pairs steps)) (k - 1) (0, 0) (omega (arith, steps-long))
         ∙ ap₂ _∷_ (getD-take count (pairs steps) (k - 1) (0, 0) h ∙ step-at) (ap (λ n. drop n (take count (pairs steps))) j)
 
-    pub planting-asks : Addable ins e a i now from to
-    planting-asks =
+    pub steps-loop-asks : Addable ins e a i now from to
+    steps-loop-asks =
         let s : Step ins (a, i) = rw step-at at (P .each (k - 1) (omega (arith, T .inside))) in
         record {
           symbols = record { ranks = P .ranks; leaf = P .leaf; there = s .there };
@@ -195,9 +195,9 @@ module _ {ins steps buffer : List ℕ} {e count : ℕ} (P : AllPlantable ins e s
           right = omega (arith, T .right, T .room, T .inside, P .few);
         }
 
-    pub planting-next : {after : List ℕ} {from′ to′ : ℕ} → length after ≡ length now → Added ins e a i now from to after from′ to′ → Planting ins e steps count after from′ to′ (k - 1)
+    pub steps-loop-next : {after : List ℕ} {from′ to′ : ℕ} → length after ≡ length now → Added ins e a i now from to after from′ to′ → StepsLoop ins e steps count after from′ to′ (k - 1)
     unfolding stepsTree
-    planting-next {from′ = from′} {to′} n R = record {
+    steps-loop-next {from′ = from′} {to′} n R = record {
       inside = omega (arith, T .inside);
       room = n ∙ T .room;
       left = omega (arith, T .left, R .left);
@@ -207,8 +207,8 @@ module _ {ins steps buffer : List ℕ} {e count : ℕ} (P : AllPlantable ins e s
     }
 
   -- all steps
-  pub planting-done : {after : List ℕ} {from to k : ℕ} → Planting ins e steps count after from to k → k ≡ 0 → AllPlanted ins e steps count after from to
-  planting-done {after} {from} {to} {k} T z = record {
+  pub steps-loop-done : {after : List ℕ} {from to k : ℕ} → StepsLoop ins e steps count after from to k → k ≡ 0 → StepsWritten ins e steps count after from to
+  steps-loop-done {after} {from} {to} {k} T z = record {
     left = omega (arith, T .left);
     ordered = T .ordered;
     right = omega (arith, T .right);

@@ -17,10 +17,10 @@ use Rattle.prefixes.specs.Alphabet.{alphabet}
 use Rattle.prefixes.specs.Inner.Heads.{machine, Layout}
 use Rattle.earliest.specs.Inner.Places.{place}
 use Rattle.merging.specs.Inner.Classes.{at}
-use Rattle.witness.specs.Inner.Bottoms.{Bodied, BottomAsked, BottomFound, neither-falls, second-falls, first-falls, Upable, Upped, RootAsked, RootFound, Stands, Leading, Roomy, LeftBelow, Stand, StepsBack, Rises}
-use Rattle.pairs.specs.Inner.Pairs.{pairLeft, pairRight, pairParent, pairSymbol, pairMark, pairChild, leftBody, rightBody}
-use Rattle.witness.specs.Inner.Paths.{leftTerm, pairPlace, treeFor, Path, path-end, path-on}
-use Rattle.witness.specs.Inner.Shown.{stepsTree, Added, AllPlantable, AllPlanted, InBody, Climbable, EndsBefore, Climbed}
+use Rattle.witness.specs.Inner.Bottoms.{Bodied, BottomAsked, BottomFound, no-path, second-path, first-path, Upable, Upped, RootAsked, RootFound, Stands, Leading, Roomy, StatesBelow, Stand, StepsBack, TracesBack}
+use Rattle.pairs.specs.Inner.Pairs.{pairByte, pairLeft, pairParent, pairSymbol, pairMark, pairChild, bodyOf, leftBody}
+use Rattle.witness.specs.Inner.Paths.{termOf, leftTerm, pairPlace, treeFor, Path, path-end, path-on}
+use Rattle.witness.specs.Inner.Shown.{stepsTree, Added, StepsAsked, StepsWritten, InBody, AddressAsked, EndsBefore, AddressWritten}
 use Rattle.witness.proofs.Bottoms.{bottom-few}
 use Rattle.pairs.proofs.Searching.{initial-spelt, rhs-spelt}
 use Rattle.pairs.proofs.Stepping.{Spelt, spelt, spelt-state, spelt-child}
@@ -41,15 +41,15 @@ up-step (suc p) h R = record { left = R .left; ordered = R .ordered; right = R .
 -- ---- the tree of the clash
 -- the child that matters is one of the symbol
 bottom-child : {ins starts bytes starts′ bytes′ : List ℕ} {e c x c′ x′ : ℕ} {steps : List ℕ} {child count b b′ r : ℕ} → BottomFound ins starts bytes starts′ bytes′ e c x c′ x′ steps child count b b′ → c ≤ r → c′ ≤ r → child ≤ r
-bottom-child (neither-falls z z′) h g = omega arith
-bottom-child (second-falls z o F) h g = g
-bottom-child (first-falls o A F) h g = h
+bottom-child (no-path z z′) h g = omega arith
+bottom-child (second-path z o F) h g = g
+bottom-child (first-path o A F) h g = h
 
--- each step of the fall is one
+-- each step of the path is one
 bottom-steps : {ins starts bytes starts′ bytes′ : List ℕ} {e c x c′ x′ : ℕ} {steps : List ℕ} {child count b b′ : ℕ} → BottomFound ins starts bytes starts′ bytes′ e c x c′ x′ steps child count b b′ → (k : ℕ) → k < count → (getD steps (2 * k) 0 < length ins) × (getD steps (2 * k + 1) 0 ≤ getD ins (getD steps (2 * k) 0) 0)
-bottom-steps (neither-falls z z′) k h = absurd (omega arith)
-bottom-steps (second-falls z o F) k h = F .falling .inside k h
-bottom-steps (first-falls o A F) k h = F .falling .inside k h
+bottom-steps (no-path z z′) k h = absurd (omega arith)
+bottom-steps (second-path z o F) k h = F .path .inside k h
+bottom-steps (first-path o A F) k h = F .path .inside k h
 
 module _ {ins starts bytes : List ℕ} {n : ℕ} {starts′ bytes′ : List ℕ} {n′ e i j q a : ℕ} {buffer : List ℕ} (R : RootAsked ins starts bytes n starts′ bytes′ n′ e i j q a buffer) where
   abbrev Below : List ℕ → ℕ → ℕ → ℕ → ℕ → Type 0
@@ -62,8 +62,8 @@ module _ {ins starts bytes : List ℕ} {n : ℕ} {starts′ bytes′ : List ℕ}
   root-below f g f′ g′ B = rw (f, g, f′, g′) at B
 
   module _ {steps : List ℕ} {child count b b′ : ℕ} (B : Below steps child count b b′) where
-    pub root-plantable : length steps ≡ 256 → AllPlantable ins e steps count buffer
-    root-plantable s =
+    pub root-steps : length steps ≡ 256 → StepsAsked ins e steps count buffer
+    root-steps s =
         let few = bottom-few B in
         record {
           ranks = R .forms .ins-ranks;
@@ -74,8 +74,8 @@ module _ {ins starts bytes : List ℕ} {n : ℕ} {starts′ bytes′ : List ℕ}
           room = R .room;
         }
 
-    module _ {planted : List ℕ} {from to : ℕ} (A : AllPlanted ins e steps count planted from to) (long : length planted ≡ length buffer) where
-      pub root-upable : Upable ins e q a child planted from to
+    module _ {tree-bytes : List ℕ} {from to : ℕ} (A : StepsWritten ins e steps count tree-bytes from to) (long : length tree-bytes ≡ length buffer) where
+      pub root-upable : Upable ins e q a child tree-bytes from to
       root-upable =
           let few = bottom-few B in
           record {
@@ -89,7 +89,7 @@ module _ {ins starts bytes : List ℕ} {n : ℕ} {starts′ bytes′ : List ℕ}
             };
           }
 
-      pub root-found : {after : List ℕ} {lo hi : ℕ} → Upped ins e q a child planted from to after lo hi → RootFound ins starts bytes starts′ bytes′ e i j q a after lo hi b b′
+      pub root-found : {after : List ℕ} {lo hi : ℕ} → Upped ins e q a child tree-bytes from to after lo hi → RootFound ins starts bytes starts′ bytes′ e i j q a after lo hi b b′
       root-found U =
           let few = bottom-few B in
           record {
@@ -132,35 +132,27 @@ module _ {ins outs starts bytes : List ℕ} {n q a j : ℕ} (L : Layout ins outs
     pub mark-body : InBody outs bytes n (B .rank) (at starts j) (at starts (j + 1)) m
     mark-body = record { whole = B .spells .whole; inside = B .spells .inside; there = inside }
 
--- the left body is the term of the parent
-pub record LeftThere (ins outs starts bytes : List ℕ) (n : ℕ) (P : List ℕ) (q a : ℕ) : Type 0 where
-  pub body : BodyThere ins outs starts bytes n q a (leftBody ins P q a)
-  pub term : leftTerm (machine ins outs starts bytes n) P q a ≡ spelt outs n (body .rank) bytes (at starts (leftBody ins P q a)) (at starts (leftBody ins P q a + 1))
+-- the body on one side is the term of the parent
+pub record SideThere (ins outs starts bytes : List ℕ) (n : ℕ) (P : List ℕ) (side q a : ℕ) : Type 0 where
+  pub body : BodyThere ins outs starts bytes n q a (bodyOf ins P side q a)
+  pub term : termOf (machine ins outs starts bytes n) P side q a ≡ spelt outs n (body .rank) bytes (at starts (bodyOf ins P side q a)) (at starts (bodyOf ins P side q a + 1))
 
 module _ {ins outs starts bytes : List ℕ} {n : ℕ} (L : Layout ins outs starts bytes n) (P : List ℕ) where
-  pub left-there : (q a : ℕ) → LeftBelow P q n → (0 < q → a < length ins) → LeftThere ins outs starts bytes n P q a
-  unfolding leftBody leftTerm transducer body
-  left-there ℕ.zero a b g = record { body = record { rank = 1; spells = initial-spelt L; there = omega arith; ranked = λ h. absurd (omega arith) }; term = refl }
-  left-there (suc p) a b g =
+  pub side-there : (side q a : ℕ) → StatesBelow P side q n → (0 < q → a < length ins) → SideThere ins outs starts bytes n P side q a
+  unfolding bodyOf termOf transducer body
+  side-there side ℕ.zero a b g = record { body = record { rank = 1; spells = initial-spelt L; there = omega arith; ranked = λ h. absurd (omega arith) }; term = refl }
+  side-there side (suc p) a b g =
       let s = b p (omega arith) in
       let i = g (omega arith) in
-      record { body = record { rank = getD ins a 0; spells = rhs-spelt L (pairLeft P p) a s i; there = number-less ins _ _ a s i; ranked = λ h. refl }; term = refl }
+      record { body = record { rank = getD ins a 0; spells = rhs-spelt L (pairByte P side p) a s i; there = number-less ins _ _ a s i; ranked = λ h. refl }; term = refl }
 
-  pub right-there : (q a : ℕ) → ((p : ℕ) → p < q → pairRight P p < n) → (0 < q → a < length ins) → BodyThere ins outs starts bytes n q a (rightBody ins P q a)
-  unfolding rightBody
-  right-there ℕ.zero a b g = record { rank = 1; spells = initial-spelt L; there = omega arith; ranked = λ h. absurd (omega arith) }
-  right-there (suc p) a b g =
-      let s = b p (omega arith) in
-      let i = g (omega arith) in
-      record { rank = getD ins a 0; spells = rhs-spelt L (pairRight P p) a s i; there = number-less ins _ _ a s i; ranked = λ h. refl }
+  module _ (q a m : ℕ) (T : SideThere ins outs starts bytes n P 0 q a) (inside : at starts (leftBody ins P q a) + m < at starts (leftBody ins P q a + 1)) where
+    pub left-address-asked : (area : List ℕ) (w from : ℕ) → from ≡ at starts (leftBody ins P q a) → Ranks 64 outs → m ≤ w → w ≤ length area → AddressAsked outs bytes from m area w
+    left-address-asked area w from e R h g = record { low = R .low; states = n; children = T .body .rank; to = at starts (leftBody ins P q a + 1); body = rw e (mark-body L (T .body) m inside); room = h; end = g }
 
-  module _ (q a m : ℕ) (T : LeftThere ins outs starts bytes n P q a) (inside : at starts (leftBody ins P q a) + m < at starts (leftBody ins P q a + 1)) where
-    pub left-climbable : (area : List ℕ) (w from : ℕ) → from ≡ at starts (leftBody ins P q a) → Ranks 64 outs → m ≤ w → w ≤ length area → Climbable outs bytes from m area w
-    left-climbable area w from e R h g = record { low = R .low; states = n; children = T .body .rank; to = at starts (leftBody ins P q a + 1); body = rw e (mark-body L (T .body) m inside); room = h; end = g }
-
-    pub left-address : {area after : List ℕ} {w from r : ℕ} → from ≡ at starts (leftBody ins P q a) → Climbed outs bytes from m area w after r → EndsBefore (place (leftTerm (machine ins outs starts bytes n) P q a) m) area w after r
+    pub left-address : {area after : List ℕ} {w from r : ℕ} → from ≡ at starts (leftBody ins P q a) → AddressWritten outs bytes from m area w after r → EndsBefore (place (leftTerm (machine ins outs starts bytes n) P q a) m) area w after r
     left-address {area} {after} {w} {from} {r} e C =
-        let D : Climbed outs bytes (at starts (leftBody ins P q a)) m area w after r = rw e at C in
+        let D : AddressWritten outs bytes (at starts (leftBody ins P q a)) m area w after r = rw e at C in
         rw (T .term) (D .address n (T .body .rank) (at starts (leftBody ins P q a + 1)) (mark-body L (T .body) m inside))
 
 -- what was written before position `at` stands before what stood behind it
@@ -176,14 +168,14 @@ module _ {ins outs starts bytes P : List ℕ} {e : ℕ} (p : ℕ) (L : Leading i
   abbrev K : Stands ins starts (L .states) P p
   K = L .stands p (omega arith)
 
-  lefts : LeftBelow P (pairParent P p) (L .states)
+  lefts : StatesBelow P 0 (pairParent P p) (L .states)
   lefts o h = L .stands o (omega (arith, K .parent)) .left
 
   pub back-bodied : {q a : ℕ} → q ≡ pairParent P p → a ≡ pairSymbol P p → Bodied ins q a (pairLeft P (q - 1))
   back-bodied f g = rw (f, g) (record { long = omega (arith, K .parent, L .long); few-inputs = L .ins-ranks .few; known = K .symbol; state = λ o. omega (arith, lefts (pairParent P p - 1) (omega arith), L .layout .few-states) })
 
-  there : LeftThere ins outs starts bytes (L .states) P (pairParent P p) (pairSymbol P p)
-  there = left-there (L .layout) P (pairParent P p) (pairSymbol P p) lefts (K .symbol)
+  there : SideThere ins outs starts bytes (L .states) P 0 (pairParent P p) (pairSymbol P p)
+  there = side-there (L .layout) P 0 (pairParent P p) (pairSymbol P p) lefts (K .symbol)
 
   small : pairMark P p ≤ 63
   small = mark-small (L .layout) (there .body) (pairMark P p) (K .inside)
@@ -195,8 +187,8 @@ module _ {ins outs starts bytes P : List ℕ} {e : ℕ} (p : ℕ) (L : Leading i
   back-start f g z = rw (body-is f g z) (body-start (L .layout) (there .body))
 
   module _ {buffer : List ℕ} {lo hi : ℕ} {area : List ℕ} {w : ℕ} (R : Roomy (p + 1) buffer lo hi area w) {q a : ℕ} (f : q ≡ pairParent P p) (g : a ≡ pairSymbol P p) where
-    pub back-climbable : {m j from : ℕ} → m ≡ pairMark P p → j ≡ leftBody ins P q a → from ≡ at starts j → Climbable outs bytes from m area w
-    back-climbable {from = from} h z s = rw h (left-climbable (L .layout) P (pairParent P p) (pairSymbol P p) (pairMark P p) there (K .inside) area w from (s ∙ ap (at starts) (body-is f g z)) (L .outs-ranks) (omega (arith, small, R .before)) (R .end))
+    pub back-address-asked : {m j from : ℕ} → m ≡ pairMark P p → j ≡ leftBody ins P q a → from ≡ at starts j → AddressAsked outs bytes from m area w
+    back-address-asked {from = from} h z s = rw h (left-address-asked (L .layout) P (pairParent P p) (pairSymbol P p) (pairMark P p) there (K .inside) area w from (s ∙ ap (at starts) (body-is f g z)) (L .outs-ranks) (omega (arith, small, R .before)) (R .end))
 
     pub back-upable : {i : ℕ} → i ≡ pairChild P p → Upable ins e q a i buffer lo hi
     back-upable k = rw (f, g, k) (record {
@@ -210,10 +202,10 @@ module _ {ins outs starts bytes P : List ℕ} {e : ℕ} (p : ℕ) (L : Leading i
       };
     })
 
-    pub back-done : {m i j from : ℕ} {area′ : List ℕ} {w′ : ℕ} {buffer′ : List ℕ} {lo′ hi′ : ℕ} → m ≡ pairMark P p → i ≡ pairChild P p → j ≡ leftBody ins P q a → from ≡ at starts j → Climbed outs bytes from m area w area′ w′ → length area′ ≡ length area → Upped ins e q a i buffer lo hi buffer′ lo′ hi′ → length buffer′ ≡ length buffer → StepsBack ins outs starts bytes P e p buffer lo hi area w buffer′ lo′ hi′ area′ w′
+    pub back-done : {m i j from : ℕ} {area′ : List ℕ} {w′ : ℕ} {buffer′ : List ℕ} {lo′ hi′ : ℕ} → m ≡ pairMark P p → i ≡ pairChild P p → j ≡ leftBody ins P q a → from ≡ at starts j → AddressWritten outs bytes from m area w area′ w′ → length area′ ≡ length area → Upped ins e q a i buffer lo hi buffer′ lo′ hi′ → length buffer′ ≡ length buffer → StepsBack ins outs starts bytes P e p buffer lo hi area w buffer′ lo′ hi′ area′ w′
     back-done {m} {i} {j} {from} {area′} {w′} {buffer′} {lo′} {hi′} h k z s C n U n′ =
         let s′ = s ∙ ap (at starts) (body-is f g z) in
-        let D : Climbed outs bytes from (pairMark P p) area w area′ w′ = rw h at C in
+        let D : AddressWritten outs bytes from (pairMark P p) area w area′ w′ = rw h at C in
         let Z : Upped ins e (pairParent P p) (pairSymbol P p) (pairChild P p) buffer lo hi buffer′ lo′ hi′ = rw (f, g, k) at U in
         let x = left-address (L .layout) P (pairParent P p) (pairSymbol P p) (pairMark P p) there (K .inside) s′ D in
         record {
@@ -226,7 +218,7 @@ module _ {ins outs starts bytes P : List ℕ} {e : ℕ} (p : ℕ) (L : Leading i
           };
           back = λ n l Y y B d v S. (
             Z .tree l y d (S .0),
-            ends-before (left-address Y P (pairParent P p) (pairSymbol P p) (pairMark P p) (left-there Y P (pairParent P p) (pairSymbol P p) (λ o t. B o (omega (arith, K .parent))) (K .symbol)) (K .inside) s′ D) (R .end) ∙ ap (_++_ (pairPlace (machine ins outs starts bytes n) P p)) (S .1),
+            ends-before (left-address Y P (pairParent P p) (pairSymbol P p) (pairMark P p) (side-there Y P 0 (pairParent P p) (pairSymbol P p) (λ o t. B o (omega (arith, K .parent))) (K .symbol)) (K .inside) s′ D) (R .end) ∙ ap (_++_ (pairPlace (machine ins outs starts bytes n) P p)) (S .1),
           );
         }
 
@@ -238,33 +230,33 @@ pub record OnWay (ins outs starts bytes P : List ℕ) (n : ℕ) (l : Leaf ins) (
   pub stand : Stand buffer from to tree area w address
   pub onward : (T : Tree) (U : List ℕ) → Path (alphabet ins l) ins (machine ins outs starts bytes n) P r tree address T U → Path (alphabet ins l) ins (machine ins outs starts bytes n) P q d v T U
 
-pub record RiseLoop (ins outs starts bytes P : List ℕ) (e q : ℕ) (buffer₀ : List ℕ) (lo hi : ℕ) (area₀ : List ℕ) (at : ℕ) (buffer : List ℕ) (from to : ℕ) (area : List ℕ) (w r : ℕ) : Type 0 where
+pub record WayLoop (ins outs starts bytes P : List ℕ) (e q : ℕ) (buffer₀ : List ℕ) (lo hi : ℕ) (area₀ : List ℕ) (at : ℕ) (buffer : List ℕ) (from to : ℕ) (area : List ℕ) (w r : ℕ) : Type 0 where
   pub small : r ≤ q
   pub same-buffer : length buffer ≡ length buffer₀
   pub same-area : length area ≡ length area₀
   pub roomy : Roomy r buffer from to area w
-  pub way : (n : ℕ) (l : Leaf ins) → Layout ins outs starts bytes n → l .symbol ≡ e → LeftBelow P q n → (d : Tree) (v : List ℕ) → Stand buffer₀ lo hi d area₀ at v → OnWay ins outs starts bytes P n l q d v buffer from to area w r
+  pub way : (n : ℕ) (l : Leaf ins) → Layout ins outs starts bytes n → l .symbol ≡ e → StatesBelow P 0 q n → (d : Tree) (v : List ℕ) → Stand buffer₀ lo hi d area₀ at v → OnWay ins outs starts bytes P n l q d v buffer from to area w r
 
 module _ {ins outs starts bytes P : List ℕ} {e q : ℕ} (L : Leading ins outs starts bytes P e q) {buffer₀ : List ℕ} {lo hi : ℕ} {area₀ : List ℕ} {at₀ : ℕ} (R : Roomy q buffer₀ lo hi area₀ at₀) where
   abbrev Loop : List ℕ → ℕ → ℕ → List ℕ → ℕ → ℕ → Type 0
-  Loop buffer from to area w r = RiseLoop ins outs starts bytes P e q buffer₀ lo hi area₀ at₀ buffer from to area w r
+  Loop buffer from to area w r = WayLoop ins outs starts bytes P e q buffer₀ lo hi area₀ at₀ buffer from to area w r
 
-  pub rise-start : Loop buffer₀ lo hi area₀ at₀ q
-  rise-start = record { small = omega arith; same-buffer = refl; same-area = refl; roomy = R; way = λ n l Y y B d v S. record { tree = d; address = v; stand = S; onward = λ T U r. r } }
+  pub way-start : Loop buffer₀ lo hi area₀ at₀ q
+  way-start = record { small = omega arith; same-buffer = refl; same-area = refl; roomy = R; way = λ n l Y y B d v S. record { tree = d; address = v; stand = S; onward = λ T U r. r } }
 
   module _ {buffer : List ℕ} {from to : ℕ} {area : List ℕ} {w r : ℕ} (I : Loop buffer from to area w r) where
-    pub rise-asks : (p : ℕ) → r ≡ p + 1 → Leading ins outs starts bytes P e (p + 1) × Roomy (p + 1) buffer from to area w
-    rise-asks p z = (
+    pub way-asks : (p : ℕ) → r ≡ p + 1 → Leading ins outs starts bytes P e (p + 1) × Roomy (p + 1) buffer from to area w
+    way-asks p z = (
       record { states = L .states; layout = L .layout; ins-ranks = L .ins-ranks; outs-ranks = L .outs-ranks; leaf = L .leaf; long = omega (arith, L .long, I .small); stands = λ o h. L .stands o (omega (arith, I .small)) },
       rw z at (I .roomy),
     )
 
     -- the parent of a pair comes before it
-    pub rise-less : (p : ℕ) → r ≡ p + 1 → {r′ : ℕ} → r′ ≡ pairParent P p → r′ < r
-    rise-less p z f = omega (arith, L .stands p (omega (arith, I .small)) .parent)
+    pub way-less : (p : ℕ) → r ≡ p + 1 → {r′ : ℕ} → r′ ≡ pairParent P p → r′ < r
+    way-less p z f = omega (arith, L .stands p (omega (arith, I .small)) .parent)
 
-    pub rise-next : (p : ℕ) → r ≡ p + 1 → {r′ : ℕ} → r′ ≡ pairParent P p → {buffer′ : List ℕ} {from′ to′ : ℕ} {area′ : List ℕ} {w′ : ℕ} → length buffer′ ≡ length buffer → length area′ ≡ length area → StepsBack ins outs starts bytes P e p buffer from to area w buffer′ from′ to′ area′ w′ → Loop buffer′ from′ to′ area′ w′ r′
-    rise-next p z {r′} f n n′ B =
+    pub way-next : (p : ℕ) → r ≡ p + 1 → {r′ : ℕ} → r′ ≡ pairParent P p → {buffer′ : List ℕ} {from′ to′ : ℕ} {area′ : List ℕ} {w′ : ℕ} → length buffer′ ≡ length buffer → length area′ ≡ length area → StepsBack ins outs starts bytes P e p buffer from to area w buffer′ from′ to′ area′ w′ → Loop buffer′ from′ to′ area′ w′ r′
+    way-next p z {r′} f n n′ B =
         let K = L .stands p (omega (arith, I .small)) in
         let y : r ≡ suc p = omega arith in
         rw f (record {
@@ -282,8 +274,8 @@ module _ {ins outs starts bytes P : List ℕ} {e q : ℕ} (L : Leading ins outs 
               };
         })
 
-    pub rise-end : r ≡ 0 → Rises ins outs starts bytes P e q buffer₀ lo hi area₀ at₀ buffer from to area w
-    rise-end z = record {
+    pub way-end : r ≡ 0 → TracesBack ins outs starts bytes P e q buffer₀ lo hi area₀ at₀ buffer from to area w
+    way-end z = record {
       ordered = I .roomy .ordered;
       inside = omega (arith, I .roomy .right);
       end = I .roomy .end;

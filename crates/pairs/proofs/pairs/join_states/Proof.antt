@@ -1,11 +1,11 @@
--- `meet` meets its contract: two states of one class stay as they are, and two classes are joined. Assumes nothing.
+-- `join_states` meets its contract: two states of one class stay as they are, and two classes are joined. Assumes nothing.
 use mathlib.Core.Path.{sym, ap, _∙_}
 use borrow.Author.Needs.{needs}
 use denote.Ref.{now}
 use Rattle.merging.specs.Inner.Classes.{at}
-use Rattle.pairs.proofs.Joining.{meets-old, meets-new}
-use Rattle.pairs.proofs.pairs.meet.Statement.{statement}
-use Rattle.pairs.proofs.pairs.meet.Tie as tie
+use Rattle.pairs.proofs.Joining.{joins-old, joins-new}
+use Rattle.pairs.proofs.pairs.join_states.Statement.{statement}
+use Rattle.pairs.proofs.pairs.join_states.Tie as tie
 
 wide-requires : tie.Need-wide-requires
 wide-requires c κs = search needs
@@ -20,7 +20,7 @@ slice-read-d : tie.Need-slice-read-d
 slice-read-d c = search needs
 
 returns : tie.Need-returns
-returns c = meets-old (c .before .before .before .before .before .before .before .pre .0) (sym (ap (at (now (c .before .before .before .before .before .before .before .args .classes1))) (c .before .before .before .before .wide .ensures)) ∙ c .if1 .taken ∙ ap (at (now (c .before .before .before .before .before .before .before .args .classes2))) (c .before .before .wide2 .ensures))
+returns c = joins-old (c .before .before .before .before .before .before .before .pre .0) (sym (ap (at (now (c .before .before .before .before .before .before .before .args .classes1))) (c .before .before .before .before .wide .ensures)) ∙ c .if1 .taken ∙ ap (at (now (c .before .before .before .before .before .before .before .args .classes2))) (c .before .before .wide2 .ensures))
 
 add-pair-requires : tie.Need-add-pair-requires
 add-pair-requires c κs = search needs
@@ -46,10 +46,10 @@ returns-2 c =
     let D = now (c .before .before .before .before .before .before .before .before .before .before .before .before .before .before .before .before .before .args .classes2) in
     let e = ap (at C) (c .before .before .before .before .before .before .before .before .before .before .before .before .before .before .wide .ensures) in
     let f = ap (at D) (c .before .before .before .before .before .before .before .before .before .before .before .before .wide2 .ensures) in
-    meets-new (c .before .before .before .before .before .before .before .before .before .before .before .before .before .before .before .before .before .pre .0) (c .before .before .before .before .before .before .before .before .before .before .before .before .before .before .before .before .before .pre .1) (c .before .before .before .before .before .before .before .before .before .before .before .before .before .before .before .before .before .pre .2) (λ g. c .before .before .before .before .before .before .before .before .before .before .if1 .left (e ∙ g ∙ sym f)) (rw (e, f) at (c .before .before .before .before .before .before .join .ensures)) (rw (e, f) at (c .before .before .join2 .ensures)) (c .before .before .before .before .before .before .before .before .add-pair .ensures)
+    joins-new (c .before .before .before .before .before .before .before .before .before .before .before .before .before .before .before .before .before .pre .0) (c .before .before .before .before .before .before .before .before .before .before .before .before .before .before .before .before .before .pre .1) (c .before .before .before .before .before .before .before .before .before .before .before .before .before .before .before .before .before .pre .2) (λ g. c .before .before .before .before .before .before .before .before .before .before .if1 .left (e ∙ g ∙ sym f)) (rw (e, f) at (c .before .before .before .before .before .before .join .ensures)) (rw (e, f) at (c .before .before .join2 .ensures)) (c .before .before .before .before .before .before .before .before .add-pair .ensures)
 
-pub meet-spec : {M : Type 1} → statement M
-meet-spec =
+pub join-states-spec : {M : Type 1} → statement M
+join-states-spec =
     tie.close
     (tie.spec
     wide-requires

@@ -184,7 +184,7 @@ set-front [] area w k x h = refl
 set-front (y ∷ v) area w k x h = set-front v (set area w y) (suc w) k x (omega arith) ∙ ap (λ l. sets l (suc w) v) (set-comm area w k y x (omega arith))
 
 -- of the trees that begin at letter j, letter m stands in the one number c; its address there was written, from w on
-pub record Climbing (outs marks : List ℕ) (n r from to m : ℕ) (area : List ℕ) (at : ℕ) (now : List ℕ) (w c j : ℕ) : Type 0 where
+pub record AddressLoop (outs marks : List ℕ) (n r from to m : ℕ) (area : List ℕ) (at : ℕ) (now : List ℕ) (w c j : ℕ) : Type 0 where
   pub inside : j ≤ m
   pub address : List ℕ
   pub reached : placeAmong (forest (markOf outs n r) (part marks (from + j) to)) (m - j) ≡ (c, address)
@@ -203,8 +203,8 @@ module _ {outs marks : List ℕ} {n r from to m : ℕ} (B : InBody outs marks n 
 
   module _ {area : List ℕ} {at : ℕ} where
     -- nothing is written
-    pub climbing-start : Climbing outs marks n r from to m area at area at 0 m
-    climbing-start =
+    pub address-start : AddressLoop outs marks n r from to m area at area at 0 m
+    address-start =
         let z : m - m ≡ 0 = omega arith in
         record {
           inside = omega arith;
@@ -213,17 +213,17 @@ module _ {outs marks : List ℕ} {n r from to m : ℕ} (B : InBody outs marks n 
           ends = record { wrote = refl; long = omega arith };
         }
 
-    module _ {now : List ℕ} {w c j : ℕ} (C : Climbing outs marks n r from to m area at now w c j) where
+    module _ {now : List ℕ} {w c j : ℕ} (C : AddressLoop outs marks n r from to m area at now w c j) where
       -- no more numbers were written than letters passed
-      pub climbing-room : at + j ≤ w + m
-      climbing-room = omega (arith, C .ends .long, C .inside, among-short (treesFrom j) (m - j), ap (λ (r : ℕ × List ℕ). length (r .1)) (C .reached))
+      pub address-room : at + j ≤ w + m
+      address-room = omega (arith, C .ends .long, C .inside, among-short (treesFrom j) (m - j), ap (λ (r : ℕ × List ℕ). length (r .1)) (C .reached))
 
-      pub climbing-few : c + j ≤ m
-      climbing-few = omega (arith, C .inside, among-few (treesFrom j) (m - j), ap (λ (r : ℕ × List ℕ). r .0) (C .reached))
+      pub address-few : c + j ≤ m
+      address-few = omega (arith, C .inside, among-few (treesFrom j) (m - j), ap (λ (r : ℕ × List ℕ). r .0) (C .reached))
 
-      pub climbing-done : j ≡ 0 → EndsBefore (place (first (forest (markOf outs n r) (part marks from to))) m) area at now w
+      pub address-done : j ≡ 0 → EndsBefore (place (first (forest (markOf outs n r) (part marks from to))) m) area at now w
       unfolding lettersAll
-      climbing-done z =
+      address-done z =
           let F = forest (markOf outs n r) (part marks from to) in
           let t = first F in
           let one = single F (B .whole .one) in
@@ -264,8 +264,8 @@ module _ {outs marks : List ℕ} {n r from to m : ℕ} (B : InBody outs marks n 
         among = ap (λ (y : ℕ × List ℕ). y .0) (C .reached)
 
         -- it is the parent
-        pub climbing-up : c < rank → {after : List ℕ} → after ≡ set now (w - 1) (c + 1) → 0 < w → Climbing outs marks n r from to m area at after (w - 1) 0 (j - 1)
-        climbing-up h q u =
+        pub address-up : c < rank → {after : List ℕ} → after ≡ set now (w - 1) (c + 1) → 0 < w → AddressLoop outs marks n r from to m area at after (w - 1) 0 (j - 1)
+        address-up h q u =
             let x = w - 1 in
             let k : w ≡ suc x = omega arith in
             record {
@@ -279,8 +279,8 @@ module _ {outs marks : List ℕ} {n r from to m : ℕ} (B : InBody outs marks n 
             }
 
         -- or it stands before
-        pub climbing-past : rank ≤ c → Climbing outs marks n r from to m area at now w (c + 1 - rank) (j - 1)
-        climbing-past h =
+        pub address-past : rank ≤ c → AddressLoop outs marks n r from to m area at now w (c + 1 - rank) (j - 1)
+        address-past h =
             let z : suc (placeAmong (treesFrom j) (m - j) .0 - taken letter) ≡ c + 1 - rank = omega (arith, takes, among) in
             record {
               inside = omega (arith, C .inside);
