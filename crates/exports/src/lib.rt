@@ -1,8 +1,6 @@
 // The library for Rust and C: numbers and slices of numbers only. Each function returns 0, or the number that document 01's
 // table gives the refusal, and gives its values through its last parameters, which a refusal leaves as they were. The two
 // that hand out a part of what is lent say what they return.
-ghost use mathlib.Core.Path.{_≡_};
-ghost use Rattle.formats.specs.Refusal.{number};
 ghost use Rattle.exports.specs.Exported.{ExportsAlphabets, ExportsTree, ExportsFile, ExportsWriting, ExportsLinear, ExportsTranslation, ExportsSymbol, ExportsEarliest, ExportsClean, ExportsComparison, ExportsShorter};
 
 pub mod registered;
@@ -21,7 +19,7 @@ use formats::file::FileWritten;
 use formats::file::read_transducer;
 use formats::file::transducer_marks;
 use formats::file::write_transducer;
-use formats::refusal::Refusal;
+use formats::refusal::number_of;
 use formats::tree::TreeRead;
 use formats::tree::read_tree;
 use transducer::address::Found;
@@ -30,23 +28,6 @@ use transducer::linear::LinearTest;
 use transducer::linear::is_linear;
 use transducer::translate::Translation;
 use transducer::translate::translate;
-
-// The number of a refusal.
-fn code(x: Refusal) -> u32
-    ensures { λ r. ⌜ r ≡ number x ⌝ }
-{
-    match x {
-        Refusal::ShortArea => 1,
-        Refusal::BadAlphabets => 2,
-        Refusal::BadTree => 3,
-        Refusal::BadContents => 4,
-        Refusal::BadBody => 5,
-        Refusal::LongOutput => 6,
-        Refusal::OverLimits => 7,
-        Refusal::FullRegistry => 8,
-        Refusal::BadRegistry => 9,
-    }
-}
 
 // Reads two alphabets (01: stock): how many input and output symbols there are.
 #[no_mangle]
@@ -63,7 +44,7 @@ pub extern "C" fn caplune_read_alphabets(
             *outputs = b;
             0
         }
-        AlphabetsRead::Refused(x) => code(x),
+        AlphabetsRead::Refused(x) => number_of(x),
     }
 }
 
@@ -83,7 +64,7 @@ pub extern "C" fn caplune_read_tree(
             *levels = l;
             0
         }
-        TreeRead::Refused(x) => code(x),
+        TreeRead::Refused(x) => number_of(x),
     }
 }
 
@@ -107,7 +88,7 @@ pub extern "C" fn caplune_read_transducer(
             *marks = file.len() - (1 + size);
             0
         }
-        FileRead::Refused(x) => code(x),
+        FileRead::Refused(x) => number_of(x),
     }
 }
 
@@ -128,7 +109,7 @@ pub extern "C" fn caplune_write_transducer(
             *length = n;
             0
         }
-        FileWritten::Refused(x) => code(x),
+        FileWritten::Refused(x) => number_of(x),
     }
 }
 
@@ -146,7 +127,7 @@ pub extern "C" fn caplune_is_linear(stock: &[u8], file: &[u8], linear: &mut usiz
             *linear = 0;
             0
         }
-        LinearTest::Refused(x) => code(x),
+        LinearTest::Refused(x) => number_of(x),
     }
 }
 
@@ -166,7 +147,7 @@ pub extern "C" fn caplune_translate(
             *length = n;
             0
         }
-        Translation::Refused(x) => code(x),
+        Translation::Refused(x) => number_of(x),
     }
 }
 
@@ -193,7 +174,7 @@ pub extern "C" fn caplune_symbol_at(
             *there = 0;
             0
         }
-        Found::Refused(x) => code(x),
+        Found::Refused(x) => number_of(x),
     }
 }
 
@@ -217,7 +198,7 @@ pub extern "C" fn caplune_earliest_form(
             *length = n;
             0
         }
-        Formed::Refused(x) => code(x),
+        Formed::Refused(x) => number_of(x),
     }
 }
 
@@ -241,7 +222,7 @@ pub extern "C" fn caplune_clean(
             *length = n;
             0
         }
-        Formed::Refused(x) => code(x),
+        Formed::Refused(x) => number_of(x),
     }
 }
 
@@ -276,7 +257,7 @@ pub extern "C" fn caplune_compare(
             *right = c;
             0
         }
-        Comparison::Refused(x) => code(x),
+        Comparison::Refused(x) => number_of(x),
     }
 }
 

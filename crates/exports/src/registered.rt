@@ -3,7 +3,7 @@
 ghost use mathlib.Core.Path.{_≡_};
 ghost use Rattle.registry.specs.Book.{recordAt};
 ghost use Rattle.exports.specs.Registered.{TellsMade, TellsEntered, startOf, ExportsMaking, ExportsEntry, ExportsBody};
-use crate::code;
+use formats::refusal::number_of;
 use registry::book::Entered;
 use registry::book::Head;
 use registry::book::Made;
@@ -18,7 +18,7 @@ fn tell_made(answer: Made) -> u32
 {
     match answer {
         Made::Empty => 0,
-        Made::Refused(x) => code(x),
+        Made::Refused(x) => number_of(x),
     }
 }
 
@@ -31,7 +31,7 @@ fn tell_entered(answer: Entered, number: &mut usize) -> u32
             *number = n;
             0
         }
-        Entered::Refused(x) => code(x),
+        Entered::Refused(x) => number_of(x),
     }
 }
 

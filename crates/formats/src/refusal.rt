@@ -1,4 +1,7 @@
 // Why an input is refused: document 01's table. `number` of specs/Refusal.antt gives the paper's number of each.
+ghost use mathlib.Core.Path.{_≡_};
+ghost use Rattle.formats.specs.Refusal.{number};
+
 pub enum Refusal {
     ShortArea,
     BadAlphabets,
@@ -9,4 +12,21 @@ pub enum Refusal {
     OverLimits,
     FullRegistry,
     BadRegistry,
+}
+
+// The number of a refusal in that table.
+pub fn number_of(r: Refusal) -> u32
+    ensures { λ n. ⌜ n ≡ number r ⌝ }
+{
+    match r {
+        Refusal::ShortArea => 1,
+        Refusal::BadAlphabets => 2,
+        Refusal::BadTree => 3,
+        Refusal::BadContents => 4,
+        Refusal::BadBody => 5,
+        Refusal::LongOutput => 6,
+        Refusal::OverLimits => 7,
+        Refusal::FullRegistry => 8,
+        Refusal::BadRegistry => 9,
+    }
 }

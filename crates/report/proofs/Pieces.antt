@@ -99,6 +99,17 @@ pub below-text : (v : List ℕ) → (length v ≡ 0 → ⊥) → placeText v ≡
 below-text [] f = absurd (f refl)
 below-text (x ∷ v) f = refl
 
+-- whatever byte stands between the numbers of an address, there is room for them
+rest-as-long : (s t : ℕ) (xs : List ℕ) → length (rest s xs) ≡ length (rest t xs)
+unfolding rest
+rest-as-long s t [] = refl
+rest-as-long s t (x ∷ xs) = omega (arith, length-append (number x) (rest s xs), length-append (number x) (rest t xs), rest-as-long s t xs)
+
+pub below-room : (at n : ℕ) (v : List ℕ) → (length v ≡ 0 → ⊥) → at + length (placeText v) ≤ n → (s : ℕ) → at + length (separated s v) ≤ n
+unfolding separated
+below-room at n [] e h s = absurd (e refl)
+below-room at n (x ∷ xs) e h s = omega (arith, ap length (below-text (x ∷ xs) e), length-append (number x) (rest s xs), length-append (number x) (rest 46 xs), rest-as-long s 46 xs)
+
 -- ---- the line of a normal form
 module _ (word : List ℕ) (states marks : ℕ) where
   -- how long it is

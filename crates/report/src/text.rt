@@ -9,23 +9,7 @@ ghost use Rattle.report.specs.Inner.Writing.{Wrote};
 use formats::bytes::wide;
 use formats::file::copy_at;
 use formats::refusal::Refusal;
-
-// The number of a refusal in document 01's table.
-fn number_of(r: Refusal) -> usize
-    ensures { λ n. ⌜ n ≡ refusals.number r ⌝ }
-{
-    match r {
-        Refusal::ShortArea => 1,
-        Refusal::BadAlphabets => 2,
-        Refusal::BadTree => 3,
-        Refusal::BadContents => 4,
-        Refusal::BadBody => 5,
-        Refusal::LongOutput => 6,
-        Refusal::OverLimits => 7,
-        Refusal::FullRegistry => 8,
-        Refusal::BadRegistry => 9,
-    }
-}
+use formats::refusal::number_of;
 
 // A word as it stands.
 pub(crate) fn write_word(text: &mut [u8], at: usize, word: &[u8]) -> usize
@@ -97,7 +81,7 @@ pub(crate) fn write_refused(text: &mut [u8], r: Refusal) -> usize
     ensures { λ n. ⌜ Wrote (now (text .entry)) (now (text .exit)) 0 n (refusedLine (refusals.number r)) ⌝ }
 {
     let a = write_word(text, 0, b"refused ");
-    let b = write_number(text, a, number_of(r));
+    let b = write_number(text, a, number_of(r) as usize);
     write_word(text, b, b"\n")
 }
 

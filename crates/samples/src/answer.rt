@@ -1,27 +1,9 @@
 // What is printed: the parts of an answer.
-ghost use mathlib.Core.Path.{_≡_};
-ghost use Rattle.formats.specs.Refusal as refusals;
 use earliest::earliest::Formed;
 use formats::bytes::wide;
 use formats::refusal::Refusal;
+use formats::refusal::number_of;
 use libc::STDOUT_FILENO;
-
-// The number of a refusal in document 01's table.
-fn number_of(r: Refusal) -> u64
-    ensures { λ n. ⌜ n ≡ refusals.number r ⌝ }
-{
-    match r {
-        Refusal::ShortArea => 1,
-        Refusal::BadAlphabets => 2,
-        Refusal::BadTree => 3,
-        Refusal::BadContents => 4,
-        Refusal::BadBody => 5,
-        Refusal::LongOutput => 6,
-        Refusal::OverLimits => 7,
-        Refusal::FullRegistry => 8,
-        Refusal::BadRegistry => 9,
-    }
-}
 
 pub(crate) fn text(s: &[u8]) {
     io::write_all(STDOUT_FILENO, s);
@@ -51,7 +33,7 @@ pub(crate) fn two(first: &[u8], m: usize, second: &[u8], n: usize) {
 
 fn refusal(r: Refusal) {
     text(b"refused ");
-    io::print_decimal(STDOUT_FILENO, number_of(r));
+    io::print_decimal(STDOUT_FILENO, number_of(r) as u64);
 }
 
 pub(crate) fn refused(r: Refusal) {

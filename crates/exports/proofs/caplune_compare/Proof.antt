@@ -18,8 +18,8 @@ enum-known-n c = search needs
 enum-known-x : tie.Need-enum-known-x
 enum-known-x c = search needs
 
-code-requires : tie.Need-code-requires
-code-requires c κs = search needs
+number-of-requires : tie.Need-number-of-requires
+number-of-requires c κs = search needs
 
 same-length : tie.Need-same-length
 same-length c = search needs
@@ -46,7 +46,7 @@ same-length-6 : tie.Need-same-length-6
 same-length-6 c = search needs
 
 returns-3 : tie.Need-returns-3
-returns-3 c = tells-refused (c .before .before .before .before .before .before .before .before .compare .result) (c .before .before .before .before .before .before .before .before .compare .ensures) (ap comparedAs (c .before .before .x .given .1)) (c .code .ensures) refl
+returns-3 c = tells-refused (c .before .before .before .before .before .before .before .before .compare .result) (c .before .before .before .before .before .before .before .before .compare .ensures) (ap comparedAs (c .before .before .x .given .1)) (c .number-of .ensures) refl
 
 pub caplune-compare-spec : {M : Type 1} → statement M
 caplune-compare-spec =
@@ -56,7 +56,7 @@ caplune-compare-spec =
     enum-told
     enum-known-n
     enum-known-x
-    code-requires
+    number-of-requires
     same-length
     same-length-2
     returns

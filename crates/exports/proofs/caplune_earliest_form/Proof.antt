@@ -15,8 +15,8 @@ enum-known-k c = search needs
 enum-known-x : tie.Need-enum-known-x
 enum-known-x c = search needs
 
-code-requires : tie.Need-code-requires
-code-requires c κs = search needs
+number-of-requires : tie.Need-number-of-requires
+number-of-requires c κs = search needs
 
 same-length : tie.Need-same-length
 same-length c = search needs
@@ -28,7 +28,7 @@ same-length-2 : tie.Need-same-length-2
 same-length-2 c = search needs
 
 returns-2 : tie.Need-returns-2
-returns-2 c = tells-refused (c .before .before .before .before .before .before .earliest-form .result) (c .before .before .before .before .before .before .earliest-form .ensures) (ap formOf (c .before .before .x .given .1)) (c .code .ensures) refl
+returns-2 c = tells-refused (c .before .before .before .before .before .before .earliest-form .result) (c .before .before .before .before .before .before .earliest-form .ensures) (ap formOf (c .before .before .x .given .1)) (c .number-of .ensures) refl
 
 pub caplune-earliest-form-spec : {M : Type 1} → statement M
 caplune-earliest-form-spec =
@@ -37,7 +37,7 @@ caplune-earliest-form-spec =
     earliest-form-requires
     enum-known-k
     enum-known-x
-    code-requires
+    number-of-requires
     same-length
     returns
     same-length-2

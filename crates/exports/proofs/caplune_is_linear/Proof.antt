@@ -18,8 +18,8 @@ enum-told-2 c = search needs
 enum-known-x : tie.Need-enum-known-x
 enum-known-x c = search needs
 
-code-requires : tie.Need-code-requires
-code-requires c κs = search needs
+number-of-requires : tie.Need-number-of-requires
+number-of-requires c κs = search needs
 
 returns : tie.Need-returns
 returns c = tells-accepted (c .before .before .is-linear .result) (c .before .before .is-linear .ensures) (ap linearTest (c .enum-told .given .1)) refl refl
@@ -28,7 +28,7 @@ returns-2 : tie.Need-returns-2
 returns-2 c = tells-accepted (c .before .before .is-linear .result) (c .before .before .is-linear .ensures) (ap linearTest (c .enum-told2 .given .1)) refl refl
 
 returns-3 : tie.Need-returns-3
-returns-3 c = tells-refused (c .before .before .before .before .is-linear .result) (c .before .before .before .before .is-linear .ensures) (ap linearTest (c .before .before .x .given .1)) (c .code .ensures) refl
+returns-3 c = tells-refused (c .before .before .before .before .is-linear .result) (c .before .before .before .before .is-linear .ensures) (ap linearTest (c .before .before .x .given .1)) (c .number-of .ensures) refl
 
 pub caplune-is-linear-spec : {M : Type 1} → statement M
 caplune-is-linear-spec =
@@ -38,7 +38,7 @@ caplune-is-linear-spec =
     enum-told
     enum-told-2
     enum-known-x
-    code-requires
+    number-of-requires
     returns
     returns-2
     returns-3)

@@ -15,16 +15,16 @@ enum-known-p c = search needs
 enum-known-x : tie.Need-enum-known-x
 enum-known-x c = search needs
 
-code-requires : tie.Need-code-requires
-code-requires c κs = search needs
+number-of-requires : tie.Need-number-of-requires
+number-of-requires c κs = search needs
 
 returns : tie.Need-returns
 returns c = tells-accepted (c .before .before .before .read-alphabets .result) (c .before .before .before .read-alphabets .ensures) (ap alphabetsRead (c .before .p .given .1)) refl refl
 
 returns-2 : tie.Need-returns-2
-returns-2 c = tells-refused (c .before .before .before .before .read-alphabets .result) (c .before .before .before .before .read-alphabets .ensures) (ap alphabetsRead (c .before .before .x .given .1)) (c .code .ensures) refl
+returns-2 c = tells-refused (c .before .before .before .before .read-alphabets .result) (c .before .before .before .before .read-alphabets .ensures) (ap alphabetsRead (c .before .before .x .given .1)) (c .number-of .ensures) refl
 
 pub caplune-read-alphabets-spec : {M : Type 1} → statement M
 caplune-read-alphabets-spec =
     tie.close
-    (tie.spec read-alphabets-requires enum-known-p enum-known-x code-requires returns returns-2)
+    (tie.spec read-alphabets-requires enum-known-p enum-known-x number-of-requires returns returns-2)

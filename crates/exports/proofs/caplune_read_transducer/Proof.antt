@@ -43,14 +43,14 @@ sub-marks c = inside c
 enum-known-x : tie.Need-enum-known-x
 enum-known-x c = search needs
 
-code-requires : tie.Need-code-requires
-code-requires c κs = search needs
+number-of-requires : tie.Need-number-of-requires
+number-of-requires c κs = search needs
 
 returns : tie.Need-returns
 returns c = tells-accepted (c .before .before .before .before .read-transducer .result) (c .before .before .before .before .read-transducer .ensures) (ap fileRead (c .before .before .n .given .1)) refl (parts-sized (now (c .before .before .before .before .before .before .before .args .stock)) (now (c .before .before .before .before .before .before .before .args .file)) (c .before .before .n .given .0 .0) (now (c .input-ranks .result)) (c .before .before .before .before .read-transducer .ensures) (c .before .before .n .given .1) (c .input-ranks .ensures))
 
 returns-2 : tie.Need-returns-2
-returns-2 c = tells-refused (c .before .before .before .before .read-transducer .result) (c .before .before .before .before .read-transducer .ensures) (ap fileRead (c .before .before .x .given .1)) (c .code .ensures) refl
+returns-2 c = tells-refused (c .before .before .before .before .read-transducer .result) (c .before .before .before .before .read-transducer .ensures) (ap fileRead (c .before .before .x .given .1)) (c .number-of .ensures) refl
 
 pub caplune-read-transducer-spec : {M : Type 1} → statement M
 caplune-read-transducer-spec =
@@ -65,6 +65,6 @@ caplune-read-transducer-spec =
     add-marks
     sub-marks
     enum-known-x
-    code-requires
+    number-of-requires
     returns
     returns-2)

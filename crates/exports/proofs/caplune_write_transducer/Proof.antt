@@ -15,8 +15,8 @@ enum-known-n c = search needs
 enum-known-x : tie.Need-enum-known-x
 enum-known-x c = search needs
 
-code-requires : tie.Need-code-requires
-code-requires c κs = search needs
+number-of-requires : tie.Need-number-of-requires
+number-of-requires c κs = search needs
 
 same-length : tie.Need-same-length
 same-length c = search needs
@@ -28,7 +28,7 @@ same-length-2 : tie.Need-same-length-2
 same-length-2 c = search needs
 
 returns-2 : tie.Need-returns-2
-returns-2 c = tells-refused (c .before .before .before .before .before .before .write-transducer .result) (c .before .before .before .before .before .before .write-transducer .ensures) (ap fileWritten (c .before .before .x .given .1)) (c .code .ensures) refl
+returns-2 c = tells-refused (c .before .before .before .before .before .before .write-transducer .result) (c .before .before .before .before .before .before .write-transducer .ensures) (ap fileWritten (c .before .before .x .given .1)) (c .number-of .ensures) refl
 
 pub caplune-write-transducer-spec : {M : Type 1} → statement M
 caplune-write-transducer-spec =
@@ -37,7 +37,7 @@ caplune-write-transducer-spec =
     write-transducer-requires
     enum-known-n
     enum-known-x
-    code-requires
+    number-of-requires
     same-length
     returns
     same-length-2

@@ -12,15 +12,15 @@ enum-known-answer c = search needs
 enum-known-answer-2 : tie.Need-enum-known-answer-2
 enum-known-answer-2 c = search needs
 
-code-requires : tie.Need-code-requires
-code-requires c κs = search needs
+number-of-requires : tie.Need-number-of-requires
+number-of-requires c κs = search needs
 
 returns : tie.Need-returns
 returns c = tells-accepted (c .before .before .before .args .answer) refl (ap numberOf (c .before .answer .given .1)) refl refl
 
 returns-2 : tie.Need-returns-2
-returns-2 c = tells-refused (c .before .before .before .before .args .answer) refl (ap numberOf (c .before .before .answer2 .given .1)) (c .code .ensures) refl
+returns-2 c = tells-refused (c .before .before .before .before .args .answer) refl (ap numberOf (c .before .before .answer2 .given .1)) (c .number-of .ensures) refl
 
 pub tell-entered-spec : {M : Type 1} → statement M
 tell-entered-spec =
-    tie.close (tie.spec enum-known-answer enum-known-answer-2 code-requires returns returns-2)
+    tie.close (tie.spec enum-known-answer enum-known-answer-2 number-of-requires returns returns-2)

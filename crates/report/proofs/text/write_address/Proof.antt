@@ -3,7 +3,7 @@ use native.Mathlib.Omega.{arith}
 use mathlib.Core.Path.{ap, sym}
 use lib.ListN.{length}
 use denote.Ref.{now}
-use Rattle.report.proofs.Pieces.{one-byte, wrote-as, root-text, below-text}
+use Rattle.report.proofs.Pieces.{one-byte, wrote-as, root-text, below-text, below-room}
 use borrow.Author.Needs.{needs}
 use Rattle.report.proofs.text.write_address.Statement.{statement}
 use Rattle.report.proofs.text.write_address.Tie as tie
@@ -21,7 +21,7 @@ returns : tie.Need-returns
 returns c = let a = c .before .before .before .args in wrote-as (sym (root-text (now (a .address)) (c .if1 .taken))) (one-byte (now (a .text)) (a .at) 45)
 
 write-separated-requires : tie.Need-write-separated-requires
-write-separated-requires c κs = omega (arith, ap length (below-text (now (c .before .before .before .before .args .address)) (c .before .if1 .left)), c .before .before .before .before .pre)
+write-separated-requires c κs = let a = c .before .before .before .before .args in search (below-room (a .at) (length (now (a .text))) (now (a .address)) (c .before .if1 .left) (c .before .before .before .before .pre))
 
 same-length-2 : tie.Need-same-length-2
 same-length-2 c = search needs

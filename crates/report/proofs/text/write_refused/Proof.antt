@@ -18,6 +18,9 @@ write-word-requires c κs = search needs
 number-of-requires : tie.Need-number-of-requires
 number-of-requires c κs = search needs
 
+cast-write-number : tie.Need-cast-write-number
+cast-write-number c = search needs
+
 write-number-requires : tie.Need-write-number-requires
 write-number-requires c κs =
     let k = c .number-of .result in
@@ -46,6 +49,7 @@ write-refused-spec =
     slice-aggregate-write-word
     write-word-requires
     number-of-requires
+    cast-write-number
     write-number-requires
     slice-aggregate-write-word-2
     write-word-requires-2
