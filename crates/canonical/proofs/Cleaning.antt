@@ -12,9 +12,9 @@ use Rattle.formats.specs.Sheet.{longest}
 use Rattle.transducer.specs.Inner.Machine.{Machine}
 use Rattle.transducer.proofs.Opening.{Opened}
 use Rattle.earliest.specs.Inner.Forms.{WritesForm, WritesFound}
-use Rattle.earliest.specs.Inner.Loaded.{EarliestOf, EarliestBy, FormsFile}
-use Rattle.earliest.specs.declared.early.Grown.{Grown}
-use Rattle.earliest.specs.declared.early.Grown.the-variants.{States, Over}
+use Rattle.earliest.specs.Inner.Loaded.{EarliestOf, FormOfParts, FormsFile}
+use Rattle.earliest.specs.declared.queue.FormSize.{FormSize}
+use Rattle.earliest.specs.declared.queue.FormSize.the-variants.{States, Over}
 use Rattle.earliest.specs.declared.earliest.Formed.{Formed}
 use Rattle.earliest.proofs.Filing.{packed-encoded}
 use Rattle.earliest.proofs.Forming.{found-file, file-made}
@@ -23,7 +23,7 @@ use Rattle.canonical.specs.Answers.{NormalFile, Cleans}
 use Rattle.canonical.specs.Inner.Normal.{Reducible, Reduces, NormalOf, NormalBy}
 
 -- ---- of the parts of a file, by their earliest form
-module _ {stock counts bytes from early : List ℕ} {n : ℕ} {r : Grown} (X : Machine stock n counts bytes) (B : EarliestBy stock n counts bytes from early r) where
+module _ {stock counts bytes from early : List ℕ} {n : ℕ} {r : FormSize} (X : Machine stock n counts bytes) (B : FormOfParts stock n counts bytes from early r) where
   -- it is over the limits
   pub normal-over : {starts out : List ℕ} → r ≡ Over → NormalBy stock n counts bytes starts out Over
   normal-over e = record {
@@ -64,7 +64,7 @@ module _ {stock counts bytes from early : List ℕ} {n : ℕ} {r : Grown} (X : M
     normal-states i o R = normal-here (rw (i, o) at R)
 
 -- ---- the file of the normal form
-module _ {stock counts bytes starts out : List ℕ} {n : ℕ} {found : Grown} (B : NormalBy stock n counts bytes starts out found) (X : Machine stock n counts bytes) where
+module _ {stock counts bytes starts out : List ℕ} {n : ℕ} {found : FormSize} (B : NormalBy stock n counts bytes starts out found) (X : Machine stock n counts bytes) where
   -- what was written is the file of the normal form
   normal-of : {k : ℕ} → found ≡ States k → {before after : List ℕ} {size : ℕ} (W : WritesForm stock starts out k before after size) → NormalOf stock n counts bytes k (W .counts) (W .marks)
   normal-of {k} e W = record {

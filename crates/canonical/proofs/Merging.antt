@@ -160,11 +160,11 @@ pub front-le : {starts : List ℕ} {b : ℕ} → Front starts b → (i j : ℕ) 
 front-le F i ℕ.zero h g = let e : i ≡ 0 = omega arith in rw e (omega arith)
 front-le {starts} F i (suc j) h g = by-cases (ℕ-discrete i (suc j))
     (λ e. rw e (omega arith))
-    (λ d. omega (arith, front-le F i j (omega arith) (omega arith), rw add-one at (F .rising j (omega arith))))
+    (λ d. omega (arith, front-le F i j (omega arith) (omega arith), rw add-one at (F .increasing j (omega arith))))
 
 -- the bodies of a file lie so
 pub file-front : {ins outs starts bytes : List ℕ} {n : ℕ} → Layout ins outs starts bytes n → Packed ins starts n → Front starts (bodyCount ins n)
-file-front L P = record { start = P .start; rising = P .rising; few = L .few }
+file-front L P = record { start = P .start; increasing = P .increasing; few = L .few }
 
 -- ---- what a copied body leaves
 pub kept-all : {starts bytes : List ℕ} {b : ℕ} → Kept starts bytes starts bytes b
@@ -216,7 +216,7 @@ module _ {starts bytes classes : List ℕ} {j b : ℕ} {starts′ bytes′ start
   pub copies-front : getD starts j 0 < getD starts (j + 1) 0 → getD starts (j + 1) 0 ≤ getD starts j 0 + 64 → Front starts′ b → Front starts″ (b + 1)
   copies-front h g F = record {
     start = copies-kept .start 0 (omega arith) ∙ F .start;
-    rising = below-more (λ i. getD starts″ i 0 < getD starts″ (i + 1) 0) b (λ i l. rw (copies-kept .start i (omega arith), copies-kept .start (i + 1) (omega arith)) (F .rising i l)) (omega (arith, start-next, copies-kept .start b (omega arith)));
+    increasing = below-more (λ i. getD starts″ i 0 < getD starts″ (i + 1) 0) b (λ i l. rw (copies-kept .start i (omega arith), copies-kept .start (i + 1) (omega arith)) (F .increasing i l)) (omega (arith, start-next, copies-kept .start b (omega arith)));
     few = below-more (λ i. getD starts″ (i + 1) 0 ≤ getD starts″ i 0 + 64) b (λ i l. rw (copies-kept .start i (omega arith), copies-kept .start (i + 1) (omega arith)) (F .few i l)) (omega (arith, start-next, copies-kept .start b (omega arith)));
   }
 
@@ -325,7 +325,7 @@ module _ {ins starts bytes classes least : List ℕ} {k : ℕ} {starts₀ bytes�
           same-starts = copies-lengths least-copyable C .0 ∙ L .same-starts;
           same-bytes = copies-lengths least-copyable C .1 ∙ L .same-bytes;
           merged = record {
-            front = rw f at (copies-front least-copyable C (A .whole .packed .rising j h) (A .whole .layout .few j h) (L .merged .front));
+            front = rw f at (copies-front least-copyable C (A .whole .packed .increasing j h) (A .whole .layout .few j h) (L .merged .front));
             kept = kept-on (L .merged .kept) (L .merged .front) (omega arith) K;
             place = rw (e, f) at (copies-place least-copyable C (L .merged .place));
             copied = below-more (λ d. Copied starts bytes classes (bodyNumber ins (at least k) d) starts″ bytes″ (bodyNumber ins k d)) a (λ d g. copied-on (L .merged .copied d g) (L .merged .front) (omega arith) K) (copies-copied least-copyable C);
@@ -380,14 +380,14 @@ module _ {ins outs starts bytes classes least : List ℕ} {count : ℕ} {starts�
   pub merge-none : {starts′ bytes′ : List ℕ} → Copies starts bytes classes 0 0 (set starts₀ 0 0) bytes₀ starts′ bytes′ → MergeLoop ins starts bytes classes least count starts′ bytes′ 0
   merge-none {starts′} C =
       let z = getD-set-same starts₀ 0 0 0 (omega (arith, A .starts-room)) in
-      let F : Front (set starts₀ 0 0) 0 = record { start = z; rising = λ j h. absurd (omega arith); few = λ j h. absurd (omega arith) } in
+      let F : Front (set starts₀ 0 0) 0 = record { start = z; increasing = λ j h. absurd (omega arith); few = λ j h. absurd (omega arith) } in
       let e : 0 + 1 ≡ bodyNumber ins 0 0 = omega arith in
       let p : getD starts′ (bodyNumber ins 0 0) 0 ≤ getD starts (bodyNumber ins 0 0) 0 = rw e at (copies-place initial-copyable C (omega arith)) in
       record {
         inside = omega arith;
         starts-room = omega (arith, copies-lengths initial-copyable C, length-set starts₀ 0 0, A .starts-room);
         bytes-room = copies-lengths initial-copyable C .1 ∙ A .bytes-room;
-        front = rw e at (copies-front initial-copyable C (A .packed .rising 0 (omega arith)) (A .layout .few 0 (omega arith)) F);
+        front = rw e at (copies-front initial-copyable C (A .packed .increasing 0 (omega arith)) (A .layout .few 0 (omega arith)) F);
         place = λ h. omega (arith, old-le (bodyNumber ins 0 0) (at least 0) (row-le ins 0 (at least 0) (omega arith)) (omega (arith, class-state A h)));
         all = omega (arith, old-all 0 (omega arith));
         initial = copies-copied initial-copyable C;
@@ -467,7 +467,7 @@ module _ {ins outs starts bytes classes least : List ℕ} {count : ℕ} {starts�
             few-inputs = A .layout .few-inputs;
             laid = record {
               long = omega (arith, mul-le-mul few (A .layout .few-inputs), L .starts-room);
-              ordered = λ j h. omega (arith, all-front .rising j h);
+              ordered = λ j h. omega (arith, all-front .increasing j h);
               inside = λ j h. omega (arith, front-le all-front j (bodyCount ins count) h (omega arith), all-few, L .bytes-room);
             };
             few = all-front .few;
@@ -487,6 +487,6 @@ module _ {ins outs starts bytes classes least : List ℕ} {count : ℕ} {starts�
       pub merge-end : Merges ins outs starts bytes classes least (length classes) count starts′ bytes′
       merge-end = record {
         layout = new-layout;
-        packed = record { start = all-front .start; rising = all-front .rising; all = all-few };
+        packed = record { start = all-front .start; increasing = all-front .increasing; all = all-few };
         merged = new-machine;
       }

@@ -9,9 +9,9 @@ ghost use Rattle.canonical.specs.Answers.{Cleans};
 ghost use Rattle.canonical.specs.Inner.Normal.{Reducible, Reduces, NormalOf, NormalBy};
 use crate::quotient::merge;
 use earliest::earliest::Formed;
-use earliest::earliest::earliest_by;
-use earliest::early::Grown;
-use earliest::form::write_found;
+use earliest::earliest::form_of_parts;
+use earliest::queue::FormSize;
+use earliest::write::write_found;
 use formats::alphabet::input_ranks;
 use formats::alphabet::output_ranks;
 use formats::file::FileRead;
@@ -85,14 +85,14 @@ pub(crate) fn normal_by(
     marks: &[u8],
     starts: &mut [u16],
     out: &mut [u8],
-) -> Grown
+) -> FormSize
     requires { ⌜ Machine (now stock) n (now counts) (now marks) × (2050 ≤ length (now starts)) × (length (now out) ≡ 16384) ⌝ }
     ensures { λ r. ⌜ NormalBy (now (stock .entry)) n (now (counts .entry)) (now (marks .entry)) (now (starts .exit)) (now (out .exit)) r ⌝ }
 {
     let mut from = [0u16; 2050];
     let mut early = [0u8; 16384];
-    match earliest_by(stock, n, counts, marks, &mut from, &mut early) {
-        Grown::States(k) => Grown::States(reduce(
+    match form_of_parts(stock, n, counts, marks, &mut from, &mut early) {
+        FormSize::States(k) => FormSize::States(reduce(
             input_ranks(stock),
             output_ranks(stock),
             &from,
@@ -101,7 +101,7 @@ pub(crate) fn normal_by(
             starts,
             out,
         )),
-        Grown::Over => Grown::Over,
+        FormSize::Over => FormSize::Over,
     }
 }
 

@@ -33,9 +33,9 @@ use Rattle.prefixes.specs.Alphabet.{alphabet}
 use Rattle.prefixes.specs.Inner.Heads.{machine}
 use Rattle.prefixes.proofs.Settling.{machine-wf}
 use Rattle.earliest.specs.Answers.{formCheck}
-use Rattle.earliest.specs.Inner.Loaded.{EarliestOf, EarliestBy}
-use Rattle.earliest.specs.declared.early.Grown.{Grown}
-use Rattle.earliest.specs.declared.early.Grown.the-variants.{States, Over}
+use Rattle.earliest.specs.Inner.Loaded.{EarliestOf, FormOfParts}
+use Rattle.earliest.specs.declared.queue.FormSize.{FormSize}
+use Rattle.earliest.specs.declared.queue.FormSize.the-variants.{States, Over}
 use Rattle.earliest.proofs.Filing.{packed-encoded}
 use Rattle.earliest.proofs.Forming.{from-parts, to-parts}
 use Rattle.earliest.proofs.Laws.{encoded-wf}
@@ -80,7 +80,7 @@ module _ {ins outs starts bytes starts′ bytes′ : List ℕ} {k k′ : ℕ} (C
   }
 
 -- ---- of the parts of two files, by their earliest forms
-module _ {stock counts bytes starts out : List ℕ} {n : ℕ} {r : Grown} (X : Machine stock n counts bytes) (B : EarliestBy stock n counts bytes starts out r) where
+module _ {stock counts bytes starts out : List ℕ} {n : ℕ} {r : FormSize} (X : Machine stock n counts bytes) (B : FormOfParts stock n counts bytes starts out r) where
   -- the earliest form is over the limits
   early-none : r ≡ Over → (k : ℕ) × ((cs : List ℕ) × ((bs : List ℕ) × EarliestOf stock n counts bytes k cs bs)) → ⊥
   early-none e w = B .over e (w .0) (w .1 .0) (w .1 .1 .0) (w .1 .1 .1)
@@ -108,7 +108,7 @@ module _ {stock counts bytes starts out : List ℕ} {n : ℕ} {r : Grown} (X : M
     early-same : {M : Transducer ℕ} → Encodes (inputs stock) (outputs stock) n counts bytes M → (l : Leaf (inputs stock)) → Equivalent (alphabet (inputs stock) l) M (machine (inputs stock) (outputs stock) starts out k)
     early-same {M} E l = trimmed-equivalent (encoded-wf (X .alphabets .ins .few) l E) (B .trimmed k e M E l)
 
-module _ {stock counts bytes starts out counts′ bytes′ starts′ out′ : List ℕ} {n n′ : ℕ} {r r′ : Grown} (X : Machine stock n counts bytes) (B : EarliestBy stock n counts bytes starts out r) (X′ : Machine stock n′ counts′ bytes′) (B′ : EarliestBy stock n′ counts′ bytes′ starts′ out′ r′) where
+module _ {stock counts bytes starts out counts′ bytes′ starts′ out′ : List ℕ} {n n′ : ℕ} {r r′ : FormSize} (X : Machine stock n counts bytes) (B : FormOfParts stock n counts bytes starts out r) (X′ : Machine stock n′ counts′ bytes′) (B′ : FormOfParts stock n′ counts′ bytes′ starts′ out′ r′) where
   module _ {k : ℕ} (e : r ≡ States k) where
     -- the second is over the limits
     pub parts-second-over : {tree address : List ℕ} → r′ ≡ Over → ComparesParts stock n counts bytes n′ counts′ bytes′ tree tree address address (compared.Refused OverLimits)

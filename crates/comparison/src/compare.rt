@@ -5,8 +5,8 @@ ghost use Rattle.transducer.specs.Inner.Machine.{Machine};
 ghost use Rattle.comparison.specs.Answers.{Compares};
 ghost use Rattle.witness.specs.Inner.Forms.{Comparable};
 ghost use Rattle.comparison.specs.Inner.Verdicts.{ComparesForms, EarlyForm, ComparesWith, ComparesParts};
-use earliest::earliest::earliest_by;
-use earliest::early::Grown;
+use earliest::earliest::form_of_parts;
+use earliest::queue::FormSize;
 use formats::alphabet::input_ranks;
 use formats::alphabet::output_ranks;
 use formats::file::FileRead;
@@ -93,8 +93,8 @@ fn compare_with(
 {
     let mut starts2 = [0u16; 2050];
     let mut form2 = [0u8; 16384];
-    match earliest_by(stock, n2, counts2, marks2, &mut starts2, &mut form2) {
-        Grown::States(k2) => compare_forms(
+    match form_of_parts(stock, n2, counts2, marks2, &mut starts2, &mut form2) {
+        FormSize::States(k2) => compare_forms(
             input_ranks(stock),
             output_ranks(stock),
             starts1,
@@ -106,7 +106,7 @@ fn compare_with(
             tree,
             address,
         ),
-        Grown::Over => Comparison::Refused(Refusal::OverLimits),
+        FormSize::Over => Comparison::Refused(Refusal::OverLimits),
     }
 }
 
@@ -127,8 +127,8 @@ fn compare_parts(
 {
     let mut starts = [0u16; 2050];
     let mut form = [0u8; 16384];
-    match earliest_by(stock, n1, counts1, marks1, &mut starts, &mut form) {
-        Grown::States(k) => compare_with(
+    match form_of_parts(stock, n1, counts1, marks1, &mut starts, &mut form) {
+        FormSize::States(k) => compare_with(
             stock,
             &starts,
             &form,
@@ -139,7 +139,7 @@ fn compare_parts(
             tree,
             address,
         ),
-        Grown::Over => Comparison::Refused(Refusal::OverLimits),
+        FormSize::Over => Comparison::Refused(Refusal::OverLimits),
     }
 }
 

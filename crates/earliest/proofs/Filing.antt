@@ -108,7 +108,7 @@ module _ {ins outs starts bytes : List ℕ} {k : ℕ} (L : Layout ins outs start
   -- no body ends behind the last
   starts-most : (i j : ℕ) → i + j ≡ bodyCount ins k → getD starts j 0 ≤ getD starts (bodyCount ins k) 0
   starts-most ℕ.zero j e = let z : j ≡ bodyCount ins k = omega arith in rw z (omega arith)
-  starts-most (suc i) j e = omega (arith, starts-most i (j + 1) (omega arith), P .rising j (omega arith))
+  starts-most (suc i) j e = omega (arith, starts-most i (j + 1) (omega arith), P .increasing j (omega arith))
 
   module _ (counts : List ℕ) (long : length counts ≡ 2 * bodyCount ins k) (F : FillsCounts starts (bodyCount ins k) counts) where
     abbrev marks : List ℕ
@@ -117,7 +117,7 @@ module _ {ins outs starts bytes : List ℕ} {k : ℕ} (L : Layout ins outs start
     form-starts : Starts counts starts (bodyCount ins k)
     unfolding offset
     form-starts ℕ.zero h = P .start
-    form-starts (suc j) h = rw (← add-one j) (omega (arith, form-starts j (omega arith), offset-next counts j (omega arith), F .each j (omega arith), P .rising j (omega arith)))
+    form-starts (suc j) h = rw (← add-one j) (omega (arith, form-starts j (omega arith), offset-next counts j (omega arith), F .each j (omega arith), P .increasing j (omega arith)))
 
     form-long : length marks ≡ 2 * getD starts (bodyCount ins k) 0
     form-long = length-take-le (2 * getD starts (bodyCount ins k) 0) bytes (L .laid .inside (bodyCount ins k) (omega arith))
@@ -128,7 +128,7 @@ module _ {ins outs starts bytes : List ℕ} {k : ℕ} (L : Layout ins outs start
       states = L .few-states;
       long = long;
       sums = record {
-        each = λ j h. (omega (arith, F .each j h, P .rising j h), omega (arith, F .each j h, L .few j h));
+        each = λ j h. (omega (arith, F .each j h, P .increasing j h), omega (arith, F .each j h, L .few j h));
         few = omega (arith, P .all, form-starts (bodyCount ins k) (omega arith));
         all = omega (arith, form-long, form-starts (bodyCount ins k) (omega arith));
       };

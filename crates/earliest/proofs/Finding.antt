@@ -16,8 +16,8 @@ use Rattle.transducer.proofs.Meaning.{body-read}
 use Rattle.prefixes.specs.Inner.Heads.{Heads, headOf}
 use Rattle.prefixes.specs.Inner.Patterns.{topOf, headAt, Ended}
 use Rattle.prefixes.proofs.Grafts.{head-length, head-lent, lentArea, lentHead}
-use Rattle.earliest.specs.Inner.Growing.{FindsRhs}
-use Rattle.earliest.specs.Inner.Letters.{early, expanded, expandedBody, letterOf, spelt, under, Expandable, Expanding, Locatable, LocatedAt, State}
+use Rattle.earliest.specs.Inner.Discovering.{FindsRhs}
+use Rattle.earliest.specs.Inner.Letters.{earliest, expanded, expandedBody, letterOf, spelt, under, Expandable, Expanding, Locatable, LocatedAt, State}
 use Rattle.earliest.proofs.Expanded.{expanded-short}
 use Rattle.earliest.proofs.Locating.{located-slice}
 use Rattle.earliest.proofs.Numbers.{expanded-whole}
@@ -93,7 +93,7 @@ module _ {ins outs starts bytes heads sizes : List ℕ} (X : Expanding ins outs 
 
     -- and what stands under its ⊤ is the right-hand side
     pub finds-rhs : {at stop : ℕ} → LocatedAt outs (lentHead heads (c / 64) size) (lentArea len letters′) (c % 64) at → Ended (letterOf outs) (lentArea len letters′) at stop → FindsRhs ins outs starts bytes heads sizes c a letters′ at stop
-    unfolding early
+    unfolding earliest
     finds-rhs {at} {stop} K E =
         let z : len - 0 ≡ len = omega arith in
         let l : len ≤ length letters′ = omega (arith, ap length (P .wrote), length-sets letters 0 (expanded heads sizes bytes from to), rhs-lent .1) in

@@ -29,13 +29,13 @@ use Rattle.formats.proofs.Pairs.{number-less}
 use Rattle.formats.proofs.Sheets.{body-exactly, body-unique, whole-ranked}
 use Rattle.prefixes.specs.Alphabet.{alphabet, children-of, children-inside}
 use Rattle.prefixes.specs.Inner.Heads.{machine, Layout}
-use Rattle.earliest.specs.Inner.Letters.{early, State, Expanding}
+use Rattle.earliest.specs.Inner.Letters.{earliest, State, Expanding}
 use Rattle.earliest.specs.Inner.Queue.{metOf}
-use Rattle.earliest.specs.Inner.Grown.{BodyAt}
-use Rattle.earliest.specs.Inner.Growing.{Found, Met}
+use Rattle.earliest.specs.Inner.Bodies.{BodyAt}
+use Rattle.earliest.specs.Inner.Discovering.{Found, Met}
 use Rattle.earliest.specs.Inner.Packed.{Packed}
-use Rattle.earliest.proofs.Growth.{starts-most}
-use Rattle.earliest.proofs.Numbers.{early-numbers-wf}
+use Rattle.earliest.proofs.Adding.{starts-most}
+use Rattle.earliest.proofs.Numbers.{earliest-numbers-wf}
 use Rattle.earliest.proofs.Queues.{marks-renamed, get-take, take-get}
 use Rattle.earliest.proofs.Stages.{initial-small, rhs-small, met-length}
 
@@ -47,7 +47,7 @@ read-few (read-state {p} {q} {L′ = L′} s e r) = omega (arith, get-lt L′ p 
 
 -- when no state is left to be read, all of them have been
 pub found-all : {ins outs starts bytes heads sizes starts′ out list place : List ℕ} {p n : ℕ} → Leaf ins → Found ins outs starts bytes heads sizes p starts′ out list place n → n ≤ p → Found ins outs starts bytes heads sizes n starts′ out list place n
-found-all {p = p} {n = n} l F h = let e : p ≡ n = omega (arith, read-few (F .read l), met-length (F .grows .queue)) in rw e at F
+found-all {p = p} {n = n} l F h = let e : p ≡ n = omega (arith, read-few (F .read l), met-length (F .bodies .queue)) in rw e at F
 
 -- ---- the number of a state is its place
 abbrev numberBy : List ℕ → ℕ → ℕ
@@ -68,20 +68,20 @@ module _ (outs : List ℕ) (r n : ℕ) (name : ℕ → ℕ) where
 
 -- ---- all states have been read
 module _ {ins outs starts bytes heads sizes : List ℕ} (X : Expanding ins outs starts bytes heads sizes) (leaf : Leaf ins) {starts′ out list place : List ℕ} {n : ℕ} (F : Found ins outs starts bytes heads sizes n starts′ out list place n) where
-  all-read : (l : Leaf ins) → Discovered (alphabet ins l) (early ins outs starts bytes heads sizes) (metOf list n)
-  all-read l = rw (met-length (F .grows .queue)) (F .read l)
+  all-read : (l : Leaf ins) → Discovered (alphabet ins l) (earliest ins outs starts bytes heads sizes) (metOf list n)
+  all-read l = rw (met-length (F .bodies .queue)) (F .read l)
 
   numbers : Indexes (metOf list n) (numberBy place)
-  numbers = record { index = λ j c e. let w = take-get list n j e in rw (← w .1, F .grows .queue .number j (w .0)) (omega arith) }
+  numbers = record { index = λ j c e. let w = take-get list n j e in rw (← w .1, F .bodies .queue .number j (w .0)) (omega arith) }
 
-  closed : Closed (alphabet ins leaf) (early ins outs starts bytes heads sizes) (metOf list n) (numberBy place)
+  closed : Closed (alphabet ins leaf) (earliest ins outs starts bytes heads sizes) (metOf list n) (numberBy place)
   closed = discovered-closed numbers (all-read leaf)
 
   met-at : (q : ℕ) → q < n → getElem? (metOf list n) q ≡ some (getD list q 0)
-  met-at q h = get-take list n q h (omega (arith, F .grows .queue .long, F .grows .queue .few))
+  met-at q h = get-take list n q h (omega (arith, F .bodies .queue .long, F .bodies .queue .few))
 
   small-number : (e : ℕ × ℕ) → Listed (metOf list n) (numberBy place) (e .1) → numberBy place (e .1) < n
-  small-number e w = omega (arith, get-lt (metOf list n) (numberBy place (e .1)) w, met-length (F .grows .queue))
+  small-number e w = omega (arith, get-lt (metOf list n) (numberBy place (e .1)) w, met-length (F .bodies .queue))
 
   -- a body is one tree of known marks, the right-hand side with its states by their numbers
   body-read : (r j : ℕ) (t : Term (ℕ × ℕ)) → BodyAt starts′ out place j t → Ranked (Call 8192 r) outs t → AllVars (λ e. Listed (metOf list n) (numberBy place) (e .1)) t
@@ -95,65 +95,65 @@ module _ {ins outs starts bytes heads sizes : List ℕ} (X : Expanding ins outs 
       let w = whole-ranked outs n r ms W in
       (W, body-unique outs n r (first (forest (markOf outs n r) ms)) u (w .0) k (w .1 ∙ sym e))
 
-  initial-read : Whole (markOf outs n 1) (part out (getD starts′ 0 0) (getD starts′ 1 0)) × (first (forest (markOf outs n 1) (part out (getD starts′ 0 0) (getD starts′ 1 0))) ≡ renamed (numberBy place) (early ins outs starts bytes heads sizes .initial))
-  initial-read = body-read 1 0 _ (F .grows .initial (omega arith)) (initial-small X) (closed .initial)
+  initial-read : Whole (markOf outs n 1) (part out (getD starts′ 0 0) (getD starts′ 1 0)) × (first (forest (markOf outs n 1) (part out (getD starts′ 0 0) (getD starts′ 1 0))) ≡ renamed (numberBy place) (earliest ins outs starts bytes heads sizes .initial))
+  initial-read = body-read 1 0 _ (F .bodies .initial (omega arith)) (initial-small X) (closed .initial)
 
   module _ (q a : ℕ) (state : q < n) (there : a < length ins) where
     met-state : State heads sizes (getD list q 0)
-    met-state = states-valid (early-numbers-wf X leaf) (F .read leaf) .every q (getD list q 0) (met-at q state)
+    met-state = states-valid (earliest-numbers-wf X leaf) (F .read leaf) .every q (getD list q 0) (met-at q state)
 
     met-listed : Listed (metOf list n) (numberBy place) (getD list q 0)
     met-listed = rw (numbers .index q (getD list q 0) (met-at q state)) (met-at q state)
 
     rhs-read : Whole (markOf outs n (getD ins a 0)) (part out (getD starts′ (bodyNumber ins q a) 0) (getD starts′ (bodyNumber ins q a + 1) 0))
-        × (first (forest (markOf outs n (getD ins a 0)) (part out (getD starts′ (bodyNumber ins q a) 0) (getD starts′ (bodyNumber ins q a + 1) 0))) ≡ renamed (numberBy place) (early ins outs starts bytes heads sizes .rhs (getD list q 0) a))
+        × (first (forest (markOf outs n (getD ins a 0)) (part out (getD starts′ (bodyNumber ins q a) 0) (getD starts′ (bodyNumber ins q a + 1) 0))) ≡ renamed (numberBy place) (earliest ins outs starts bytes heads sizes .rhs (getD list q 0) a))
     unfolding alphabet
-    rhs-read = body-read (getD ins a 0) (bodyNumber ins q a) _ (F .grows .rhs q a there (omega (arith, number-less ins q n a state there))) (rhs-small X a met-state there) (closed .rhs (getD list q 0) a met-listed (children-of ins a there))
+    rhs-read = body-read (getD ins a 0) (bodyNumber ins q a) _ (F .bodies .rhs q a there (omega (arith, number-less ins q n a state there))) (rhs-small X a met-state there) (closed .rhs (getD list q 0) a met-listed (children-of ins a there))
 
   all-bodies : bodyCount ins n ≤ 2049
-  all-bodies = omega (arith, mul-le-mul (F .grows .few) (X .layout .few-inputs))
+  all-bodies = omega (arith, mul-le-mul (F .bodies .few) (X .layout .few-inputs))
 
   last-body : bodyNumber ins n 0 ≡ bodyCount ins n
   last-body = omega arith
 
-  rising-all : (j : ℕ) → j < bodyCount ins n → (getD starts′ j 0 < getD starts′ (j + 1) 0) × (getD starts′ (j + 1) 0 ≤ getD starts′ j 0 + 64)
-  rising-all j h = F .grows .rising j (omega arith)
+  increasing-all : (j : ℕ) → j < bodyCount ins n → (getD starts′ j 0 < getD starts′ (j + 1) 0) × (getD starts′ (j + 1) 0 ≤ getD starts′ j 0 + 64)
+  increasing-all j h = F .bodies .increasing j (omega arith)
 
   few-marks : getD starts′ (bodyCount ins n) 0 ≤ 8192
-  few-marks = rw last-body at (F .grows .all)
+  few-marks = rw last-body at (F .bodies .all)
 
   -- the bodies lie where the table says
   pub found-layout : Layout ins outs starts′ out n
   unfolding body
   found-layout = record {
     few-symbols = X .layout .few-symbols;
-    few-states = F .grows .few;
+    few-states = F .bodies .few;
     few-inputs = X .layout .few-inputs;
     laid = record {
-      long = omega (arith, all-bodies, F .grows .long);
-      ordered = λ j h. omega (arith, rising-all j h .0);
-      inside = λ j h. omega (arith, starts-most (F .grows) j (omega arith), F .grows .all, F .grows .room);
+      long = omega (arith, all-bodies, F .bodies .long);
+      ordered = λ j h. omega (arith, increasing-all j h .0);
+      inside = λ j h. omega (arith, starts-most (F .bodies) j (omega arith), F .bodies .all, F .bodies .room);
     };
-    few = λ j h. rising-all j h .1;
+    few = λ j h. increasing-all j h .1;
     wholes = record { initial = initial-read .0; rhs = λ q a h g. rhs-read q a h g .0 };
   }
 
   pub found-packed : Packed ins starts′ n
-  found-packed = record { start = F .grows .start; rising = λ j h. rising-all j h .0; all = few-marks }
+  found-packed = record { start = F .bodies .start; increasing = λ j h. increasing-all j h .0; all = few-marks }
 
   -- they are the earliest form with its states in the order of first meeting
-  found-form : (l : Leaf ins) → Identical (alphabet ins l) (machine ins outs starts′ out n) (listed (early ins outs starts bytes heads sizes) (metOf list n) (numberBy place)) n (length (metOf list n))
-  unfolding alphabet transducer body listed early
+  found-form : (l : Leaf ins) → Identical (alphabet ins l) (machine ins outs starts′ out n) (listed (earliest ins outs starts bytes heads sizes) (metOf list n) (numberBy place)) n (length (metOf list n))
+  unfolding alphabet transducer body listed earliest
   found-form l =
-      let E = early ins outs starts bytes heads sizes in
+      let E = earliest ins outs starts bytes heads sizes in
       record {
-        number = sym (met-length (F .grows .queue));
+        number = sym (met-length (F .bodies .queue));
         initial = initial-read .1;
         sort = λ p h. sym (listed-sort E (metOf list n) (numberBy place) p (met-at p h));
         rhs = λ p a sorts h k. rhs-read p a h (children-inside ins a k .0) .1 ∙ sym (listed-rhs E (metOf list n) (numberBy place) p a (met-at p h));
       }
 
-  pub found-met : Met ins (early ins outs starts bytes heads sizes) (machine ins outs starts′ out n) n
+  pub found-met : Met ins (earliest ins outs starts bytes heads sizes) (machine ins outs starts′ out n) n
   found-met = record {
     states = metOf list n;
     index = numberBy place;

@@ -31,41 +31,41 @@ use Rattle.prefixes.specs.Inner.Heads.{headOf, machine, Layout, Prefixable, Pre
 use Rattle.prefixes.proofs.Settling.{machine-wf}
 use Rattle.earliest.specs.Answers.{formOf, formCheck, EarliestFile, FileOf, MakesForm, MakesEarliest}
 use Rattle.earliest.specs.Inner.Forms.{WritesForm, FoundWritable, WritesFound}
-use Rattle.earliest.specs.Inner.Growing.{GrowsForm, Formable, EarlyForm}
-use Rattle.earliest.specs.Inner.Grown.{AllFollow}
-use Rattle.earliest.specs.Inner.Letters.{early, Expanding}
-use Rattle.earliest.specs.Inner.Loaded.{EarliestOf, EarliestBy, FormsFile}
+use Rattle.earliest.specs.Inner.Discovering.{DiscoversForm, Formable, FormOfTable}
+use Rattle.earliest.specs.Inner.Bodies.{AllFollow}
+use Rattle.earliest.specs.Inner.Letters.{earliest, Expanding}
+use Rattle.earliest.specs.Inner.Loaded.{EarliestOf, FormOfParts, FormsFile}
 use Rattle.earliest.specs.Inner.Packed.{Packed}
-use Rattle.earliest.specs.declared.early.Grown.{Grown}
-use Rattle.earliest.specs.declared.early.Grown.the-variants.{States, Over}
+use Rattle.earliest.specs.declared.queue.FormSize.{FormSize}
+use Rattle.earliest.specs.declared.queue.FormSize.the-variants.{States, Over}
 use Rattle.earliest.specs.declared.earliest.Formed.{Formed}
 use Rattle.earliest.specs.declared.earliest.Formed.the-variants.{Form, Refused}
 use Rattle.earliest.proofs.Expanding.{pair}
 use Rattle.earliest.proofs.Loading.{encoded-layout, encoded-same}
-use Rattle.earliest.proofs.Numbers.{prefixed-by, pair-injective, early-numbers-wf, early-maps, pair-sort}
+use Rattle.earliest.proofs.Numbers.{prefixed-by, pair-injective, earliest-numbers-wf, earliest-maps, pair-sort}
 
 -- ---- by the common prefixes
 module _ {ins outs starts bytes heads sizes : List ℕ} (X : Expanding ins outs starts bytes heads sizes)
     (H : (l : Leaf ins) → Prefs (alphabet ins l) (machine ins outs starts bytes (length sizes)) (λ q. q < length sizes) (headOf outs heads sizes)) where
   -- the trimmed form is what the reading of the earliest form finds
-  all-follow : (l : Leaf ins) {N : Transducer ℕ} {k : ℕ} → Trimmed (alphabet ins l) (machine ins outs starts bytes (length sizes)) (λ q. q < length sizes) N k → AllFollow (alphabet ins l) (early ins outs starts bytes heads sizes) N k
+  all-follow : (l : Leaf ins) {N : Transducer ℕ} {k : ℕ} → Trimmed (alphabet ins l) (machine ins outs starts bytes (length sizes)) (λ q. q < length sizes) N k → AllFollow (alphabet ins l) (earliest ins outs starts bytes heads sizes) N k
   all-follow l T =
       let h = headOf outs heads sizes in
       let W = machine-wf l (X .layout .wholes) in
       record {
-        states = λ p L s g. trimmed-follows-states W h (H l) (early-numbers-wf X l) (pair h) (early-maps X l) (λ c v. pair-sort X c) (λ c d v w e. pair-injective (X .table) (X .layout .few-symbols) v w e) s g T;
-        stage = λ p c a L L′ s e r g. trimmed-follows-stage W h (H l) (early-numbers-wf X l) (pair h) (early-maps X l) (λ c v. pair-sort X c) (λ c d v w e. pair-injective (X .table) (X .layout .few-symbols) v w e) s e r g T;
+        states = λ p L s g. trimmed-follows-states W h (H l) (earliest-numbers-wf X l) (pair h) (earliest-maps X l) (λ c v. pair-sort X c) (λ c d v w e. pair-injective (X .table) (X .layout .few-symbols) v w e) s g T;
+        stage = λ p c a L L′ s e r g. trimmed-follows-stage W h (H l) (earliest-numbers-wf X l) (pair h) (earliest-maps X l) (λ c v. pair-sort X c) (λ c d v w e. pair-injective (X .table) (X .layout .few-symbols) v w e) s e r g T;
       }
 
   -- and what it finds is the trimmed form
-  makes-form : {starts′ out : List ℕ} {r : Grown} → GrowsForm ins outs starts bytes heads sizes starts′ out r → EarlyForm ins outs starts bytes (length sizes) starts′ out r
+  makes-form : {starts′ out : List ℕ} {r : FormSize} → DiscoversForm ins outs starts bytes heads sizes starts′ out r → FormOfTable ins outs starts bytes (length sizes) starts′ out r
   makes-form G = record {
     over = λ e l N k counts marks T E. G .over e l N k counts marks (all-follow l T) E;
     layout = G .layout;
     packed = G .packed;
     trimmed = λ k e l.
         let m = G .met k e in
-        trimmed-by (machine-wf l (X .layout .wholes)) (headOf outs heads sizes) (H l) (early-numbers-wf X l) (pair (headOf outs heads sizes)) (early-maps X l) (λ c v. pair-sort X c) (λ c d v w e. pair-injective (X .table) (X .layout .few-symbols) v w e) (m .met l) (m .indexes) (m .form l);
+        trimmed-by (machine-wf l (X .layout .wholes)) (headOf outs heads sizes) (H l) (earliest-numbers-wf X l) (pair (headOf outs heads sizes)) (earliest-maps X l) (λ c v. pair-sort X c) (λ c d v w e. pair-injective (X .table) (X .layout .few-symbols) v w e) (m .met l) (m .indexes) (m .form l);
   }
 
 -- the array of the sizes as it starts
@@ -99,12 +99,12 @@ module _ {ins outs starts bytes : List ℕ} {n : ℕ} (F : Formable ins outs sta
     pub put-inside : n ≤ length (putMid 0 (n - 0) noSizes sizes′)
     put-inside = omega (arith, length-append sizes′ (postOf 0 (n - 0) noSizes), P .same, sizes-long)
 
-    pub can-grow : Expanding ins outs starts bytes heads′ (take (n - 0) (putMid 0 (n - 0) noSizes sizes′))
-    can-grow = rw lent-again here-expand
+    pub can-discover : Expanding ins outs starts bytes heads′ (take (n - 0) (putMid 0 (n - 0) noSizes sizes′))
+    can-discover = rw lent-again here-expand
 
-    -- the contract of `early_form`
-    pub form-early : {starts′ out : List ℕ} {r : Grown} → GrowsForm ins outs starts bytes heads′ (take (n - 0) (putMid 0 (n - 0) noSizes sizes′)) starts′ out r → EarlyForm ins outs starts bytes n starts′ out r
-    form-early G = rw (P .same ∙ sizes-long) at (makes-form here-expand here-prefs (rw lent-again at G))
+    -- the contract of `form_of_table`
+    pub form-by-table : {starts′ out : List ℕ} {r : FormSize} → DiscoversForm ins outs starts bytes heads′ (take (n - 0) (putMid 0 (n - 0) noSizes sizes′)) starts′ out r → FormOfTable ins outs starts bytes n starts′ out r
+    form-by-table G = rw (P .same ∙ sizes-long) at (makes-form here-expand here-prefs (rw lent-again at G))
 
 -- ---- of the parts of a file
 module _ {stock counts bytes : List ℕ} {n : ℕ} (X : Machine stock n counts bytes) {ins outs : List ℕ} (i : ins ≡ inputs stock) (o : outs ≡ outputs stock) (from : List ℕ) (S : Starts counts from (bodyCount ins n)) (long : length from ≡ 2050) where
@@ -125,7 +125,7 @@ module _ {stock counts bytes : List ℕ} {n : ℕ} (X : Machine stock n counts b
   parts-wf l = machine-wf l (machine-layout .wholes)
 
   -- so it has one trimmed form with it
-  form-parts : {starts out : List ℕ} {r : Grown} → EarlyForm (inputs stock) (outputs stock) from bytes n starts out r → EarliestBy stock n counts bytes starts out r
+  form-parts : {starts out : List ℕ} {r : FormSize} → FormOfTable (inputs stock) (outputs stock) from bytes n starts out r → FormOfParts stock n counts bytes starts out r
   form-parts G = record {
     over = λ e k counts′ bytes′ K.
         let l = K .alphabets .leaf in
@@ -136,12 +136,12 @@ module _ {stock counts bytes : List ℕ} {n : ℕ} (X : Machine stock n counts b
     trimmed = λ k e M E l. trimmed-same (parts-wf l) (identical-sym (parts-same E l)) (G .trimmed k e l);
   }
 
-  -- the contract of `earliest_by`
-  pub form-by : {starts out : List ℕ} {r : Grown} → EarlyForm ins outs from bytes n starts out r → EarliestBy stock n counts bytes starts out r
+  -- the contract of `form_of_parts`
+  pub form-by : {starts out : List ℕ} {r : FormSize} → FormOfTable ins outs from bytes n starts out r → FormOfParts stock n counts bytes starts out r
   form-by G = form-parts (rw (i, o) at G)
 
 -- ---- the file of the form that was found
-module _ {stock starts bytes area : List ℕ} {found : Grown} where
+module _ {stock starts bytes area : List ℕ} {found : FormSize} where
   -- it stands in the table, and there is room
   pub found-writable : Alphabets stock → ((k : ℕ) → found ≡ States k → Layout (inputs stock) (outputs stock) starts bytes k) → ((k : ℕ) → found ≡ States k → Packed (inputs stock) starts k) → longest ≤ length area → FoundWritable stock found starts bytes area
   found-writable A L P h = record { each = λ k e. record { alphabets = A; layout = L k e; packed = P k e; room = h } }
@@ -155,7 +155,7 @@ module _ {stock starts bytes area : List ℕ} {found : Grown} where
 
 -- so a form with a property is answered, where no form is over the limits but one whose earliest form is
 module _ (Good : ℕ → List ℕ → List ℕ → Type 0) {stock counts bytes starts out before after : List ℕ} {n : ℕ} where
-  pub found-file : (found : Grown) {r : Formed} → WritesFound stock found starts out before after r
+  pub found-file : (found : FormSize) {r : Formed} → WritesFound stock found starts out before after r
       → (found ≡ Over → (k : ℕ) (counts′ bytes′ : List ℕ) → EarliestOf stock n counts bytes k counts′ bytes′ → ⊥)
       → ((k : ℕ) → found ≡ States k → (size : ℕ) (W : WritesForm stock starts out k before after size) → Good k (W .counts) (W .marks) × ((k′ : ℕ) × ((counts′ : List ℕ) × ((bytes′ : List ℕ) × EarliestOf stock n counts bytes k′ counts′ bytes′))))
       → FormsFile Good stock n counts bytes before after r
@@ -167,7 +167,7 @@ module _ (Good : ℕ → List ℕ → List ℕ → Type 0) {stock counts bytes s
   found-file Over W over form = let w = W .over refl in rw (w .0) (refuse (λ x. over refl (x .0) (x .1 .0) (x .1 .1 .0) (x .1 .1 .1)) (w .1))
 
 -- the trimmed form
-module _ {stock counts bytes starts out : List ℕ} {n : ℕ} {found : Grown} (B : EarliestBy stock n counts bytes starts out found) (X : Machine stock n counts bytes) where
+module _ {stock counts bytes starts out : List ℕ} {n : ℕ} {found : FormSize} (B : FormOfParts stock n counts bytes starts out found) (X : Machine stock n counts bytes) where
   form-of : {k : ℕ} → found ≡ States k → {before after : List ℕ} {size : ℕ} (W : WritesForm stock starts out k before after size) → EarliestOf stock n counts bytes k (W .counts) (W .marks)
   form-of {k} e W = record {
     alphabets = X .alphabets;

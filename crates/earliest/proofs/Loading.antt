@@ -56,7 +56,7 @@ module _ {ins outs : List ℕ} {n : ℕ} {counts bytes : List ℕ} {M : Transduc
   unfolding offset
   encoded-packed S = record {
     start = S 0 (omega arith);
-    rising = λ j h. omega (arith, S j (omega arith), S (j + 1) (omega arith), offset-next counts j (omega (arith, encoded-right .long)), encoded-right .sums .each j h .0);
+    increasing = λ j h. omega (arith, S j (omega arith), S (j + 1) (omega arith), offset-next counts j (omega (arith, encoded-right .long)), encoded-right .sums .each j h .0);
     all = omega (arith, S (bodyCount ins n) (omega arith), encoded-right .sums .few);
   }
 

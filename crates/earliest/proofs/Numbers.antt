@@ -26,7 +26,7 @@ use Rattle.prefixes.specs.Alphabet.{alphabet, children-inside, children-of}
 use Rattle.prefixes.specs.Inner.Heads.{Heads, Layout, headOf, machine}
 use Rattle.prefixes.specs.Inner.Patterns.{top, topOf, patternCode, headAt, readPattern}
 use Rattle.prefixes.proofs.Settling.{machine-wf}
-use Rattle.earliest.specs.Inner.Letters.{letterOf, expandedBody, under, early, State, Expanding}
+use Rattle.earliest.specs.Inner.Letters.{letterOf, expandedBody, under, earliest, State, Expanding}
 use Rattle.earliest.proofs.Ranks.{ranked-all, ranked-sub}
 use Rattle.earliest.specs.Inner.Places.{place}
 use Rattle.earliest.proofs.Places.{under-place, place-open, place-same}
@@ -113,45 +113,45 @@ nth-child (suc r) (suc (suc i)) p h = nth-child r (suc i) (omega arith) (omega a
 
 module _ {ins outs starts bytes heads sizes : List ℕ} (X : Expanding ins outs starts bytes heads sizes) where
   -- the right-hand side of c is the subtree at its address of the expanded right-hand side
-  early-sub : {c : ℕ} (a : ℕ) → State heads sizes c → a < length ins → sub (expandedTerm outs starts bytes heads sizes (bodyNumber ins (c / 64) a)) (place (headOf outs heads sizes (c / 64)) (c % 64)) ≡ some (early ins outs starts bytes heads sizes .rhs c a)
-  unfolding early headOf readPattern
-  early-sub {c} a S h =
+  earliest-sub : {c : ℕ} (a : ℕ) → State heads sizes c → a < length ins → sub (expandedTerm outs starts bytes heads sizes (bodyNumber ins (c / 64) a)) (place (headOf outs heads sizes (c / 64)) (c % 64)) ≡ some (earliest ins outs starts bytes heads sizes .rhs c a)
+  unfolding earliest headOf readPattern
+  earliest-sub {c} a S h =
       under-place (X .prefixed (c / 64) a (S .state) h) (c % 64) (top-inside (X .table) (X .layout .few-symbols) S)
       ∙ ap some (ap₂ (under (c % 64)) (sym (single (forest (topOf outs) (headAt heads sizes (c / 64))) (X .table .each (c / 64) (S .state) .one)))
       (sym (single (forest (letterOf outs) (expandedBody starts bytes heads sizes (bodyNumber ins (c / 64) a))) (expanded-whole (X .table) (X .layout) (c / 64) a (S .state) h .one))))
 
   -- the initial term and the right-hand sides are over the output alphabet, and call states
-  pub early-over-initial : Ranked (StateCall heads sizes 1) outs (early ins outs starts bytes heads sizes .initial)
-  unfolding early
-  early-over-initial = read-initial (X .table) (X .layout) .ranked
+  pub earliest-over-initial : Ranked (StateCall heads sizes 1) outs (earliest ins outs starts bytes heads sizes .initial)
+  unfolding earliest
+  earliest-over-initial = read-initial (X .table) (X .layout) .ranked
 
-  pub early-over : {c : ℕ} (a : ℕ) → State heads sizes c → a < length ins → Ranked (StateCall heads sizes (getD ins a 0)) outs (early ins outs starts bytes heads sizes .rhs c a)
-  early-over {c} a S h =
-      ranked-sub (StateCall heads sizes (getD ins a 0)) outs (expandedTerm outs starts bytes heads sizes (bodyNumber ins (c / 64) a)) (place (headOf outs heads sizes (c / 64)) (c % 64)) (expanded-ranked (X .table) (X .layout) (c / 64) a (S .state) h) (early-sub a S h)
+  pub earliest-over : {c : ℕ} (a : ℕ) → State heads sizes c → a < length ins → Ranked (StateCall heads sizes (getD ins a 0)) outs (earliest ins outs starts bytes heads sizes .rhs c a)
+  earliest-over {c} a S h =
+      ranked-sub (StateCall heads sizes (getD ins a 0)) outs (expandedTerm outs starts bytes heads sizes (bodyNumber ins (c / 64) a)) (place (headOf outs heads sizes (c / 64)) (c % 64)) (expanded-ranked (X .table) (X .layout) (c / 64) a (S .state) h) (earliest-sub a S h)
 
-  pub early-numbers-wf : (l : Leaf ins) → Wf (alphabet ins l) (early ins outs starts bytes heads sizes) (State heads sizes)
-  unfolding alphabet early
-  early-numbers-wf l = record {
-    initial = all-map (λ e k. record { valid = k .state; sort = nth-child 1 (e .0) (k .from-one) (k .child) }) (ranked-all (StateCall heads sizes 1) outs _ early-over-initial);
+  pub earliest-numbers-wf : (l : Leaf ins) → Wf (alphabet ins l) (earliest ins outs starts bytes heads sizes) (State heads sizes)
+  unfolding alphabet earliest
+  earliest-numbers-wf l = record {
+    initial = all-map (λ e k. record { valid = k .state; sort = nth-child 1 (e .0) (k .from-one) (k .child) }) (ranked-all (StateCall heads sizes 1) outs _ earliest-over-initial);
     rhs = λ c a S k.
         let i = children-inside ins a k in
         all-map (λ e m. record { valid = m .state; sort = ap (λ z. nth z (e .0)) (i .1) ∙ nth-child (getD ins a 0) (e .0) (m .from-one) (m .child) })
-        (ranked-all (StateCall heads sizes (getD ins a 0)) outs _ (early-over a S (i .0)));
+        (ranked-all (StateCall heads sizes (getD ins a 0)) outs _ (earliest-over a S (i .0)));
   }
 
   -- the pairs of its states map it into the theory's earliest form
-  pub early-maps : (l : Leaf ins) → Maps (alphabet ins l) (early ins outs starts bytes heads sizes) (earliestForm (machine ins outs starts bytes (length sizes)) (headOf outs heads sizes)) (State heads sizes) (pair (headOf outs heads sizes))
-  unfolding alphabet early earliestForm pair renamed mapT
-  early-maps l = record {
+  pub earliest-maps : (l : Leaf ins) → Maps (alphabet ins l) (earliest ins outs starts bytes heads sizes) (earliestForm (machine ins outs starts bytes (length sizes)) (headOf outs heads sizes)) (State heads sizes) (pair (headOf outs heads sizes))
+  unfolding alphabet earliest earliestForm pair renamed mapT
+  earliest-maps l = record {
     initial = sym (expanded-pairs-initial (X .table) (X .layout));
     rhs = λ c a S k.
         let g = children-inside ins a k .0 in
         let v = place (headOf outs heads sizes (c / 64)) (c % 64) in
         let t = expandedTerm outs starts bytes heads sizes (bodyNumber ins (c / 64) a) in
-        ap (λ u. Option·getD (sub u v) (node 0 none)) (sym (expanded-pairs (X .table) (X .layout) (c / 64) a (S .state) g)) ∙ ap (λ o. Option·getD o (node 0 none)) (sub-bind t _ v (early-sub a S g));
+        ap (λ u. Option·getD (sub u v) (node 0 none)) (sym (expanded-pairs (X .table) (X .layout) (c / 64) a (S .state) g)) ∙ ap (λ o. Option·getD o (node 0 none)) (sub-bind t _ v (earliest-sub a S g));
   }
 
   -- and keep the sorts
-  pub pair-sort : (c : ℕ) → earliestForm (machine ins outs starts bytes (length sizes)) (headOf outs heads sizes) .sort (pair (headOf outs heads sizes) c) ≡ early ins outs starts bytes heads sizes .sort c
-  unfolding earliestForm early transducer
+  pub pair-sort : (c : ℕ) → earliestForm (machine ins outs starts bytes (length sizes)) (headOf outs heads sizes) .sort (pair (headOf outs heads sizes) c) ≡ earliest ins outs starts bytes heads sizes .sort c
+  unfolding earliestForm earliest transducer
   pair-sort c = refl

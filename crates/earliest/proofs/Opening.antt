@@ -10,10 +10,10 @@ use Rattle.formats.specs.Alphabets.{Leaf}
 use Rattle.formats.specs.Inner.Judging.{Put}
 use Rattle.formats.specs.Inner.Layout.{body}
 use Rattle.prefixes.proofs.Grafts.{lentArea}
-use Rattle.earliest.specs.Inner.Letters.{early, expanded, expandedBody, spelt, Expandable, Expanding}
-use Rattle.earliest.specs.Inner.Grown.{AddsBody}
-use Rattle.earliest.specs.Inner.Growing.{Empty, AddsInitial}
-use Rattle.earliest.specs.declared.early.Grown.{Grown}
+use Rattle.earliest.specs.Inner.Letters.{earliest, expanded, expandedBody, spelt, Expandable, Expanding}
+use Rattle.earliest.specs.Inner.Bodies.{AddsBody}
+use Rattle.earliest.specs.Inner.Discovering.{Empty, AddsInitial}
+use Rattle.earliest.specs.declared.queue.FormSize.{FormSize}
 use Rattle.earliest.proofs.Expanded.{expanded-short}
 use Rattle.earliest.proofs.Finding.{can-expand, lent-letters}
 use Rattle.earliest.proofs.Locating.{whole-spelt}
@@ -57,13 +57,13 @@ module _ {ins outs starts bytes heads sizes : List ℕ} (X : Expanding ins outs 
     initial-short = omega (arith, P .size, expanded-short initial-expandable)
 
     -- its letters were written
-    pub initial-written : lentArea len letters′ ≡ spelt (early ins outs starts bytes heads sizes .initial)
-    unfolding early
+    pub initial-written : lentArea len letters′ ≡ spelt (earliest ins outs starts bytes heads sizes .initial)
+    unfolding earliest
     initial-written = lent-letters P (expanded-short initial-expandable) ∙ ap₂ (expanded heads sizes bytes) f t ∙ sym (whole-spelt outs (expandedBody starts bytes heads sizes 0) (expanded-whole-initial (X .table) (X .layout)))
 
 -- it was added, or is over the limits
-pub adds-initial : {ins outs starts bytes heads sizes starts′ out list place starts″ out″ list″ place″ s : List ℕ} {r : Grown} → Expanding ins outs starts bytes heads sizes → Leaf ins → Empty starts′ out list place
-    → AddsBody s 0 starts′ out list place 0 starts″ out″ list″ place″ r → s ≡ spelt (early ins outs starts bytes heads sizes .initial) → AddsInitial ins outs starts bytes heads sizes starts″ out″ list″ place″ r
+pub adds-initial : {ins outs starts bytes heads sizes starts′ out list place starts″ out″ list″ place″ s : List ℕ} {r : FormSize} → Expanding ins outs starts bytes heads sizes → Leaf ins → Empty starts′ out list place
+    → AddsBody s 0 starts′ out list place 0 starts″ out″ list″ place″ r → s ≡ spelt (earliest ins outs starts bytes heads sizes .initial) → AddsInitial ins outs starts bytes heads sizes starts″ out″ list″ place″ r
 adds-initial X l M A e = record {
   over = λ z. initial-over X M e (A .over z);
   found = λ n z. found-initial X l M (rw z at A) e;

@@ -27,8 +27,8 @@ use Rattle.formats.proofs.Cuts.{length-markBytes, markBytes-append}
 use Rattle.formats.proofs.Writing.{sets-append}
 use Rattle.earliest.specs.Inner.Letters.{callLetter, spelt}
 use Rattle.earliest.specs.Inner.Queue.{Queue, Entered, metOf, Copied, markIf, markBy, marksBy, Sayable, callIf, letterCalls}
-use Rattle.earliest.specs.Inner.Grown.{AddsBody}
-use Rattle.earliest.specs.declared.early.Grown.the-variants.{States, Over}
+use Rattle.earliest.specs.Inner.Bodies.{AddsBody}
+use Rattle.earliest.specs.declared.queue.FormSize.the-variants.{States, Over}
 
 -- ---- an element of the beginning of a list
 -- each state met stands in the list of them

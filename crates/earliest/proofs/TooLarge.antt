@@ -26,10 +26,10 @@ use Rattle.formats.proofs.Lines.{row-of, bodies-at}
 use Rattle.formats.proofs.Offsets.{offset-next, offset-most}
 use Rattle.formats.proofs.Pairs.{number-less}
 use Rattle.prefixes.specs.Alphabet.{alphabet, children-of}
-use Rattle.earliest.specs.Inner.Letters.{spelt, early, Expanding}
+use Rattle.earliest.specs.Inner.Letters.{spelt, earliest, Expanding}
 use Rattle.earliest.specs.Inner.Queue.{metOf, letterCalls}
-use Rattle.earliest.specs.Inner.Grown.{TooLarge, Grows}
-use Rattle.earliest.specs.Inner.Growing.{Empty}
+use Rattle.earliest.specs.Inner.Bodies.{TooLarge, BodiesBefore}
+use Rattle.earliest.specs.Inner.Discovering.{Empty}
 use Rattle.earliest.proofs.Queues.{spelt-length, renamed-letters, get-take}
 use Rattle.earliest.proofs.Stages.{Stage, read-spelt, initial-small, stage-place, stage-read, met-length}
 
@@ -61,7 +61,7 @@ module _ {ins outs counts bytes : List ℕ} {N : Transducer ℕ} {k : ℕ} (C : 
 
   -- ---- a right-hand side more
   module _ (l : Leaf ins) {E : Transducer ℕ} {p a met : ℕ} {starts out list place : List ℕ} (F : Follows (alphabet ins l) E (metOf list met) N k)
-      (G : Grows ins E (bodyNumber ins p a) starts out list place met) (state : p < met) (there : a < length ins) where
+      (G : BodiesBefore ins E (bodyNumber ins p a) starts out list place met) (state : p < met) (there : a < length ins) where
     met-at : (q : ℕ) → q < met → getElem? (metOf list met) q ≡ some (getD list q 0)
     met-at q h = get-take list met q h (omega (arith, G .queue .long, G .queue .few))
 
@@ -97,23 +97,23 @@ module _ {ins outs counts bytes : List ℕ} {N : Transducer ℕ} {k : ℕ} (C : 
 -- ---- over the limits
 module _ {ins outs starts bytes heads sizes : List ℕ} (X : Expanding ins outs starts bytes heads sizes) where
   -- with the next right-hand side
-  pub stage-over : {p c a met : ℕ} {L starts′ out list place s : List ℕ} → Stage ins outs starts bytes heads sizes p c a L starts′ out list place met → a < length ins → s ≡ spelt (early ins outs starts bytes heads sizes .rhs c a)
-      → (64 < length s) ⊎ (8192 < getD starts′ (bodyNumber ins p a) 0 + length s) ⊎ ((L′ : List ℕ) × (ReadCalls (letterCalls s) (metOf list met) L′ × (128 < length L′))) → TooLarge ins outs (early ins outs starts bytes heads sizes)
+  pub stage-over : {p c a met : ℕ} {L starts′ out list place s : List ℕ} → Stage ins outs starts bytes heads sizes p c a L starts′ out list place met → a < length ins → s ≡ spelt (earliest ins outs starts bytes heads sizes .rhs c a)
+      → (64 < length s) ⊎ (8192 < getD starts′ (bodyNumber ins p a) 0 + length s) ⊎ ((L′ : List ℕ) × (ReadCalls (letterCalls s) (metOf list met) L′ × (128 < length L′))) → TooLarge ins outs (earliest ins outs starts bytes heads sizes)
   unfolding alphabet
   stage-over {p} {c} {a} {met} {L} {list = list} {s = s} T h e o l N k counts code W C =
-      let E = early ins outs starts bytes heads sizes in
+      let E = earliest ins outs starts bytes heads sizes in
       let F = W .stage p c a L (metOf list met) (T .first l) (T .there) (T .read l) (omega arith) in
       let w = stage-place X l T in
       let z : length s ≡ length (spelt (E .rhs (getD list p 0) a)) = ap length e ∙ ap (λ d. length (spelt (E .rhs d a))) (sym (w .1)) in
-      ⊎-elim (λ g. omega (arith, long-few C l F (T .grows) (w .0) h))
-      (⊎-elim (λ g. omega (arith, sum-few C l F (T .grows) (w .0) h))
+      ⊎-elim (λ g. omega (arith, long-few C l F (T .bodies) (w .0) h))
+      (⊎-elim (λ g. omega (arith, sum-few C l F (T .bodies) (w .0) h))
       (λ g. omega (arith, W .stage p c (a + 1) L (g .0) (T .first l) (T .there) (stage-read X l T h l (rw e at (g .1 .0))) (omega arith) .few, C .contents .states, g .1 .1))) o
 
   -- with the initial term
-  pub initial-over : {starts′ out list place s : List ℕ} → Empty starts′ out list place → s ≡ spelt (early ins outs starts bytes heads sizes .initial)
-      → (64 < length s) ⊎ (8192 < getD starts′ 0 0 + length s) ⊎ ((L′ : List ℕ) × (ReadCalls (letterCalls s) (metOf list 0) L′ × (128 < length L′))) → TooLarge ins outs (early ins outs starts bytes heads sizes)
+  pub initial-over : {starts′ out list place s : List ℕ} → Empty starts′ out list place → s ≡ spelt (earliest ins outs starts bytes heads sizes .initial)
+      → (64 < length s) ⊎ (8192 < getD starts′ 0 0 + length s) ⊎ ((L′ : List ℕ) × (ReadCalls (letterCalls s) (metOf list 0) L′ × (128 < length L′))) → TooLarge ins outs (earliest ins outs starts bytes heads sizes)
   initial-over {s = s} M e o l N k counts code W C =
-      let E = early ins outs starts bytes heads sizes in
+      let E = earliest ins outs starts bytes heads sizes in
       let r = read ℕ-discrete (E .initial) [] in
       let F = W .states 0 (r .0) (read-initial (r .1)) (omega arith) in
       let z : length s ≤ 64 = omega (arith, ap length e, initial-long C l F, C .contents .few 0 (omega (arith, C .contents .bodies))) in

@@ -3,7 +3,7 @@ pub mod Letters
 pub mod Places
 pub mod Queue
 pub mod Packed
-pub mod Grown
-pub mod Growing
+pub mod Bodies
+pub mod Discovering
 pub mod Forms
 pub mod Loaded

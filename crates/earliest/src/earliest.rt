@@ -5,10 +5,10 @@ ghost use lib.ListN.{length};
 ghost use Rattle.formats.specs.Sheet.{longest};
 ghost use Rattle.transducer.specs.Inner.Machine.{Machine};
 ghost use Rattle.earliest.specs.Answers.{MakesEarliest};
-ghost use Rattle.earliest.specs.Inner.Loaded.{EarliestOf, EarliestBy, FormsFile};
-use crate::early::Grown;
-use crate::form::write_found;
-use crate::grow::early_form;
+ghost use Rattle.earliest.specs.Inner.Loaded.{EarliestOf, FormOfParts, FormsFile};
+use crate::discover::form_of_table;
+use crate::queue::FormSize;
+use crate::write::write_found;
 use formats::alphabet::input_ranks;
 use formats::alphabet::output_ranks;
 use formats::bodies::fill_starts;
@@ -25,21 +25,21 @@ pub enum Formed {
 
 // The earliest form of the transducer whose n, counts and marks these are: `starts` says where its bodies start in `out`.
 // What stands in both behind the last body is scratch, and all of it after `Over`.
-pub fn earliest_by(
+pub fn form_of_parts(
     stock: &[u8],
     n: usize,
     counts: &[u8],
     marks: &[u8],
     starts: &mut [u16],
     out: &mut [u8],
-) -> Grown
+) -> FormSize
     requires { ⌜ Machine (now stock) n (now counts) (now marks) × (2050 ≤ length (now starts)) × (length (now out) ≡ 16384) ⌝ }
-    ensures { λ r. ⌜ EarliestBy (now (stock .entry)) n (now (counts .entry)) (now (marks .entry)) (now (starts .exit)) (now (out .exit)) r ⌝ }
+    ensures { λ r. ⌜ FormOfParts (now (stock .entry)) n (now (counts .entry)) (now (marks .entry)) (now (starts .exit)) (now (out .exit)) r ⌝ }
 {
     let ins = input_ranks(stock);
     let mut from = [0u16; 2050];
     fill_starts(counts, 1 + n * ins.len(), &mut from);
-    early_form(ins, output_ranks(stock), &from, marks, n, starts, out)
+    form_of_table(ins, output_ranks(stock), &from, marks, n, starts, out)
 }
 
 // The file of the earliest form of the transducer whose n, counts and marks these are.
@@ -49,7 +49,7 @@ fn form_file(stock: &[u8], n: usize, counts: &[u8], marks: &[u8], area: &mut [u8
 {
     let mut starts = [0u16; 2050];
     let mut out = [0u8; 16384];
-    let found = earliest_by(stock, n, counts, marks, &mut starts, &mut out);
+    let found = form_of_parts(stock, n, counts, marks, &mut starts, &mut out);
     write_found(stock, found, &starts, &out, area)
 }
 

@@ -1,6 +1,6 @@
 // The earliest form of a transducer (01: trimmed sheet).
+pub mod discover;
 pub mod earliest;
-pub mod early;
 pub mod expand;
-pub mod form;
-pub mod grow;
+pub mod queue;
+pub mod write;

@@ -68,18 +68,18 @@ module _ {A B C : Type 0} {f : A → Term B} {g : A → Term C} where
     unfolding bind
 
     -- if what f puts for each variable is a prefix of what g puts for it, so is the whole
-    bind-grows : {t : Term A} → AllVars (λ a. Prefix (f a) (g a)) t → Prefix (bind t f) (bind t g)
-    bind-grows (one p) = p
-    bind-grows (each ps) = keeps (binds-grow ps)
+    bind-larger : {t : Term A} → AllVars (λ a. Prefix (f a) (g a)) t → Prefix (bind t f) (bind t g)
+    bind-larger (one p) = p
+    bind-larger (each ps) = keeps (binds-larger ps)
 
-    binds-grow : {ts : Terms A} → EachVars (λ a. Prefix (f a) (g a)) ts → Prefixes (binds ts f) (binds ts g)
-    binds-grow done = no-more
-    binds-grow (both p ps) = also (bind-grows p) (binds-grow ps)
+    binds-larger : {ts : Terms A} → EachVars (λ a. Prefix (f a) (g a)) ts → Prefixes (binds ts f) (binds ts g)
+    binds-larger done = no-more
+    binds-larger (both p ps) = also (bind-larger p) (binds-larger ps)
 
--- a grafted term grows with the patterns of the states that it calls
-graft-grows : {Q : Type 0} (p h : Q → Pattern) {t : Term (ℕ × Q)} → AllVars (λ e. Prefix (p (e .1)) (h (e .1))) t → Prefix (graft p t) (graft h t)
+-- a grafted term is larger where the patterns of the states that it calls are
+graft-larger : {Q : Type 0} (p h : Q → Pattern) {t : Term (ℕ × Q)} → AllVars (λ e. Prefix (p (e .1)) (h (e .1))) t → Prefix (graft p t) (graft h t)
 unfolding graft
-graft-grows p h a = bind-grows a
+graft-larger p h a = bind-larger a
 
 mutual
   unfolding lcp
@@ -124,7 +124,7 @@ module _ {ins : List ℕ} {M : Transducer ℕ} {n : ℕ} (l : Leaf ins) (W : Wf 
     pub cut-above : (h′ : ℕ → Pattern) (q a : ℕ) → q < n → a < length ins → h′ q ≡ lcp (h q) (graft h (M .rhs q a)) → ((r : ℕ) → r ≢ q → h′ r ≡ h r) → AllAbove ins l M n h′
     unfolding alphabet
     cut-above h′ q a v there e others = pref-enough h′ (λ r w. by-cases (ℕ-discrete r q)
-        (λ z. rw (z, e) (lcp-largest (pref-under all q v) (prefix-trans (pref-fixed q a v there) (graft-grows pref h (all-map (λ c f. pref-under all (c .1) (f .valid)) (W .rhs q a v (children-of ins a there)))))))
+        (λ z. rw (z, e) (lcp-largest (pref-under all q v) (prefix-trans (pref-fixed q a v there) (graft-larger pref h (all-map (λ c f. pref-under all (c .1) (f .valid)) (W .rhs q a v (children-of ins a there)))))))
         (λ k. rw (others r k) (pref-under all r w)))
 
     -- patterns above the common prefixes that no expanded right-hand side cuts are the pref(q)

@@ -31,7 +31,7 @@ use Rattle.formats.proofs.Sheets.{whole-ranked}
 use Rattle.transducer.specs.Inner.Written.{spell}
 use Rattle.transducer.proofs.Meaning.{body-read}
 use Rattle.transducer.proofs.Walks.{spell-same}
-use Rattle.prefixes.specs.Inner.Patterns.{top, topIf, topOf, patternCode, IsPattern, readPattern, headAt, grafted, Begins, Graftable, Met}
+use Rattle.prefixes.specs.Inner.Patterns.{top, topIf, topOf, patternCode, IsPattern, readPattern, headAt, grafted, Begins, Graftable, CutPattern}
 use Rattle.prefixes.specs.Inner.Heads.{Heads, headOf, bodyTerm, Cuttable, CutBy}
 use Rattle.prefixes.proofs.Ends.{letter-inside}
 use Rattle.prefixes.proofs.Patterns.{patternsAt, Byte, named, free, byte-at}
@@ -402,15 +402,15 @@ module _ {outs heads sizes bytes other : List ℕ} {from to q : ℕ} (C : Cuttab
     lent-graft = let z : len - 0 ≡ len = omega arith in rw z (P .wrote)
 
     -- both are patterns
-    pub to-meet : IsPattern outs (lentHead heads q n) × IsPattern outs (lentArea len other′)
-    to-meet = (rw lent-head (C .table .each q (C .state)), rw lent-graft (graft-read (C .table) bytes from to (C .children) (C .whole) .pattern))
+    pub to-cut-pattern : IsPattern outs (lentHead heads q n) × IsPattern outs (lentArea len other′)
+    to-cut-pattern = (rw lent-head (C .table .each q (C .state)), rw lent-graft (graft-read (C .table) bytes from to (C .children) (C .whole) .pattern))
 
     -- the part and the room that are lent
     pub lent-inside : (64 * q + n ≤ length heads) × (len ≤ length other′)
     lent-inside = (omega (arith, C .table .long, C .state, C .table .small q (C .state)), P .inside)
 
     module _ {after : List ℕ} {size : ℕ} {b : Bool} (same : length after ≡ length (lentHead heads q n))
-        (M : Met outs (lentHead heads q n) (lentArea len other′) after size b) where
+        (M : CutPattern outs (lentHead heads q n) (lentArea len other′) after size b) where
       -- the new size fits a byte
       pub size-small : size ≤ 64
       size-small = omega (arith, M .short, ap length lent-head, head-length heads sizes q (omega (arith, lent-inside .0)), C .table .small q (C .state))
@@ -424,7 +424,7 @@ module _ {outs heads sizes bytes other : List ℕ} {from to q : ℕ} (C : Cuttab
           × (headOf outs (putHead heads q n after) (set sizes q size) q ≡ sharedOf outs (lentHead heads q n) (lentArea len other′))
       unfolding headOf
       new-back =
-          let k = shared-back outs (C .few-symbols) (lentHead heads q n) (lentArea len other′) (to-meet .0) in
+          let k = shared-back outs (C .few-symbols) (lentHead heads q n) (lentArea len other′) (to-cut-pattern .0) in
           (rw new-head (k .0), ap (readPattern outs) new-head ∙ k .1)
 
       -- the old one

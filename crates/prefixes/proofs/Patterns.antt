@@ -21,7 +21,7 @@ use Rattle.formats.specs.Inner.Decode.{lettersAll, firsts, rests, grown, put, f
 use Rattle.formats.specs.Refusal.{Decides}
 use Rattle.formats.proofs.Codes.{single}
 use Rattle.formats.proofs.Forest.{count-firsts, count-rests, all-drop}
-use Rattle.prefixes.specs.Inner.Patterns.{top, topIf, topOf, patternCode, IsPattern, readPattern, Ended, Alike, Run, Met}
+use Rattle.prefixes.specs.Inner.Patterns.{top, topIf, topOf, patternCode, IsPattern, readPattern, Ended, Alike, Run, CutPattern}
 use Rattle.prefixes.proofs.Ends.{taken, letter-put, Ranks}
 
 -- the patterns that stand from position p on
@@ -176,7 +176,7 @@ told-other (free l e) q T f g = rw (g l) (told-on T (λ r. cc, λ r. q ∙ ap (m
 
 -- ---- two patterns, compared from left to right
 -- All is compared up to position i of the first pattern, which is now x, and j of the second, y; the w bytes of what they share up to there are written.
-pub record Meeting (outs before y x : List ℕ) (i j w : ℕ) (cut : Bool) : Type 0 where
+pub record Cutting (outs before y x : List ℕ) (i j w : ℕ) (cut : Bool) : Type 0 where
   pub behind : w ≤ i
   pub inside : i ≤ length x
   pub long : length x ≡ length before
@@ -186,9 +186,9 @@ pub record Meeting (outs before y x : List ℕ) (i j w : ℕ) (cut : Bool) : Typ
   pub told : Told (lcp (readPattern outs before) (readPattern outs y) ≡ readPattern outs before) (lcps (patternsAt outs x i) (patternsAt outs y j) ≡ patternsAt outs x i) cut
 
 -- before the first byte
-pub meeting-start : (outs x y : List ℕ) → IsPattern outs x → IsPattern outs y → Meeting outs x y x 0 0 0 false
+pub cutting-start : (outs x y : List ℕ) → IsPattern outs x → IsPattern outs y → Cutting outs x y x 0 0 0 false
 unfolding readPattern lcp flat
-meeting-start outs x y X Y =
+cutting-start outs x y X Y =
     let s = single (patternsAt outs x 0) (X .one) in
     let e : lcps (patternsAt outs x 0) (patternsAt outs y 0) ≡ more (lcp (readPattern outs x) (readPattern outs y)) none = ap₂ lcps s (single (patternsAt outs y 0) (Y .one)) in
     record {
@@ -207,11 +207,11 @@ unfolding lettersAll count
 all-there none h = absurd (omega arith)
 all-there (more t ts) h = omega arith
 
-module _ {outs before y x : List ℕ} {i j w : ℕ} {cut : Bool} (M : Meeting outs before y x i j w cut) where
+module _ {outs before y x : List ℕ} {i j w : ℕ} {cut : Bool} (M : Cutting outs before y x i j w cut) where
   -- at the end
-  pub meeting-done : length x ≤ i → Met outs before y x w cut
+  pub cutting-done : length x ≤ i → CutPattern outs before y x w cut
   unfolding forest lcp flat
-  meeting-done h =
+  cutting-done h =
       let e : patternsAt outs x i ≡ none = ap (forest (topOf outs)) (drop-of-length-le x {i = i} h) in
       let q : lcps (patternsAt outs x i) (patternsAt outs y j) ≡ none = ap (λ F. lcps F (patternsAt outs y j)) e in
       record {
@@ -229,7 +229,7 @@ module _ {outs before y x : List ℕ} {i j w : ℕ} {cut : Bool} (M : Meeting ou
     second-there = omega (arith, first-there, M .paired)
 
     -- the byte v is written, and a part of both patterns is passed
-    next-turn : (i′ j′ v : ℕ) {cut′ : Bool} → i < i′ → i′ ≤ length x → Turn (patternsAt outs x i) (patternsAt outs y j) (patternsAt outs x i′) (patternsAt outs y j′) v → Told (lcp (readPattern outs before) (readPattern outs y) ≡ readPattern outs before) (lcps (patternsAt outs x i′) (patternsAt outs y j′) ≡ patternsAt outs x i′) cut′ → Meeting outs before y (set x w v) i′ j′ (w + 1) cut′
+    next-turn : (i′ j′ v : ℕ) {cut′ : Bool} → i < i′ → i′ ≤ length x → Turn (patternsAt outs x i) (patternsAt outs y j) (patternsAt outs x i′) (patternsAt outs y j′) v → Told (lcp (readPattern outs before) (readPattern outs y) ≡ readPattern outs before) (lcps (patternsAt outs x i′) (patternsAt outs y j′) ≡ patternsAt outs x i′) cut′ → Cutting outs before y (set x w v) i′ j′ (w + 1) cut′
     next-turn i′ j′ v h g T D =
         let e : drop i′ (set x w v) ≡ drop i′ x = drop-set-lt i′ x w v (omega (arith, M .behind)) in
         let r : i + (i′ - i) ≡ i′ = omega arith in
@@ -246,14 +246,14 @@ module _ {outs before y x : List ℕ} {i j w : ℕ} {cut : Bool} (M : Meeting ou
         }
 
     -- the same byte in both
-    pub same-turn : getD x i 0 ≡ getD y j 0 → Meeting outs before y (set x w (getD x i 0)) (i + 1) (j + 1) (w + 1) cut
+    pub same-turn : getD x i 0 ≡ getD y j 0 → Cutting outs before y (set x w (getD x i 0)) (i + 1) (j + 1) (w + 1) cut
     same-turn e =
         let B : Byte outs (getD x i 0) (patternsAt outs y (j + 1)) (patternsAt outs y j) = rw e (byte-at outs y j second-there) in
         let s = same-byte (byte-at outs x i first-there) B (M .paired) in
         next-turn (i + 1) (j + 1) (getD x i 0) (omega arith) (omega arith) (s .0) (told-on (M .told) (s .1))
 
     -- two bytes: both patterns that begin with them are passed, and ⊤ is written
-    pub other-turn : {i′ j′ : ℕ} {cut′ : Bool} → (getD x i 0 ≡ getD y j 0 → ⊥) → Ended (topOf outs) x i i′ → Ended (topOf outs) y j j′ → (getD x i 0 < length outs → cut′ ≡ true) → (length outs ≤ getD x i 0 → cut′ ≡ cut) → Meeting outs before y (set x w top) i′ j′ (w + 1) cut′
+    pub other-turn : {i′ j′ : ℕ} {cut′ : Bool} → (getD x i 0 ≡ getD y j 0 → ⊥) → Ended (topOf outs) x i i′ → Ended (topOf outs) y j j′ → (getD x i 0 < length outs → cut′ ≡ true) → (length outs ≤ getD x i 0 → cut′ ≡ cut) → Cutting outs before y (set x w top) i′ j′ (w + 1) cut′
     other-turn {i′} {j′} n E E′ f g =
         let B = byte-at outs x i first-there in
         let C = byte-at outs y j second-there in
@@ -270,7 +270,7 @@ alike-more x y i j t n A B u h = by-cases (decLt u t) (A u) (λ l.
     rw (e, f) at (B (u - t) (omega arith)))
 
 -- n bytes that are the same in both, while what they share stands where they are: nothing is written
-pub same-turns : {outs before y x : List ℕ} {cut : Bool} (i j n : ℕ) → i + n ≤ length x → Alike x i y j n → Meeting outs before y x i j i cut → Meeting outs before y x (i + n) (j + n) (i + n) cut
+pub same-turns : {outs before y x : List ℕ} {cut : Bool} (i j n : ℕ) → i + n ≤ length x → Alike x i y j n → Cutting outs before y x i j i cut → Cutting outs before y x (i + n) (j + n) (i + n) cut
 same-turns i j ℕ.zero h A M =
     let e : i + 0 ≡ i = omega arith in
     let f : j + 0 ≡ j = omega arith in
@@ -282,7 +282,7 @@ same-turns {x = x} i j (suc n) h A M =
     rw (e, f) (rw (set-getD x (i + n) 0) at N)
 
 -- a byte that is the same in both, and t behind it
-pub run-turn : {outs before y x : List ℕ} {i j w t : ℕ} {cut : Bool} → Meeting outs before y x i j w cut → i < length x → getD x i 0 ≡ getD y j 0 → w ≡ i → Run x (i + 1) y (j + 1) t → Meeting outs before y x (i + t + 1) (j + t + 1) (w + t + 1) cut
+pub run-turn : {outs before y x : List ℕ} {i j w t : ℕ} {cut : Bool} → Cutting outs before y x i j w cut → i < length x → getD x i 0 ≡ getD y j 0 → w ≡ i → Run x (i + 1) y (j + 1) t → Cutting outs before y x (i + t + 1) (j + t + 1) (w + t + 1) cut
 run-turn {x = x} {i} {j} {w} {t} M h e s R =
     let N = rw (s, set-getD x i 0) at (same-turn M h e) in
     let a : i + t + 1 ≡ i + 1 + t = omega arith in

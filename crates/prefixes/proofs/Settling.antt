@@ -43,18 +43,18 @@ pub use Rattle.prefixes.proofs.Above.{machine-wf}
 -- ---- one cut
 module _ {ins : List ℕ} {M : Transducer ℕ} {n : ℕ} (W : (l : Leaf ins) → Wf (alphabet ins l) M (λ q. q < n))
     {h h′ : ℕ → Pattern} (q a : ℕ) (state : q < n) (there : a < length ins) (e : h′ q ≡ lcp (h q) (graft h (M .rhs q a))) (others : (p : ℕ) → p ≢ q → h′ p ≡ h p) {b : Bool} (told : Decides (h′ q ≡ h q → ⊥) b) where
-  -- the pattern of q stays, or loses symbols
+  -- the pattern of q stays, or has fewer symbols
   stays : b ≡ false → h′ q ≡ h q
   stays f = ⊎-elim (λ s. e ∙ s) (λ l. conflict (let z = told .complete (λ k. omega (arith, ap size (sym e ∙ k))) in let x = sym f ∙ z in cc)) (lcp-smaller (h q) (graft h (M .rhs q a)))
 
-  loses : b ≡ true → size (h′ q) < size (h q)
-  loses t = ⊎-elim (λ s. absurd (told .sound t (e ∙ s))) (λ l. omega (arith, ap size e)) (lcp-smaller (h q) (graft h (M .rhs q a)))
+  smaller : b ≡ true → size (h′ q) < size (h q)
+  smaller t = ⊎-elim (λ s. absurd (told .sound t (e ∙ s))) (λ l. omega (arith, ap size e)) (lcp-smaller (h q) (graft h (M .rhs q a)))
 
   pub one-cut : Cuts ins M n h h′ b
   one-cut = record {
     above = λ l all. cut-above l (W l) all h′ q a state there e others;
     under = λ p v. by-cases (ℕ-discrete p q) (λ z. rw (z, e) (lcp-left (h q) (graft h (M .rhs q a)))) (λ k. rw (others p k) (prefix-self (h p)));
-    less = λ t. total-falls h h′ q n state others (loses t);
+    less = λ t. total-falls h h′ q n state others (smaller t);
     kept = λ f p. by-cases (ℕ-discrete p q) (λ z. rw z (stays f)) (others p);
   }
 

@@ -5,7 +5,7 @@ ghost use mathlib.Core.Path.{_≡_};
 ghost use lib.ListN.{length, drop};
 ghost use Rattle.theory.specs.Term.{count};
 ghost use Rattle.formats.specs.Inner.Decode.{forest};
-ghost use Rattle.prefixes.specs.Inner.Patterns.{topOf, IsPattern, Ended, Alike, Run, Met, Begins, Graftable, grafted};
+ghost use Rattle.prefixes.specs.Inner.Patterns.{topOf, IsPattern, Ended, Alike, Run, CutPattern, Begins, Graftable, grafted};
 use formats::bytes::wide;
 use formats::file::copy_at;
 
@@ -86,10 +86,10 @@ pub struct Shared {
     pub cut: bool,
 }
 
-// Cuts the pattern `x` to what it shares with the pattern `y`, where it stands.
-pub(crate) fn meet(outs: &[u8], x: &mut [u8], y: &[u8]) -> Shared
+// Cuts the pattern `x` to its largest common prefix with the pattern `y`, where it stands.
+pub(crate) fn cut_pattern(outs: &[u8], x: &mut [u8], y: &[u8]) -> Shared
     requires { ⌜ IsPattern (now outs) (now x) × IsPattern (now outs) (now y) ⌝ }
-    ensures { λ r. ⌜ Met (now (outs .entry)) (now (x .entry)) (now (y .entry)) (now (x .exit)) (r .size) (r .cut) ⌝ }
+    ensures { λ r. ⌜ CutPattern (now (outs .entry)) (now (x .entry)) (now (y .entry)) (now (x .exit)) (r .size) (r .cut) ⌝ }
 {
     let mut i = 0;
     let mut j = 0;

@@ -11,8 +11,8 @@ use crate::callers::more_flags;
 use crate::callers::next_flags;
 use crate::callers::other_flags;
 use crate::pattern::SLOT;
+use crate::pattern::cut_pattern;
 use crate::pattern::graft;
-use crate::pattern::meet;
 use formats::bytes::number;
 use formats::bytes::wide;
 
@@ -33,7 +33,7 @@ pub(crate) fn cut_by(
     let len = graft(heads, sizes, marks, from, to, other);
     let start = SLOT * q;
     let end = start + wide(sizes[q]);
-    let shared = meet(outs, &mut heads[start..end], &other[0..len]);
+    let shared = cut_pattern(outs, &mut heads[start..end], &other[0..len]);
     let size = shared.size;
     sizes[q] = size as u8;
     shared.cut
@@ -118,9 +118,9 @@ fn sweep(
     any
 }
 
-// Cuts the pattern of every state, and then, round after round, those of the states that call one whose pattern lost symbols in the round before.
+// Cuts the pattern of every state, and then, round after round, those of the states that call one whose pattern was cut in the round before.
 // The flags, of which number f is that of state n - 1 - f, save cuts that take nothing away, and no pattern hangs on them. Rounds are fair: were
-// the first flag always the next, states with many callees would be cut again for each symbol that one of these loses.
+// the first flag always the next, states with many callees would be cut again for each symbol that is cut of one of these.
 fn follow(
     ins: &[u8],
     outs: &[u8],

@@ -12,8 +12,8 @@ use Rattle.prefixes.specs.Alphabet.{alphabet}
 use Rattle.prefixes.specs.Inner.Heads.{machine, Layout}
 use Rattle.earliest.specs.Inner.Loaded.{EarliestOf}
 use Rattle.earliest.specs.Inner.Packed.{Packed}
-use Rattle.earliest.specs.declared.early.Grown.{Grown}
-use Rattle.earliest.specs.declared.early.Grown.the-variants.{States, Over}
+use Rattle.earliest.specs.declared.queue.FormSize.{FormSize}
+use Rattle.earliest.specs.declared.queue.FormSize.the-variants.{States, Over}
 
 -- a transducer in a table
 pub record Reducible (ins outs starts bytes : List ℕ) (k : ℕ) : Type 0 where
@@ -36,7 +36,7 @@ pub record NormalOf (stock : List ℕ) (n : ℕ) (counts bytes : List ℕ) (k : 
   pub form-coded : Encodes (inputs stock) (outputs stock) k counts′ bytes′ form
 
 -- the normal form stands in the table; or the earliest form is over the limits of a file
-pub record NormalBy (stock : List ℕ) (n : ℕ) (counts bytes starts out : List ℕ) (r : Grown) : Type 0 where
+pub record NormalBy (stock : List ℕ) (n : ℕ) (counts bytes starts out : List ℕ) (r : FormSize) : Type 0 where
   pub over : r ≡ Over → (k : ℕ) (counts′ bytes′ : List ℕ) → EarliestOf stock n counts bytes k counts′ bytes′ → ⊥
   pub within : (k : ℕ) → r ≡ States k → (k′ : ℕ) × ((counts′ : List ℕ) × ((bytes′ : List ℕ) × EarliestOf stock n counts bytes k′ counts′ bytes′))
   pub layout : (k : ℕ) → r ≡ States k → Layout (inputs stock) (outputs stock) starts out k

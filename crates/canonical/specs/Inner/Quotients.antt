@@ -43,7 +43,7 @@ sizeOf starts j = getD starts (j + 1) 0 - getD starts j 0
 -- the table says where the bodies before number b lie: one behind the other from the first mark on, 1 to 64 marks each
 pub record Front (starts : List ℕ) (b : ℕ) : Type 0 where
   pub start : getD starts 0 0 ≡ 0
-  pub rising : (j : ℕ) → j < b → getD starts j 0 < getD starts (j + 1) 0
+  pub increasing : (j : ℕ) → j < b → getD starts j 0 < getD starts (j + 1) 0
   pub few : (j : ℕ) → j < b → getD starts (j + 1) 0 ≤ getD starts j 0 + 64
 
 -- body b of the new file is body j of the old one, with classes for states

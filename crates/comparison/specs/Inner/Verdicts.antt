@@ -13,8 +13,8 @@ use Rattle.formats.specs.declared.refusal.Refusal.{Refusal}
 use Rattle.prefixes.specs.Alphabet.{alphabet}
 use Rattle.prefixes.specs.Inner.Heads.{machine}
 use Rattle.transducer.specs.Inner.Machine.{Machine}
-use Rattle.earliest.specs.Inner.Loaded.{EarliestOf, EarliestBy}
-use Rattle.earliest.specs.declared.early.Grown.the-variants.{States}
+use Rattle.earliest.specs.Inner.Loaded.{EarliestOf, FormOfParts}
+use Rattle.earliest.specs.declared.queue.FormSize.the-variants.{States}
 use Rattle.canonical.specs.Answers.{Alike}
 use Rattle.witness.specs.Difference.{Difference, Written}
 use Rattle.witness.specs.Inner.Forms.{Shows}
@@ -47,9 +47,9 @@ pub record EarlyForm (stock starts out : List ℕ) (k : ℕ) : Type 0 where
   pub counts : List ℕ
   pub bytes : List ℕ
   pub machine : Machine stock states counts bytes
-  pub earliest : EarliestBy stock states counts bytes starts out (States k)
+  pub earliest : FormOfParts stock states counts bytes starts out (States k)
 
 -- what is answered of it and of the parts of a second file: that of the parts of any file whose earliest form it is
 abbrev pub ComparesWith : List ℕ → List ℕ → List ℕ → ℕ → ℕ → List ℕ → List ℕ → List ℕ → List ℕ → List ℕ → List ℕ → Comparison → Type 0
 ComparesWith stock starts out k n′ counts′ bytes′ tree tree′ address address′ r =
-    (n : ℕ) (counts bytes : List ℕ) → Machine stock n counts bytes → EarliestBy stock n counts bytes starts out (States k) → ComparesParts stock n counts bytes n′ counts′ bytes′ tree tree′ address address′ r
+    (n : ℕ) (counts bytes : List ℕ) → Machine stock n counts bytes → FormOfParts stock n counts bytes starts out (States k) → ComparesParts stock n counts bytes n′ counts′ bytes′ tree tree′ address address′ r

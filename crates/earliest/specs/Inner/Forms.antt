@@ -13,8 +13,8 @@ use Rattle.formats.specs.declared.refusal.Refusal.the-variants.{OverLimits}
 use Rattle.prefixes.specs.Alphabet.{alphabet}
 use Rattle.prefixes.specs.Inner.Heads.{machine, Layout}
 use Rattle.earliest.specs.Inner.Packed.{Packed}
-use Rattle.earliest.specs.declared.early.Grown.{Grown}
-use Rattle.earliest.specs.declared.early.Grown.the-variants.{States, Over}
+use Rattle.earliest.specs.declared.queue.FormSize.{FormSize}
+use Rattle.earliest.specs.declared.queue.FormSize.the-variants.{States, Over}
 use Rattle.earliest.specs.declared.earliest.Formed.{Formed}
 use Rattle.earliest.specs.declared.earliest.Formed.the-variants.{Form, Refused}
 
@@ -41,7 +41,7 @@ pub record WritesForm (stock starts bytes : List ℕ) (k : ℕ) (before after : 
   pub wrote : after ≡ sets before 0 (file k counts marks)
 
 -- what writing the form that was found asks: it stands in the table
-pub record FoundWritable (stock : List ℕ) (found : Grown) (starts bytes area : List ℕ) : Type 0 where
+pub record FoundWritable (stock : List ℕ) (found : FormSize) (starts bytes area : List ℕ) : Type 0 where
   pub each : (k : ℕ) → found ≡ States k → Writable stock starts bytes k area
 
 -- the form with k states was written: r says how many states and marks it has, and how long its file is
@@ -53,6 +53,6 @@ pub record FormWritten (stock : List ℕ) (k : ℕ) (starts bytes before after :
   pub written : WritesForm stock starts bytes k before after size
 
 -- what it does: the form that was found is written; refusal 7 where it is over the limits
-pub record WritesFound (stock : List ℕ) (found : Grown) (starts bytes before after : List ℕ) (r : Formed) : Type 0 where
+pub record WritesFound (stock : List ℕ) (found : FormSize) (starts bytes before after : List ℕ) (r : Formed) : Type 0 where
   pub over : found ≡ Over → (r ≡ Refused OverLimits) × (after ≡ before)
   pub form : (k : ℕ) → found ≡ States k → FormWritten stock k starts bytes before after r

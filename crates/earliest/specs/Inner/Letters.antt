@@ -66,8 +66,8 @@ under (suc m) (more (node k cs) hs) (more (var b) ts) = node 0 none
 under (suc m) (more (node k cs) hs) (more (node j ds) ts) = under m (joined cs hs) (joined ds ts)
 
 -- the earliest form, its states as numbers
-unfoldable pub early : List ℕ → List ℕ → List ℕ → List ℕ → List ℕ → List ℕ → Transducer ℕ
-early ins outs starts bytes heads sizes = record {
+unfoldable pub earliest : List ℕ → List ℕ → List ℕ → List ℕ → List ℕ → List ℕ → Transducer ℕ
+earliest ins outs starts bytes heads sizes = record {
   sort = λ c. 0;
   initial = first (forest (letterOf outs) (expandedBody starts bytes heads sizes 0));
   rhs = λ c a. under (c % 64) (forest (topOf outs) (headAt heads sizes (c / 64))) (forest (letterOf outs) (expandedBody starts bytes heads sizes (bodyNumber ins (c / 64) a)));

@@ -11,8 +11,8 @@ use Rattle.prefixes.specs.Alphabet.{alphabet}
 use Rattle.prefixes.specs.Inner.Heads.{machine, Layout}
 use Rattle.earliest.specs.Answers.{formOf, FileOf}
 use Rattle.earliest.specs.Inner.Packed.{Packed}
-use Rattle.earliest.specs.declared.early.Grown.{Grown}
-use Rattle.earliest.specs.declared.early.Grown.the-variants.{States, Over}
+use Rattle.earliest.specs.declared.queue.FormSize.{FormSize}
+use Rattle.earliest.specs.declared.queue.FormSize.the-variants.{States, Over}
 use Rattle.earliest.specs.declared.earliest.Formed.{Formed}
 
 -- k, the counts and the marks are those of the earliest form of the transducer with n states and these counts and marks
@@ -25,7 +25,7 @@ pub record EarliestOf (stock : List ℕ) (n : ℕ) (counts bytes : List ℕ) (k 
   pub form-coded : Encodes (inputs stock) (outputs stock) k counts′ bytes′ form
 
 -- the earliest form stands in the table; or it is over the limits of a file
-pub record EarliestBy (stock : List ℕ) (n : ℕ) (counts bytes starts out : List ℕ) (r : Grown) : Type 0 where
+pub record FormOfParts (stock : List ℕ) (n : ℕ) (counts bytes starts out : List ℕ) (r : FormSize) : Type 0 where
   pub over : r ≡ Over → (k : ℕ) (counts′ bytes′ : List ℕ) → EarliestOf stock n counts bytes k counts′ bytes′ → ⊥
   pub layout : (k : ℕ) → r ≡ States k → Layout (inputs stock) (outputs stock) starts out k
   pub packed : (k : ℕ) → r ≡ States k → Packed (inputs stock) starts k

@@ -89,20 +89,20 @@ AllUnder n p h = (q : ℕ) → q < n → Prefix (p q) (h q)
 abbrev pub UnderLeaf : Transducer ℕ → ℕ → ℕ → (ℕ → Pattern) → Type 0
 UnderLeaf M leaf n h = (q : ℕ) → q < n → Prefix (h q) (M .rhs q leaf)
 
--- what any number of cuts do to the patterns h: they stay above the common prefixes, and lose symbols or stay as they were, as b says
+-- what any number of cuts do to the patterns h: they stay above the common prefixes, and have fewer symbols or stay as they were, as b says
 pub record Cuts (ins : List ℕ) (M : Transducer ℕ) (n : ℕ) (h h′ : ℕ → Pattern) (b : Bool) : Type 0 where
   pub above : (l : Leaf ins) → AllAbove ins l M n h → AllAbove ins l M n h′
   pub under : AllUnder n h′ h
   pub less : b ≡ true → total h′ n < total h n
   pub kept : b ≡ false → (p : ℕ) → h′ p ≡ h p
 
--- of the right-hand side of q and a: if nothing was lost, it does not cut, but perhaps for the leaf
+-- of the right-hand side of q and a: if nothing was cut, it does not cut, but perhaps for the leaf
 pub record CutRhs (ins outs starts bytes : List ℕ) (leaf q a : ℕ) (heads sizes heads′ sizes′ : List ℕ) (b : Bool) : Type 0 where
   pub table : Heads outs heads′ sizes′
   pub cuts : Cuts ins (machine ins outs starts bytes (length sizes)) (length sizes) (headOf outs heads sizes) (headOf outs heads′ sizes′) b
   pub fixed : b ≡ false → a ≢ leaf → lcp (headOf outs heads sizes q) (graft (headOf outs heads sizes) (machine ins outs starts bytes (length sizes) .rhs q a)) ≡ headOf outs heads sizes q
 
--- of one state: if nothing was lost, none of its right-hand sides cuts
+-- of one state: if nothing was cut, none of its right-hand sides cuts
 pub record CutState (ins outs starts bytes : List ℕ) (leaf q : ℕ) (heads sizes heads′ sizes′ : List ℕ) (b : Bool) : Type 0 where
   pub table : Heads outs heads′ sizes′
   pub cuts : Cuts ins (machine ins outs starts bytes (length sizes)) (length sizes) (headOf outs heads sizes) (headOf outs heads′ sizes′) b

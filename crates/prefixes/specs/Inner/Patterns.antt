@@ -55,7 +55,7 @@ pub record Run (x : List ℕ) (i : ℕ) (y : List ℕ) (j n : ℕ) : Type 0 wher
   pub alike : Alike x i y j n
 
 -- the pattern x was cut to what it shares with y; cut says whether that took anything away
-pub record Met (outs x y after : List ℕ) (size : ℕ) (cut : Bool) : Type 0 where
+pub record CutPattern (outs x y after : List ℕ) (size : ℕ) (cut : Bool) : Type 0 where
   pub short : size ≤ length x
   pub shared : take size after ≡ patternCode (lcp (readPattern outs x) (readPattern outs y))
   pub told : Decides (lcp (readPattern outs x) (readPattern outs y) ≡ readPattern outs x → ⊥) cut

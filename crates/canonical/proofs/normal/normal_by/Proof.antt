@@ -4,14 +4,14 @@ use borrow.Author.Needs.{needs}
 use Rattle.canonical.proofs.normal.normal_by.Statement.{statement}
 use Rattle.canonical.proofs.normal.normal_by.Tie as tie
 
-slice-aggregate-earliest-by : tie.Need-slice-aggregate-earliest-by
-slice-aggregate-earliest-by c = search needs
+slice-aggregate-form-of-parts : tie.Need-slice-aggregate-form-of-parts
+slice-aggregate-form-of-parts c = search needs
 
-slice-aggregate-earliest-by-2 : tie.Need-slice-aggregate-earliest-by-2
-slice-aggregate-earliest-by-2 c = search needs
+slice-aggregate-form-of-parts-2 : tie.Need-slice-aggregate-form-of-parts-2
+slice-aggregate-form-of-parts-2 c = search needs
 
-earliest-by-requires : tie.Need-earliest-by-requires
-earliest-by-requires c κs = search needs
+form-of-parts-requires : tie.Need-form-of-parts-requires
+form-of-parts-requires c κs = search needs
 
 enum-known-k : tie.Need-enum-known-k
 enum-known-k c = search needs
@@ -29,7 +29,7 @@ slice-aggregate-reduce-2 : tie.Need-slice-aggregate-reduce-2
 slice-aggregate-reduce-2 c = search needs
 
 reduce-requires : tie.Need-reduce-requires
-reduce-requires c κs = (normal-reducible (c .before .before .before .before .before .before .before .before .before .before .before .before .before .before .before .before .before .before .before .pre .0) (c .before .before .before .before .before .before .before .before .before .before .before .earliest-by .ensures) (c .before .before .before .before .before .before .before .k .given .1) (c .before .before .before .before .before .input-ranks .ensures) (c .before .before .before .before .output-ranks .ensures), c .before .before .before .before .before .before .before .before .before .before .before .before .before .before .before .before .before .before .before .pre .1, c .before .before .before .before .before .before .before .before .before .before .before .before .before .before .before .before .before .before .before .pre .2)
+reduce-requires c κs = (normal-reducible (c .before .before .before .before .before .before .before .before .before .before .before .before .before .before .before .before .before .before .before .pre .0) (c .before .before .before .before .before .before .before .before .before .before .before .form-of-parts .ensures) (c .before .before .before .before .before .before .before .k .given .1) (c .before .before .before .before .before .input-ranks .ensures) (c .before .before .before .before .output-ranks .ensures), c .before .before .before .before .before .before .before .before .before .before .before .before .before .before .before .before .before .before .before .pre .1, c .before .before .before .before .before .before .before .before .before .before .before .before .before .before .before .before .before .before .before .pre .2)
 
 enum-told : tie.Need-enum-told
 enum-told c = search needs
@@ -41,18 +41,18 @@ same-length-2 : tie.Need-same-length-2
 same-length-2 c = search needs
 
 returns : tie.Need-returns
-returns c = normal-states (c .before .before .before .before .before .before .before .before .before .before .before .before .before .before .before .before .before .before .before .before .before .before .before .before .pre .0) (c .before .before .before .before .before .before .before .before .before .before .before .before .before .before .before .before .earliest-by .ensures) (c .before .before .before .before .before .before .before .before .before .before .before .before .k .given .1) (c .before .before .before .before .before .before .before .before .before .before .input-ranks .ensures) (c .before .before .before .before .before .before .before .before .before .output-ranks .ensures) (c .before .before .before .before .reduce .ensures)
+returns c = normal-states (c .before .before .before .before .before .before .before .before .before .before .before .before .before .before .before .before .before .before .before .before .before .before .before .before .pre .0) (c .before .before .before .before .before .before .before .before .before .before .before .before .before .before .before .before .form-of-parts .ensures) (c .before .before .before .before .before .before .before .before .before .before .before .before .k .given .1) (c .before .before .before .before .before .before .before .before .before .before .input-ranks .ensures) (c .before .before .before .before .before .before .before .before .before .output-ranks .ensures) (c .before .before .before .before .reduce .ensures)
 
 returns-2 : tie.Need-returns-2
-returns-2 c = normal-over (c .before .before .before .before .before .before .before .before .before .before .before .before .pre .0) (c .before .before .before .before .earliest-by .ensures) (c .enum-told .given .1)
+returns-2 c = normal-over (c .before .before .before .before .before .before .before .before .before .before .before .before .pre .0) (c .before .before .before .before .form-of-parts .ensures) (c .enum-told .given .1)
 
 pub normal-by-spec : {M : Type 1} → statement M
 normal-by-spec =
     tie.close
     (tie.spec
-    slice-aggregate-earliest-by
-    slice-aggregate-earliest-by-2
-    earliest-by-requires
+    slice-aggregate-form-of-parts
+    slice-aggregate-form-of-parts-2
+    form-of-parts-requires
     enum-known-k
     input-ranks-requires
     output-ranks-requires

@@ -1,6 +1,6 @@
--- `cut_by` meets its contract: what `graft` wrote and what `meet` shared is the cut. Assumes nothing.
+-- `cut_by` meets its contract: what `graft` wrote and what `cut_pattern` shared is the cut. Assumes nothing.
 use native.Mathlib.Omega.{arith}
-use Rattle.prefixes.proofs.Grafts.{graftable, lent-inside, to-meet, size-small, cut-by}
+use Rattle.prefixes.proofs.Grafts.{graftable, lent-inside, to-cut-pattern, size-small, cut-by}
 use borrow.Author.Needs.{needs}
 use Rattle.prefixes.proofs.prefix.cut_by.Statement.{statement}
 use Rattle.prefixes.proofs.prefix.cut_by.Tie as tie
@@ -20,29 +20,29 @@ wide-requires c κs = search needs
 add-end : tie.Need-add-end
 add-end c = omega (arith, lent-inside (c .before .before .before .before .before .before .before .before .before .before .before .before .before .pre) (c .before .before .before .before .graft .ensures) (c .wide .ensures))
 
-sub-meet : tie.Need-sub-meet
-sub-meet c = search needs
+sub-cut-pattern : tie.Need-sub-cut-pattern
+sub-cut-pattern c = search needs
 
-part-meet-start : tie.Need-part-meet-start
-part-meet-start c = search needs
+part-cut-pattern-start : tie.Need-part-cut-pattern-start
+part-cut-pattern-start c = search needs
 
-part-meet-end : tie.Need-part-meet-end
-part-meet-end c = lent-inside (c .before .before .before .before .before .before .before .before .before .before .before .before .before .pre) (c .before .before .before .before .graft .ensures) (c .wide .ensures) .0
+part-cut-pattern-end : tie.Need-part-cut-pattern-end
+part-cut-pattern-end c = lent-inside (c .before .before .before .before .before .before .before .before .before .before .before .before .before .pre) (c .before .before .before .before .graft .ensures) (c .wide .ensures) .0
 
-sub-meet-2 : tie.Need-sub-meet-2
-sub-meet-2 c = search needs
+sub-cut-pattern-2 : tie.Need-sub-cut-pattern-2
+sub-cut-pattern-2 c = search needs
 
-part-meet-start-2 : tie.Need-part-meet-start-2
-part-meet-start-2 c = search needs
+part-cut-pattern-start-2 : tie.Need-part-cut-pattern-start-2
+part-cut-pattern-start-2 c = search needs
 
-part-meet-end-2 : tie.Need-part-meet-end-2
-part-meet-end-2 c = omega (arith, lent-inside (c .before .before .before .before .before .before .before .before .before .before .before .before .before .before .before .pre) (c .before .before .before .before .before .before .graft .ensures) (c .before .before .wide .ensures), c .before .before .before .before .before .before .graft .kept)
+part-cut-pattern-end-2 : tie.Need-part-cut-pattern-end-2
+part-cut-pattern-end-2 c = omega (arith, lent-inside (c .before .before .before .before .before .before .before .before .before .before .before .before .before .before .before .pre) (c .before .before .before .before .before .before .graft .ensures) (c .before .before .wide .ensures), c .before .before .before .before .before .before .graft .kept)
 
-meet-requires : tie.Need-meet-requires
-meet-requires c κs = to-meet (c .before .before .before .before .before .before .before .before .before .before .before .before .before .before .before .before .pre) (c .before .before .before .before .before .before .before .graft .ensures) (c .before .before .before .wide .ensures)
+cut-pattern-requires : tie.Need-cut-pattern-requires
+cut-pattern-requires c κs = to-cut-pattern (c .before .before .before .before .before .before .before .before .before .before .before .before .before .before .before .before .pre) (c .before .before .before .before .before .before .before .graft .ensures) (c .before .before .before .wide .ensures)
 
 cast-sizes : tie.Need-cast-sizes
-cast-sizes c = omega (arith, size-small (c .before .before .before .before .before .before .before .before .before .before .before .before .before .before .before .before .before .before .before .pre) (c .before .before .before .before .before .before .before .before .before .before .graft .ensures) (c .before .before .before .before .before .before .wide .ensures) (c .before .before .meet .kept .1 .0) (c .before .before .meet .ensures))
+cast-sizes c = omega (arith, size-small (c .before .before .before .before .before .before .before .before .before .before .before .before .before .before .before .before .before .before .before .pre) (c .before .before .before .before .before .before .before .before .before .before .graft .ensures) (c .before .before .before .before .before .before .wide .ensures) (c .before .before .cut-pattern .kept .1 .0) (c .before .before .cut-pattern .ensures))
 
 slice-write-sizes : tie.Need-slice-write-sizes
 slice-write-sizes c = search needs
@@ -57,7 +57,7 @@ same-length-3 : tie.Need-same-length-3
 same-length-3 c = search needs
 
 returns : tie.Need-returns
-returns c = cut-by (c .before .before .before .before .before .before .before .before .before .before .before .before .before .before .before .before .before .before .before .pre) (c .before .before .before .before .before .before .before .before .before .before .graft .ensures) (c .before .before .before .before .before .before .wide .ensures) (c .before .before .meet .kept .1 .0) (c .before .before .meet .ensures)
+returns c = cut-by (c .before .before .before .before .before .before .before .before .before .before .before .before .before .before .before .before .before .before .before .pre) (c .before .before .before .before .before .before .before .before .before .before .graft .ensures) (c .before .before .before .before .before .before .wide .ensures) (c .before .before .cut-pattern .kept .1 .0) (c .before .before .cut-pattern .ensures)
 
 pub cut-by-spec : {M : Type 1} → statement M
 cut-by-spec =
@@ -68,13 +68,13 @@ cut-by-spec =
     slice-read-wide
     wide-requires
     add-end
-    sub-meet
-    part-meet-start
-    part-meet-end
-    sub-meet-2
-    part-meet-start-2
-    part-meet-end-2
-    meet-requires
+    sub-cut-pattern
+    part-cut-pattern-start
+    part-cut-pattern-end
+    sub-cut-pattern-2
+    part-cut-pattern-start-2
+    part-cut-pattern-end-2
+    cut-pattern-requires
     cast-sizes
     slice-write-sizes
     same-length

@@ -1,0 +1,89 @@
+-- `discover` meets its contract: nothing is there, then the initial term, then the right-hand sides of every state met. Assumes nothing.
+use Prim.Native.Nat.{ℕ}
+use native.Mathlib.Omega.{arith}
+use mathlib.Core.Path.{refl, _∙_}
+use lib.ListN.{length-set, length-replicate}
+use denote.Ref.{now}
+use Rattle.earliest.proofs.Loops.{form-discovered, form-over}
+use Rattle.earliest.proofs.Opening.{empty-start}
+use borrow.Author.Needs.{needs}
+use Rattle.earliest.proofs.discover.discover.Statement.{statement}
+use Rattle.earliest.proofs.discover.discover.Tie as tie
+
+slice-write-starts2 : tie.Need-slice-write-starts2
+slice-write-starts2 c = search needs
+
+slice-aggregate-add-initial : tie.Need-slice-aggregate-add-initial
+slice-aggregate-add-initial c = search needs
+
+slice-aggregate-add-initial-2 : tie.Need-slice-aggregate-add-initial-2
+slice-aggregate-add-initial-2 c = search needs
+
+slice-aggregate-add-initial-3 : tie.Need-slice-aggregate-add-initial-3
+slice-aggregate-add-initial-3 c = search needs
+
+add-initial-requires : tie.Need-add-initial-requires
+add-initial-requires c κs =
+    let b = c .before .before .before .before .before .before .before .before .before .before .before .before .before .pre in
+    (record { expanding = b .0; leaf = b .1; room = omega (arith, length-replicate {A = ℕ} 4096 0) }, empty-start (now (c .before .before .before .before .before .before .before .before .before .before .before .before .before .args .starts2)) (now (c .before .before .before .before .before .before .before .before .before .before .before .before .before .args .out)) 192 8192 refl refl (b .2) (b .3))
+
+enum-known-met : tie.Need-enum-known-met
+enum-known-met c = search needs
+
+slice-aggregate-add-states : tie.Need-slice-aggregate-add-states
+slice-aggregate-add-states c = search needs
+
+slice-aggregate-add-states-2 : tie.Need-slice-aggregate-add-states-2
+slice-aggregate-add-states-2 c = search needs
+
+slice-aggregate-add-states-3 : tie.Need-slice-aggregate-add-states-3
+slice-aggregate-add-states-3 c = search needs
+
+add-states-requires : tie.Need-add-states-requires
+add-states-requires c κs =
+    let b = c .before .before .before .before .before .before .before .before .before .before .before .before .before .before .before .before .before .before .before .before .before .before .before .before .before .before .before .before .before .pre in
+    let k = c .before .before .before .before .before .before .before .before .before .before .before .before .before .before .before .add-initial in
+    (record { expanding = b .0; leaf = b .1; room = omega (arith, k .kept .1 .1 .1 .1 .1 .1 .0, length-replicate {A = ℕ} 4096 0) }, k .ensures .found (c .before .before .before .before .before .before .met .given .0 .0) (c .before .before .before .before .before .before .met .given .1))
+
+enum-told : tie.Need-enum-told
+enum-told c = search needs
+
+same-length : tie.Need-same-length
+same-length c = c .before .before .before .before .before .before .before .add-states .kept .1 .1 .1 .1 .1 .1 .1 .0 ∙ (c .before .before .before .before .before .before .before .before .before .before .before .before .before .before .before .before .before .before .before .before .before .before .before .add-initial .kept .1 .1 .1 .1 .1 .1 .1 .0 ∙ length-set (now (c .before .before .before .before .before .before .before .before .before .before .before .before .before .before .before .before .before .before .before .before .before .before .before .before .before .before .before .before .before .before .before .before .before .before .before .before .before .args .starts2)) 0 0)
+
+same-length-2 : tie.Need-same-length-2
+same-length-2 c = search needs
+
+returns : tie.Need-returns
+returns c = form-discovered (c .before .before .before .before .before .before .before .before .before .before .before .before .before .before .before .before .before .before .before .before .before .before .before .before .before .before .before .before .before .before .before .before .before .before .before .before .before .pre .0) (c .before .before .before .before .before .before .before .before .before .before .before .before .before .before .before .before .before .before .before .before .before .before .before .before .before .before .before .before .before .before .before .before .before .before .before .before .before .pre .1) (c .before .before .before .before .before .before .before .add-states .ensures)
+
+same-length-3 : tie.Need-same-length-3
+same-length-3 c = c .before .before .before .before .before .before .before .before .before .add-initial .kept .1 .1 .1 .1 .1 .1 .1 .0 ∙ length-set (now (c .before .before .before .before .before .before .before .before .before .before .before .before .before .before .before .before .before .before .before .before .before .before .before .args .starts2)) 0 0
+
+same-length-4 : tie.Need-same-length-4
+same-length-4 c = search needs
+
+returns-2 : tie.Need-returns-2
+returns-2 c = form-over (c .before .before .before .before .before .before .before .before .before .add-initial .ensures .over (c .enum-told .given .1))
+
+pub discover-spec : {M : Type 1} → statement M
+discover-spec =
+    tie.close
+    (tie.spec
+    slice-write-starts2
+    slice-aggregate-add-initial
+    slice-aggregate-add-initial-2
+    slice-aggregate-add-initial-3
+    add-initial-requires
+    enum-known-met
+    slice-aggregate-add-states
+    slice-aggregate-add-states-2
+    slice-aggregate-add-states-3
+    add-states-requires
+    enum-told
+    same-length
+    same-length-2
+    returns
+    same-length-3
+    same-length-4
+    returns-2)
