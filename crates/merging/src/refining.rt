@@ -4,7 +4,7 @@ ghost use Prim.Native.Nat.{ℕ, _+_, _*_, _≤_, _<_};
 ghost use mathlib.Core.Path.{_≡_};
 ghost use lib.ListN.{length, getD};
 ghost use Rattle.merging.specs.Inner.Classes.{Classed};
-ghost use Rattle.merging.specs.Inner.Refining.{Placed, FindsPlaced, PlacedMember, Member, Represents, FindsClass, Round, Places, Listed, Rounded, Flagged, StillFlagged, FlaggedCalls, Flaggable, Callers, Queue, FlagsCallers, Moved, FlagsMoved, AllPending, Continues, Refined, Startable, Stable, Refines};
+ghost use Rattle.merging.specs.Inner.Refining.{firstAt, lastAt, Placed, FindsPlaced, PlacedMember, Member, Represents, FindsClass, Round, Places, Listed, Rounded, Flagged, StillFlagged, FlaggedCalls, Flaggable, Callers, Queue, FlagsCallers, Moved, FlagsMoved, AllPending, Continues, Refined, Startable, Stable, Refines};
 use crate::classes::same_states;
 use formats::bytes::number;
 use formats::bytes::wide;
@@ -252,7 +252,7 @@ fn find_callers(ins: &[u8], starts: &[u16], marks: &[u8], n: usize, callers: &mu
 // No caller of state r is before this state.
 fn first_caller(callers: &[u8; 16640], r: usize) -> usize
     requires { ⌜ r < 128 ⌝ }
-    ensures { λ q. ⌜ ((p : ℕ) → 128 ≤ p + getD (now (callers .entry)) (130 * r + 128) 0 → q ≤ p) ⌝ }
+    ensures { λ q. ⌜ ((p : ℕ) → 128 ≤ p + getD (now (callers .entry)) (firstAt r) 0 → q ≤ p) ⌝ }
 {
     let down = wide(callers[ROW * r + FIRST]);
     if down < 128 {
@@ -264,7 +264,7 @@ fn first_caller(callers: &[u8; 16640], r: usize) -> usize
 // The callers of state r among n states are before this state.
 fn callers_end(callers: &[u8; 16640], r: usize, n: usize) -> usize
     requires { ⌜ r < 128 ⌝ }
-    ensures { λ e. ⌜ (e ≤ n) × ((p : ℕ) → p < n → p < getD (now (callers .entry)) (130 * r + 129) 0 → p < e) ⌝ }
+    ensures { λ e. ⌜ (e ≤ n) × ((p : ℕ) → p < n → p < getD (now (callers .entry)) (lastAt r) 0 → p < e) ⌝ }
 {
     let end = wide(callers[ROW * r + LAST]);
     if end < n {

@@ -104,12 +104,22 @@ pub record Rounded (ins starts bytes old new pending reps moved : List ℕ) (bas
   pub listed : Moved old new moved m
   pub grew : 0 < m → base < count
 
--- ---- the callers of states, in a table of 130 bytes for each state called: a flag for each caller, and how far they reach down from 128 and up from 0
+-- ---- the callers of states, in a table with a row of 130 bytes for each state called
+-- where the flag of caller p stands in the row of state r, and how far its callers reach down from 128 and up from 0
+abbrev pub flagAt : ℕ → ℕ → ℕ
+flagAt r p = 130 * r + p
+
+abbrev pub firstAt : ℕ → ℕ
+firstAt r = 130 * r + 128
+
+abbrev pub lastAt : ℕ → ℕ
+lastAt r = 130 * r + 129
+
 -- state p is flagged as a caller of state r
 pub record Flagged (callers : List ℕ) (r p : ℕ) : Type 0 where
-  pub flag : 0 < at callers (130 * r + p)
-  pub low : 128 ≤ p + at callers (130 * r + 128)
-  pub high : p < at callers (130 * r + 129)
+  pub flag : 0 < at callers (flagAt r p)
+  pub low : 128 ≤ p + at callers (firstAt r)
+  pub high : p < at callers (lastAt r)
 
 -- what is flagged stays so
 pub record StillFlagged (callers callers′ : List ℕ) : Type 0 where

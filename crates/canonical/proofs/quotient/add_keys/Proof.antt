@@ -1,6 +1,6 @@
 -- `add_keys` meets its contract: what `copy_keys` asks and does, at the starts that are read. Assumes nothing.
 use borrow.Author.Needs.{needs}
-use Rattle.canonical.proofs.Merging.{can-copy, has-copied}
+use Rattle.canonical.proofs.Quotients.{can-copy, has-copied}
 use Rattle.canonical.proofs.quotient.add_keys.Statement.{statement}
 use Rattle.canonical.proofs.quotient.add_keys.Tie as tie
 

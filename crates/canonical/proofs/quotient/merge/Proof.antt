@@ -5,7 +5,7 @@ use mathlib.Core.Path.{_≡_, refl, _∙_}
 use borrow.Author.Needs.{needs}
 use lib.ListN.{length, length-set}
 use denote.Ref.{now}
-use Rattle.canonical.proofs.Merging.{MergeLoop, initial-copyable, merge-none, state-mergeable, merge-next, merge-end}
+use Rattle.canonical.proofs.Quotients.{MergeLoop, initial-copyable, merge-none, state-mergeable, merge-next, merge-end}
 use Rattle.canonical.proofs.quotient.merge.Statement.{statement}
 use Rattle.canonical.proofs.quotient.merge.Tie as tie
 

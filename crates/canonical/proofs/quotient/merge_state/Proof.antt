@@ -5,7 +5,7 @@ use borrow.Author.Needs.{needs}
 use lib.ListN.{length}
 use denote.Ref.{now}
 use Rattle.formats.specs.Inner.Layout.{bodyNumber}
-use Rattle.canonical.proofs.Merging.{StateLoop, class-state, state-none, state-numbers, state-copyable, state-next, state-end}
+use Rattle.canonical.proofs.Quotients.{StateLoop, class-state, state-none, state-numbers, state-copyable, state-next, state-end}
 use Rattle.canonical.proofs.quotient.merge_state.Statement.{statement}
 use Rattle.canonical.proofs.quotient.merge_state.Tie as tie
 
