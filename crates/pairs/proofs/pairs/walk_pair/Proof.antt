@@ -65,7 +65,7 @@ first-clash-requires c κs =
 returns : tie.Need-returns
 returns c =
     let W = c .before .before .before .before .before .before .before .before .before .before .before .before .before .before .before .before .before .before .pre in
-    walk-clash W (size-of (c .before .before .before .before .before .before .before .before .before .number .ensures) (c .before .before .before .before .before .before .before .number2 .ensures) (c .before .before .before .before .before .number3 .ensures) (c .before .before .before .number4 .ensures) (c .before .before .smaller .ensures)) (rw (c .before .before .before .before .before .before .before .before .before .number .ensures, c .before .before .before .before .before .before .before .number2 .ensures) at (c .before .first-clash .ensures)) (c .if1 .taken)
+    walk-clash W (size-of (c .before .before .before .before .before .before .before .before .before .number .ensures) (c .before .before .before .before .before .before .before .number2 .ensures) (c .before .before .before .before .before .number3 .ensures) (c .before .before .before .number4 .ensures) (c .before .before .smaller .ensures)) (rw (c .before .before .before .before .before .before .before .before .before .number .ensures, c .before .before .before .before .before .before .before .number2 .ensures) at (c .before .first-clash .ensures)) (omega (arith, c .if1 .taken))
 
 join-marks-requires : tie.Need-join-marks-requires
 join-marks-requires c κs =
