@@ -59,6 +59,7 @@ use Rattle.registry.specs.declared.book.Record.{Record}
 use Rattle.registry.specs.declared.book.Survey.{Survey}
 use Rattle.registry.proofs.Entering.{asked-placed, asked-ready}
 use Rattle.registry.proofs.Loans.{Lent, LentShared, lends-row, row-back, lends-shared, shared-back, lends-mut, mut-back, zeros-typed, zeros-row, bytesVal, row-array, big-lit}
+use Rattle.registry.proofs.Locals.{word, refH, sliceR, sliceB, sliceS, ptrR, slR, ptrB, slB}
 use Rattle.registry.proofs.book.Entered as En′
 use Rattle.registry.proofs.book.Entered.Laws as En″
 use Rattle.registry.proofs.book.Head as Hd
@@ -104,22 +105,7 @@ use Rattle.registry.proofs.lent.enter.Code.Mir as mir′
 abbrev stayed : Stays (this.ended .signature .params) (this.ended .kept)
 stayed = (stay-ref (0 ∷ []) tt (plain (λ _. Hd.the-row)), (gave-slice (1 ∷ []) tt (plain (λ _. R.the-row)), (gave-slice (2 ∷ []) tt (plain (λ _. u8)), (stay-none-slice (3 ∷ []) tt (plain (λ _. u8)) kept, tt))))
 
--- the types of the locals
-abbrev word : Ty
-word = tyInt w64
-
-abbrev ptrR : Ty
-ptrR = tyRef erased mut (pointee (R.the-row .written))
-
-abbrev slR : Ty
-slR = sliceTy ptrR
-
-abbrev ptrB : Ty
-ptrB = tyRef erased mut (tyInt w8)
-
-abbrev slB : Ty
-slB = sliceTy ptrB
-
+-- the types of the other locals
 abbrev ptrRi : Ty
 ptrRi = tyRef erased imm (pointee (R.the-row .written))
 
@@ -140,18 +126,6 @@ ptrA = tyRef erased mut fileTy
 
 abbrev ptrAi : Ty
 ptrAi = tyRef erased imm fileTy
-
-abbrev refH : Ty
-refH = tyRef (named 0) mut (pointee (Hd.the-row .written))
-
-abbrev sliceR : Ty
-sliceR = sliceTy (tyRef (named 1) mut (pointee (R.the-row .written)))
-
-abbrev sliceB : Ty
-sliceB = sliceTy (tyRef (named 2) mut (tyInt w8))
-
-abbrev sliceS : Ty
-sliceS = sliceTy (tyRef (named 3) imm (tyInt w8))
 
 -- what the callees say
 abbrev Asking : Head → ℕ → Survey → List ℕ → List ℕ → Asked → List ℕ → Type 0
