@@ -16,7 +16,7 @@ number-requires : tie.Need-number-requires
 number-requires c κs = search needs
 
 returns : tie.Need-returns
-returns c = adds-over (inl (c .if1 .taken))
+returns c = adds-over (inl (omega (arith, c .if1 .taken)))
 
 add-if2 : tie.Need-add-if2
 add-if2 c = search needs
@@ -37,7 +37,7 @@ same-length-3 : tie.Need-same-length-3
 same-length-3 c = search needs
 
 returns-3 : tie.Need-returns-3
-returns-3 c = adds-over (inr (inr (over-states (c .before .before .before .before .before .before .before .copy-marks .ensures) (c .if3 .taken))))
+returns-3 c = adds-over (inr (inr (over-states (c .before .before .before .before .before .before .before .copy-marks .ensures) (omega (arith, c .if3 .taken)))))
 
 add-starts : tie.Need-add-starts
 add-starts c = search needs
@@ -67,7 +67,7 @@ same-length-7 : tie.Need-same-length-7
 same-length-7 c = search needs
 
 returns-4 : tie.Need-returns-4
-returns-4 c = adds-body (c .before .before .before .before .before .before .before .copy-marks .ensures) (c .before .before .before .before .before .before .before .before .before .before .before .before .before .number .ensures) (c .before .before .before .before .before .before .before .before .before .before .before .before .if1 .left) (c .before .before .before .before .before .before .before .before .before .before .before .if2 .left) (c .if3 .left)
+returns-4 c = adds-body (c .before .before .before .before .before .before .before .copy-marks .ensures) (c .before .before .before .before .before .before .before .before .before .before .before .before .before .number .ensures) (omega (arith, c .before .before .before .before .before .before .before .before .before .before .before .before .if1 .left)) (omega (arith, c .before .before .before .before .before .before .before .before .before .before .before .if2 .left)) (omega (arith, c .if3 .left))
 
 pub add-body-spec : {M : Type 1} → statement M
 add-body-spec =

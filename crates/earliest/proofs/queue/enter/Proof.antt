@@ -9,7 +9,7 @@ slice-read-if1 : tie.Need-slice-read-if1
 slice-read-if1 c = search needs
 
 returns : tie.Need-returns
-returns c = enter-old (c .before .before .pre .0) (c .before .before .args .c) (c .if1 .taken)
+returns c = enter-old (c .before .before .pre .0) (c .before .before .args .c) (omega (arith, c .if1 .taken))
 
 cast-list : tie.Need-cast-list
 cast-list c = search needs
