@@ -10,7 +10,7 @@ use Rattle.theory.specs.Term.{Tree}
 use Rattle.formats.specs.Alphabets.{Alphabets, alphabetCheck}
 use Rattle.formats.specs.Code.{code}
 use Rattle.formats.specs.Refusal.{done, Holds}
-use Rattle.formats.specs.Samples.{S, T, pairs, M, M-pref, leaf-file, T′, U}
+use Rattle.formats.specs.Samples.{S, T, T′, U, pairs, M, M-pref}
 use Rattle.formats.specs.Sheet.{file, sheetCheck}
 use Rattle.formats.proofs.Sheets.{sheet-counted}
 use Rattle.formats.specs.Tree.{treeCheck}
@@ -63,22 +63,6 @@ module _ {stock sheet : List ℕ} where
   early-has : {k : ℕ} {counts bytes : List ℕ} → EarliestFile stock sheet k counts bytes → Says (earliest stock sheet k)
   early-has F = (_, (_, F))
 
--- the clean files of the rows
-T-clean : Clean S T _ _ _
-T-clean = clean-self T-cleans (T-sheet .coded)
-
-T′-clean : Clean S T′ _ _ _
-T′-clean = clean-form T′-cleans T′-trims
-
-U-is-clean : Clean S U _ _ _
-U-is-clean = clean-form U-cleans U-trims
-
-M-is-clean : Clean pairs M _ _ _
-M-is-clean = clean-form M-cleans M-trims
-
-leaf-clean : Clean S leaf-file _ _ _
-leaf-clean = clean-self leaf-cleans refl
-
 M-shares : Says (prefix pairs M 0 M-pref)
 M-shares = (1, (M-machine, (M-sheet, omega arith, M-is-pref)))
 
@@ -100,18 +84,18 @@ all-rows =
     also gives (T-output leaf-design) on-leaf
     also gives (T-output chain-design) on-chain
     also has-room S-alphabets (T-output chain-design) room-chain
-    also form-is T-clean (T-sheet .coded)
-    also form-is T′-clean (T-sheet .coded)
+    also form-is (clean-self T-cleans (T-sheet .coded)) (T-sheet .coded)
+    also form-is (clean-form T′-cleans T′-trims) (T-sheet .coded)
     also early-has T′-trims
-    also form-has 7 T′-clean T-marks
+    also form-has 7 (clean-form T′-cleans T′-trims) T-marks
     also T-U-differ
-    also form-is U-is-clean refl
-    also form-has 11 U-is-clean refl
+    also form-is (clean-form U-cleans U-trims) refl
+    also form-has 11 (clean-form U-cleans U-trims) refl
     also M-shares
-    also form-is M-is-clean refl
-    also form-has 23 M-is-clean refl
-    also form-is leaf-clean refl
-    also form-has 1 leaf-clean refl
+    also form-is (clean-form M-cleans M-trims) refl
+    also form-has 23 (clean-form M-cleans M-trims) refl
+    also form-is (clean-self leaf-cleans refl) refl
+    also form-has 1 (clean-self leaf-cleans refl) refl
     also T-calls-twice
     also T-T′-U-registered
     also no-more

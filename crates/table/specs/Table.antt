@@ -11,7 +11,7 @@ use Rattle.theory.specs.Transducer.{Transducer}
 use Rattle.formats.specs.Alphabets.{Alphabets, Leaf, inputs, outputs, alphabetCheck}
 use Rattle.formats.specs.Code.{code}
 use Rattle.formats.specs.Refusal.{accepted, done, Holds}
-use Rattle.formats.specs.Samples.{pairs, M, M-pref}
+use Rattle.formats.specs.Samples.{S, T, T′, U, U-clean, leaf-file, pairs, M, M-pref, M-clean}
 use Rattle.formats.specs.Sheet.{Sheet, file, sheetCheck}
 use Rattle.formats.specs.Tree.{treeCheck}
 use Rattle.transducer.specs.Answers.{translated, roomCheck, Translates}
