@@ -9,9 +9,9 @@ use Rattle.theory.specs.Grammar.{Allowed, AllAllowed, rule, end, next}
 use Rattle.theory.specs.Term.{Tree, Terms, node, none, more, count}
 use Rattle.theory.specs.Transducer.{Transducer}
 use Rattle.theory.proofs.Terms.{conflict}
-use Rattle.formats.specs.Alphabets.{Leaf}
-use Rattle.formats.specs.Code.{Ranked, AllRanked}
-use Rattle.prefixes.specs.Alphabet.{alphabet, children-inside, children-of}
+use Rattle.trees.specs.Alphabets.{Leaf}
+use Rattle.trees.specs.Code.{Ranked, AllRanked}
+use Rattle.forms.specs.Alphabet.{alphabet, children-inside, children-of}
 use Rattle.canonical.specs.Answers.{Alike}
 
 module _ {ins : List ℕ} (l : Leaf ins) where

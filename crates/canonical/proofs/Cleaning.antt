@@ -7,18 +7,18 @@ use Rattle.theory.proofs.Equivalences.{equivalent-trans}
 use Rattle.theory.proofs.Identity.{identical-sym, identical-normal}
 use Rattle.theory.proofs.Terms.{conflict}
 use Rattle.theory.proofs.Trimming.{trimmed-equivalent, trimmed-earliest, trimmed-numbered, trimmed-form}
-use Rattle.formats.specs.Alphabets.{inputs, outputs}
+use Rattle.trees.specs.Alphabets.{inputs, outputs}
 use Rattle.formats.specs.Sheet.{longest}
 use Rattle.transducer.specs.Inner.Machine.{Machine}
 use Rattle.transducer.proofs.Opening.{Opened}
-use Rattle.earliest.specs.Inner.Forms.{WritesForm, WritesFound}
+use Rattle.forms.specs.Inner.Writing.{WritesForm, WritesFound}
 use Rattle.earliest.specs.Inner.Loaded.{EarliestOf, FormOfParts, FormsFile}
-use Rattle.earliest.specs.declared.queue.FormSize.{FormSize}
-use Rattle.earliest.specs.declared.queue.FormSize.the-variants.{States, Over}
-use Rattle.earliest.specs.declared.earliest.Formed.{Formed}
-use Rattle.earliest.proofs.Filing.{packed-encoded}
+use Rattle.forms.specs.declared.write.FormSize.{FormSize}
+use Rattle.forms.specs.declared.write.FormSize.the-variants.{States, Over}
+use Rattle.forms.specs.declared.write.Formed.{Formed}
+use Rattle.forms.proofs.Filing.{packed-encoded}
 use Rattle.earliest.proofs.Forming.{found-file, file-made}
-use Rattle.earliest.proofs.Laws.{encoded-wf}
+use Rattle.forms.proofs.Files.{encoded-wf}
 use Rattle.canonical.specs.Answers.{NormalFile, Cleans}
 use Rattle.canonical.specs.Inner.Normal.{Reducible, Reduces, NormalOf, NormalBy}
 

@@ -16,16 +16,19 @@ use Rattle.theory.proofs.Existence.{normal-trimmed}
 use Rattle.theory.proofs.Identity.{identical-sym, identical-equivalent, identical-normal}
 use Rattle.theory.proofs.NormalForms.{normal-unique, classes-normal, quotient-normal}
 use Rattle.theory.proofs.Trimming.{trimmed-equivalent, trimmed-wf, trimmed-earliest, trimmed-numbered}
-use Rattle.formats.specs.Alphabets.{Leaf, Alphabets, inputs, outputs, alphabetCheck}
-use Rattle.formats.specs.Refusal.{accepted, done, Holds}
+use Rattle.trees.specs.Alphabets.{Leaf, Alphabets, inputs, outputs, alphabetCheck}
+use Rattle.trees.specs.Refusal.{accepted, done, Holds}
 use Rattle.formats.specs.Sheet.{file, Sheet, sheetCheck}
-use Rattle.formats.proofs.Judging.{accepted-holds}
+use Rattle.trees.proofs.Judging.{accepted-holds}
 use Rattle.formats.proofs.Laws.{written-take}
 use Rattle.formats.proofs.Sheets.{sheet-counted, encodes-counted, file-short}
-use Rattle.prefixes.specs.Alphabet.{alphabet}
-use Rattle.earliest.specs.Answers.{EarliestFile, formCheck, formOf}
-use Rattle.earliest.specs.declared.earliest.Formed.{Formed}
-use Rattle.earliest.proofs.Laws.{encoded-wf, same-file, parts-same, file-same, identical-leaf, equiv-leaf, trimmed-leaf, made-one}
+use Rattle.forms.specs.Alphabet.{alphabet}
+use Rattle.earliest.specs.Answers.{EarliestFile, formCheck}
+use Rattle.forms.specs.Answers.{formOf}
+use Rattle.forms.specs.declared.write.Formed.{Formed}
+use Rattle.forms.proofs.Files.{encoded-wf, same-file, parts-same, file-same}
+use Rattle.forms.proofs.Leaves.{identical-leaf, equiv-leaf, trimmed-leaf}
+use Rattle.earliest.proofs.Laws.{made-one}
 use Rattle.canonical.specs.Answers.{Alike, SewAlike, NormalFile, MergedFile, Cleans}
 use Rattle.canonical.proofs.Alike.{equivalent-alike}
 

@@ -10,12 +10,12 @@ use Rattle.theory.specs.Wf.{Wf}
 use Rattle.theory.proofs.Equivalences.{equivalent-refl}
 use Rattle.theory.proofs.Identity.{identical-sym, identical-normal}
 use Rattle.theory.proofs.NormalForms.{classes-normal}
-use Rattle.formats.specs.Alphabets.{Leaf}
-use Rattle.prefixes.specs.Alphabet.{alphabet}
-use Rattle.prefixes.specs.Inner.Heads.{machine}
-use Rattle.prefixes.proofs.Settling.{machine-wf}
-use Rattle.merging.specs.Inner.Classes.{Settles}
-use Rattle.merging.proofs.Numbering.{classes-few}
+use Rattle.trees.specs.Alphabets.{Leaf}
+use Rattle.forms.specs.Alphabet.{alphabet}
+use Rattle.forms.specs.Inner.Tables.{machine}
+use Rattle.forms.proofs.Files.{machine-wf}
+use Rattle.merging.specs.Inner.Refining.{Settles}
+use Rattle.classes.proofs.Numbering.{classes-few}
 use Rattle.canonical.specs.Inner.Normal.{Reducible, Reduces}
 use Rattle.canonical.specs.Inner.Quotients.{Mergeable, Merges}
 

@@ -16,25 +16,24 @@ use Rattle.theory.specs.Quotient.{Classes, no-class, old-class, new-class, quot
 use Rattle.theory.specs.Term.{Term, var, node, Terms, none, more, count, bind, binds, mapT}
 use Rattle.theory.specs.Transducer.{renamed}
 use Rattle.theory.proofs.Terms.{count-binds}
-use Rattle.formats.specs.Alphabets.{Leaf}
-use Rattle.formats.specs.Code.{Mark, flat, flats, marks, Ranked, AllRanked, Call}
-use Rattle.formats.specs.Inner.Decode.{forest, first, Whole}
+use Rattle.trees.specs.Alphabets.{Leaf}
+use Rattle.trees.specs.Code.{Mark, preorder, preorders, marks, Ranked, AllRanked, Call}
+use Rattle.trees.specs.Inner.Decode.{forest, first, Whole}
 use Rattle.formats.specs.Inner.Layout.{pairs, markOf, body, bodyNumber, bodyCount, transducer, Wholes}
 use Rattle.formats.specs.Inner.Marked.{part}
 use Rattle.formats.specs.Sheet.{markBytes}
-use Rattle.formats.proofs.Codes.{reads-back}
+use Rattle.trees.proofs.Codes.{reads-back}
 use Rattle.formats.proofs.Cuts.{length-markBytes, pairs-markBytes, markBytes-pairs}
 use Rattle.formats.proofs.Letters.{over-term}
 use Rattle.formats.proofs.Pairs.{pairs-length, pairs-at, part-cons, row-less, number-less, getD-slice}
 use Rattle.formats.proofs.Sheets.{body-exactly, whole-ranked}
 use Rattle.formats.proofs.Writing.{Writing, one-more}
 use Rattle.transducer.proofs.Meaning.{body-read}
-use Rattle.prefixes.specs.Alphabet.{alphabet, children-inside}
-use Rattle.prefixes.specs.Inner.Heads.{machine, Layout}
-use Rattle.prefixes.proofs.Settling.{number-fits}
-use Rattle.earliest.specs.Inner.Packed.{Packed}
-use Rattle.merging.specs.Inner.Classes.{keyOf, keyed, bodyMarks, at, Keyable}
-use Rattle.merging.proofs.Numbering.{class-below, least-below, classes-few}
+use Rattle.forms.specs.Alphabet.{alphabet, children-inside}
+use Rattle.forms.specs.Inner.Tables.{machine, Layout, Packed}
+use Rattle.forms.proofs.Files.{number-fits}
+use Rattle.classes.specs.Inner.Classes.{keyOf, keyed, bodyMarks, at, Keyable}
+use Rattle.classes.proofs.Numbering.{class-below, least-below, classes-few}
 use Rattle.canonical.specs.Inner.Quotients.{Mergeable, Merges, Keys, sizeOf, Front, Copied, Kept, Copyable, Copies, StateMergeable, MergesState}
 
 -- ---- classes in the order of their least members
@@ -53,16 +52,16 @@ module _ (classes outs : List ℕ) (n m r : ℕ) (low : (q : ℕ) → q < n → 
   key-call (suc i, q) c = refl
 
   mutual
-    unfolding flat renamed mapT bind Ranked keyOf
+    unfolding preorder renamed mapT bind Ranked keyOf
 
     -- its marks are those of the term, with classes for states
     pub keyed-marks : (t : Term (ℕ × ℕ)) → Ranked (Call n r) outs t → keyed classes (marks t) ≡ marks (renamed (at classes) t)
     keyed-marks (var e) c = ap (λ x. x ∷ []) (key-call e c)
     keyed-marks (node k ts) c = ap (_∷_ (0, k)) (keyed-all ts (c .2))
 
-    keyed-all : (ts : Terms (ℕ × ℕ)) → AllRanked (Call n r) outs ts → keyed classes (flats (λ e. e ∷ []) (λ b. (0, b)) ts) ≡ flats (λ e. e ∷ []) (λ b. (0, b)) (binds ts (λ e. var (e .0, at classes (e .1))))
+    keyed-all : (ts : Terms (ℕ × ℕ)) → AllRanked (Call n r) outs ts → keyed classes (preorders (λ e. e ∷ []) (λ b. (0, b)) ts) ≡ preorders (λ e. e ∷ []) (λ b. (0, b)) (binds ts (λ e. var (e .0, at classes (e .1))))
     keyed-all none c = refl
-    keyed-all (more t ts) c = map-append (keyOf classes) (marks t) (flats (λ e. e ∷ []) (λ b. (0, b)) ts) ∙ ap₂ _++_ (keyed-marks t (c .0)) (keyed-all ts (c .1))
+    keyed-all (more t ts) c = map-append (keyOf classes) (marks t) (preorders (λ e. e ∷ []) (λ b. (0, b)) ts) ∙ ap₂ _++_ (keyed-marks t (c .0)) (keyed-all ts (c .1))
 
   mutual
     unfolding renamed mapT bind Ranked
@@ -247,8 +246,8 @@ module _ {ins outs starts bytes : List ℕ} {n : ℕ} (L : Layout ins outs start
   body-keyable classes e r W =
       let f = getD starts j 0 in
       let t = getD starts (j + 1) 0 in
-      let o : f ≤ t = L .laid .ordered j less in
-      let i : 2 * t ≤ length bytes = L .laid .inside (j + 1) (omega arith) in
+      let o : f ≤ t = L .bounds .ordered j less in
+      let i : 2 * t ≤ length bytes = L .bounds .inside (j + 1) (omega arith) in
       let l = length-slice f t (pairs bytes) (pairs-length bytes t i) in
       record {
         inside = omega arith;
@@ -266,12 +265,12 @@ module _ {ins outs starts bytes classes least : List ℕ} {count : ℕ} {starts�
   -- it can be copied where the bodies before it take no more marks than they did
   pub body-copyable : (j b r : ℕ) {starts′ bytes′ : List ℕ} → j < bodyCount ins (length classes) → Whole (markOf outs (length classes) r) (bodyMarks starts bytes j) → b < 2049 → length starts′ ≡ length starts₀ → length bytes′ ≡ length bytes₀ → getD starts′ b 0 ≤ getD starts j 0 → Copyable starts bytes classes j b starts′ bytes′
   body-copyable j b r h W g s t p = record {
-    there = omega (arith, A .layout .laid .long);
-    ordered = A .layout .laid .ordered j h;
+    there = omega (arith, A .layout .bounds .long);
+    ordered = A .layout .bounds .ordered j h;
     keyable = body-keyable (A .layout) h classes refl r W;
     starts-room = omega (arith, A .starts-room);
     bytes-room = t ∙ A .bytes-room;
-    all = omega (arith, A .layout .laid .ordered j h, front-le old (j + 1) (bodyCount ins (length classes)) (omega arith) (omega arith), A .packed .all);
+    all = omega (arith, A .layout .bounds .ordered j h, front-le old (j + 1) (bodyCount ins (length classes)) (omega arith) (omega arith), A .packed .all);
   }
 
   -- the number of a class, and that of its least member, are those of states
@@ -465,7 +464,7 @@ module _ {ins outs starts bytes classes least : List ℕ} {count : ℕ} {starts�
             few-symbols = A .layout .few-symbols;
             few-states = few;
             few-inputs = A .layout .few-inputs;
-            laid = record {
+            bounds = record {
               long = omega (arith, mul-le-mul few (A .layout .few-inputs), L .starts-room);
               ordered = λ j h. omega (arith, all-front .increasing j h);
               inside = λ j h. omega (arith, front-le all-front j (bodyCount ins count) h (omega arith), all-few, L .bytes-room);

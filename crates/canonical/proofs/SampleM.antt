@@ -25,15 +25,15 @@ use Rattle.theory.specs.Transducer.{Transducer, translate, output, closed, run,
 use Rattle.theory.proofs.Numbers.{scanned-numbered}
 use Rattle.theory.proofs.Scanning.{scan, scan-states, scan-rhss, scan-rhs, see, tally, only-if, Scanned}
 use Rattle.theory.proofs.Terms.{conflict}
-use Rattle.formats.specs.Alphabets.{Alphabets, stock, inputs, outputs, Leaf}
-use Rattle.formats.specs.Code.{Ranked, flat, Call}
+use Rattle.trees.specs.Alphabets.{Alphabets, stock, inputs, outputs, Leaf}
+use Rattle.trees.specs.Code.{Ranked, preorder, Call}
 use Rattle.formats.specs.Samples.{pairs, M, d, e, M-pref}
 use Rattle.formats.specs.Sheet.{Encodes, countBytes, markBytes, bodyBytes, each, terms}
 use Rattle.transducer.proofs.Samples.{below, leaf}
-use Rattle.prefixes.specs.Alphabet.{alphabet, childrenOf}
+use Rattle.forms.specs.Alphabet.{alphabet, childrenOf}
 use Rattle.prefixes.proofs.Samples.{M-machine, M-sheet, M-is-pref, line, G}
 use Rattle.earliest.specs.Answers.{EarliestFile}
-use Rattle.earliest.proofs.Laws.{encoded-wf}
+use Rattle.forms.proofs.Files.{encoded-wf}
 use Rattle.canonical.specs.Answers.{NormalFile}
 
 pairs-alphabets : Alphabets pairs
@@ -70,7 +70,7 @@ unfolding form-rhs on-pair inputs outputs Ranked count
 form-ranked q a h = below 3 (λ q. (a : ℕ) → a < 2 → Ranked (Call 3 (getD (inputs pairs) a 0)) (outputs pairs) (form-rhs q a)) (below 2 _ (omega arith), (below 2 _ (omega arith), (below 2 _ (omega arith), tt))) q h a
 
 M-encodes : Encodes (inputs pairs) (outputs pairs) 3 M-counts M-bytes M-form
-unfolding M-form form-rhs on-pair inputs outputs Ranked count flat countBytes markBytes bodyBytes each terms
+unfolding M-form form-rhs on-pair inputs outputs Ranked count preorder countBytes markBytes bodyBytes each terms
 M-encodes = record {
   over = record { initial = omega arith; rhs = form-ranked; sort = λ q h. refl };
   contents = record { states = omega arith; bodies = refl; some = below 7 _ (omega arith); few = below 7 _ (omega arith); all = omega arith };

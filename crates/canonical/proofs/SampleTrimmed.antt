@@ -19,12 +19,12 @@ use Rattle.theory.specs.Transducer.{Transducer, output, closed, run, pick, rena
 use Rattle.theory.specs.Trimmed.{Trimmed}
 use Rattle.theory.proofs.Identity.{identical-refl}
 use Rattle.theory.proofs.Terms.{conflict}
-use Rattle.formats.specs.Alphabets.{inputs, outputs, Leaf}
-use Rattle.formats.specs.Code.{Ranked, flat, Call}
+use Rattle.trees.specs.Alphabets.{inputs, outputs, Leaf}
+use Rattle.trees.specs.Code.{Ranked, preorder, Call}
 use Rattle.formats.specs.Samples.{S, T′, U}
 use Rattle.formats.specs.Sheet.{Encodes, countBytes, markBytes, bodyBytes, each, terms}
 use Rattle.transducer.proofs.Samples.{S-alphabets, below, leaf, chain}
-use Rattle.prefixes.specs.Alphabet.{alphabet, childrenOf}
+use Rattle.forms.specs.Alphabet.{alphabet, childrenOf}
 use Rattle.prefixes.proofs.Samples.{EachOpen, at-open}
 use Rattle.earliest.specs.Answers.{EarliestFile}
 use Rattle.canonical.proofs.Samples.{T′-sheet, U-sheet, one-state, once, late, f, G, leaf-allowed, chain-allowed, doubles}
@@ -127,7 +127,7 @@ abbrev pub T′-bytes : List ℕ
 T′-bytes = 0 ∷ 0 ∷ 1 ∷ 0 ∷ 1 ∷ 1 ∷ 0 ∷ 0 ∷ 1 ∷ 0 ∷ 1 ∷ 1 ∷ 0 ∷ 1 ∷ 0 ∷ 0 ∷ 1 ∷ 0 ∷ 1 ∷ 1 ∷ 0 ∷ 1 ∷ []
 
 T′-encodes : Encodes (inputs S) (outputs S) 2 T′-counts T′-bytes (form once)
-unfolding form one-state late earliestForm expand opened label bind sub Option·elim listed renamed mapT inputs outputs Ranked count flat countBytes markBytes bodyBytes each terms
+unfolding form one-state late earliestForm expand opened label bind sub Option·elim listed renamed mapT inputs outputs Ranked count preorder countBytes markBytes bodyBytes each terms
 T′-encodes = record {
   over = record { initial = omega arith; rhs = form-ranked once; sort = below 2 _ (refl, (refl, tt)) };
   contents = record { states = omega arith; bodies = refl; some = below 5 _ (omega arith); few = below 5 _ (omega arith); all = omega arith };
@@ -147,7 +147,7 @@ abbrev pub U-early-bytes : List ℕ
 U-early-bytes = 0 ∷ 0 ∷ 0 ∷ 0 ∷ 1 ∷ 0 ∷ 1 ∷ 1 ∷ 0 ∷ 0 ∷ 1 ∷ 0 ∷ 1 ∷ 1 ∷ 0 ∷ 0 ∷ 1 ∷ 0 ∷ 1 ∷ 1 ∷ 0 ∷ 1 ∷ 0 ∷ 0 ∷ 1 ∷ 0 ∷ 1 ∷ 1 ∷ 0 ∷ 1 ∷ []
 
 U-early-encodes : Encodes (inputs S) (outputs S) 2 U-early-counts U-early-bytes (form (f once once))
-unfolding form one-state late earliestForm expand opened label bind sub Option·elim listed renamed mapT inputs outputs Ranked count flat countBytes markBytes bodyBytes each terms
+unfolding form one-state late earliestForm expand opened label bind sub Option·elim listed renamed mapT inputs outputs Ranked count preorder countBytes markBytes bodyBytes each terms
 U-early-encodes = record {
   over = record { initial = omega arith; rhs = form-ranked (f once once); sort = below 2 _ (refl, (refl, tt)) };
   contents = record { states = omega arith; bodies = refl; some = below 5 _ (omega arith); few = below 5 _ (omega arith); all = omega arith };

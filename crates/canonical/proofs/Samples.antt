@@ -19,13 +19,13 @@ use Rattle.theory.proofs.NormalForms.{normal-self}
 use Rattle.theory.proofs.Numbers.{scanned-numbered}
 use Rattle.theory.proofs.Scanning.{scan, scan-states, scan-rhss, scan-rhs, see, tally, only-if, Scanned}
 use Rattle.theory.proofs.Terms.{conflict}
-use Rattle.formats.specs.Alphabets.{inputs, outputs, Leaf}
-use Rattle.formats.specs.Code.{Ranked, flat, Call}
+use Rattle.trees.specs.Alphabets.{inputs, outputs, Leaf}
+use Rattle.trees.specs.Code.{Ranked, preorder, Call}
 use Rattle.formats.specs.Samples.{leaf-file, T′, U, S, T}
 use Rattle.formats.specs.Sheet.{Encodes, Sheet, countBytes, markBytes, bodyBytes, each, terms}
 use Rattle.transducer.proofs.Samples.{S-alphabets, T-machine, T-sheet, twice, line, below, leaf, chain}
-use Rattle.prefixes.specs.Alphabet.{alphabet, childrenOf}
-use Rattle.earliest.proofs.Laws.{encoded-wf}
+use Rattle.forms.specs.Alphabet.{alphabet, childrenOf}
+use Rattle.forms.proofs.Files.{encoded-wf}
 use Rattle.canonical.specs.Answers.{NormalFile}
 
 -- ---- no state: the initial term is e
@@ -33,7 +33,7 @@ unfoldable leaf-machine : Transducer ℕ
 leaf-machine = record { sort = λ q. 0; initial = node 1 none; rhs = λ q a. node 1 none }
 
 leaf-encodes : Encodes (inputs S) (outputs S) 0 (0 ∷ 1 ∷ []) (0 ∷ 1 ∷ []) leaf-machine
-unfolding leaf-machine inputs outputs Ranked count flat countBytes markBytes bodyBytes each terms
+unfolding leaf-machine inputs outputs Ranked count preorder countBytes markBytes bodyBytes each terms
 leaf-encodes = record {
   over = record { initial = omega arith; rhs = λ q a h. absurd (omega arith); sort = λ q h. refl };
   contents = record { states = omega arith; bodies = refl; some = below 1 _ (omega arith); few = below 1 _ (omega arith); all = omega arith };
@@ -106,7 +106,7 @@ T-cleans = record { alphabets = S-alphabets; states = 1; machine = T-machine; sh
 
 -- T has 7 marks
 pub T-marks : length (T-sheet .bytes) ≡ 14
-unfolding T-machine twice line inputs flat markBytes bodyBytes each terms
+unfolding T-machine twice line inputs preorder markBytes bodyBytes each terms
 T-marks = sym (ap length (T-sheet .encodes .marks-coded))
 
 -- ---- T' and U: q(a(x)) = f(q(x), q(x)), q(e) = f(e, e), with the initial terms q(x) and f(q(x), q(x))
@@ -129,7 +129,7 @@ unfolding late inputs outputs Ranked count
 late-ranked = below 2 _ (omega arith)
 
 pub T′-sheet : Sheet (inputs S) (outputs S) T′ 1 (one-state once late)
-unfolding one-state late inputs outputs Ranked count flat countBytes markBytes bodyBytes each terms
+unfolding one-state late inputs outputs Ranked count preorder countBytes markBytes bodyBytes each terms
 T′-sheet = record {
   counts = 0 ∷ 1 ∷ 0 ∷ 3 ∷ 0 ∷ 3 ∷ [];
   bytes = 1 ∷ 0 ∷ 0 ∷ 0 ∷ 1 ∷ 0 ∷ 1 ∷ 0 ∷ 0 ∷ 0 ∷ 0 ∷ 1 ∷ 0 ∷ 1 ∷ [];
@@ -143,7 +143,7 @@ T′-sheet = record {
 }
 
 pub U-sheet : Sheet (inputs S) (outputs S) U 1 (one-state (f once once) late)
-unfolding one-state late inputs outputs Ranked count flat countBytes markBytes bodyBytes each terms
+unfolding one-state late inputs outputs Ranked count preorder countBytes markBytes bodyBytes each terms
 U-sheet = record {
   counts = 0 ∷ 3 ∷ 0 ∷ 3 ∷ 0 ∷ 3 ∷ [];
   bytes = 0 ∷ 0 ∷ 1 ∷ 0 ∷ 1 ∷ 0 ∷ 0 ∷ 0 ∷ 1 ∷ 0 ∷ 1 ∷ 0 ∷ 0 ∷ 0 ∷ 0 ∷ 1 ∷ 0 ∷ 1 ∷ [];
@@ -160,7 +160,7 @@ U-form : Transducer ℕ
 U-form = one-state (f (f once once) (f once once)) line
 
 U-encodes : Encodes (inputs S) (outputs S) 1 U-counts U-bytes U-form
-unfolding U-form one-state T-machine line twice inputs outputs Ranked count flat countBytes markBytes bodyBytes each terms
+unfolding U-form one-state T-machine line twice inputs outputs Ranked count preorder countBytes markBytes bodyBytes each terms
 U-encodes = record {
   over = record { initial = omega arith; rhs = T-sheet .encodes .over .rhs; sort = λ q h. refl };
   contents = record { states = omega arith; bodies = refl; some = below 3 _ (omega arith); few = below 3 _ (omega arith); all = omega arith };

@@ -10,12 +10,12 @@ use Rattle.theory.specs.Quotient.{Classes, quotient}
 use Rattle.theory.specs.Term.{Tree}
 use Rattle.theory.specs.Transducer.{Transducer, translate}
 use Rattle.theory.specs.Trimmed.{Trimmed}
-use Rattle.formats.specs.Alphabets.{Leaf, Alphabets, inputs, outputs}
-use Rattle.formats.specs.Code.{Ranked}
+use Rattle.trees.specs.Alphabets.{Leaf, Alphabets, inputs, outputs}
+use Rattle.trees.specs.Code.{Ranked}
 use Rattle.formats.specs.Sheet.{Encodes, Sheet}
-use Rattle.prefixes.specs.Alphabet.{alphabet}
+use Rattle.forms.specs.Alphabet.{alphabet}
 use Rattle.earliest.specs.Answers.{MakesForm}
-use Rattle.earliest.specs.declared.earliest.Formed.{Formed}
+use Rattle.forms.specs.declared.write.Formed.{Formed}
 
 -- two transducers over one input alphabet are equivalent (01: sew alike): they give equal output trees on every input tree, of any size
 pub record Alike (ins : List ℕ) (M M′ : Transducer ℕ) : Type 0 where

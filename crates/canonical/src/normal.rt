@@ -8,17 +8,17 @@ ghost use Rattle.earliest.specs.Inner.Loaded.{FormsFile};
 ghost use Rattle.canonical.specs.Answers.{Cleans};
 ghost use Rattle.canonical.specs.Inner.Normal.{Reducible, Reduces, NormalOf, NormalBy};
 use crate::quotient::merge;
-use earliest::earliest::Formed;
 use earliest::earliest::form_of_parts;
-use earliest::queue::FormSize;
-use earliest::write::write_found;
-use formats::alphabet::input_ranks;
-use formats::alphabet::output_ranks;
 use formats::file::FileRead;
 use formats::file::counts_end;
 use formats::file::read_transducer;
-use formats::refusal::Refusal;
-use merging::classes::settle_classes;
+use forms::write::FormSize;
+use forms::write::Formed;
+use forms::write::write_found;
+use merging::refining::settle_classes;
+use trees::alphabet::input_ranks;
+use trees::alphabet::output_ranks;
+use trees::refusal::Refusal;
 
 // Makes equivalent states one, with a byte for each state in `old` and in `classes`.
 fn reduce_by(

@@ -1,10 +1,10 @@
 // The quotient of a transducer by classes of its states: the initial term and the right-hand sides of the least members, with classes for states.
 ghost use Prim.Native.Nat.{_+_, _*_, _≤_};
 ghost use lib.ListN.{length};
-ghost use Rattle.merging.specs.Inner.Classes.{Keyable};
+ghost use Rattle.classes.specs.Inner.Classes.{Keyable};
 ghost use Rattle.canonical.specs.Inner.Quotients.{Keys, Copyable, Copies, StateMergeable, MergesState, Mergeable, Merges};
-use formats::bytes::number;
-use formats::bytes::wide;
+use trees::bytes::number;
+use trees::bytes::wide;
 
 // Writes the n marks from number `from` on, with classes for states, from mark number `at` on.
 fn copy_keys(classes: &[u8], marks: &[u8], from: usize, n: usize, out: &mut [u8], at: usize)

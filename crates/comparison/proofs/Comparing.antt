@@ -16,29 +16,28 @@ use Rattle.theory.proofs.Equivalences.{equivalent-trans, equivalent-sym}
 use Rattle.theory.proofs.Identity.{identical-sym}
 use Rattle.theory.proofs.Terms.{conflict}
 use Rattle.theory.proofs.Trimming.{trimmed-equivalent, trimmed-earliest, trimmed-form}
-use Rattle.formats.specs.Alphabets.{Leaf, inputs, outputs, alphabetCheck}
+use Rattle.trees.specs.Alphabets.{Leaf, inputs, outputs, alphabetCheck}
 use Rattle.formats.specs.Answers.{ReadsFile, HandsMarks}
-use Rattle.formats.specs.Refusal.{number, Outcome, accepted, refused, Checks, done, check, judged, Holds, Judged}
+use Rattle.trees.specs.Refusal.{refusalNumber, Outcome, accepted, refused, Checks, done, check, judged, Holds, Judged}
 use Rattle.formats.specs.Sheet.{Encodes, Sheet, sheetCheck}
 use Rattle.formats.specs.declared.file.FileRead.{FileRead}
 use Rattle.formats.specs.declared.file.FileRead.the-variants as reading
-use Rattle.formats.specs.declared.refusal.Refusal.{Refusal}
-use Rattle.formats.specs.declared.refusal.Refusal.the-variants.{OverLimits}
-use Rattle.formats.proofs.Judging.{refuse, pass, accept, accepted-holds, refused-fails}
+use Rattle.trees.specs.declared.refusal.Refusal.{Refusal}
+use Rattle.trees.specs.declared.refusal.Refusal.the-variants.{OverLimits}
+use Rattle.trees.proofs.Judging.{refuse, pass, accept, accepted-holds, refused-fails}
 use Rattle.formats.proofs.Laws.{sheet-marks}
 use Rattle.formats.proofs.Sheets.{sheet-unique}
 use Rattle.transducer.specs.Inner.Machine.{Machine}
 use Rattle.transducer.proofs.Opening.{Opened, opened-sheet, not-opened}
-use Rattle.prefixes.specs.Alphabet.{alphabet}
-use Rattle.prefixes.specs.Inner.Heads.{machine}
-use Rattle.prefixes.proofs.Settling.{machine-wf}
+use Rattle.forms.specs.Alphabet.{alphabet}
+use Rattle.forms.specs.Inner.Tables.{machine}
+use Rattle.forms.proofs.Files.{machine-wf, encoded-wf}
 use Rattle.earliest.specs.Answers.{formCheck}
 use Rattle.earliest.specs.Inner.Loaded.{EarliestOf, FormOfParts}
-use Rattle.earliest.specs.declared.queue.FormSize.{FormSize}
-use Rattle.earliest.specs.declared.queue.FormSize.the-variants.{States, Over}
-use Rattle.earliest.proofs.Filing.{packed-encoded}
+use Rattle.forms.specs.declared.write.FormSize.{FormSize}
+use Rattle.forms.specs.declared.write.FormSize.the-variants.{States, Over}
+use Rattle.forms.proofs.Filing.{packed-encoded}
 use Rattle.earliest.proofs.Forming.{from-parts, to-parts}
-use Rattle.earliest.proofs.Laws.{encoded-wf}
 use Rattle.canonical.specs.Answers.{SewAlike}
 use Rattle.canonical.proofs.Alike.{equivalent-alike, ranked-allowed}
 use Rattle.witness.specs.Difference.{treeArea, addressArea, Difference}
@@ -138,7 +137,7 @@ module _ {stock counts bytes starts out counts′ bytes′ starts′ out′ : Li
           record {
             ranked = D .ranked;
             small = D .small;
-            flat = D .flat;
+            few-levels = D .few-levels;
             short = D .short;
             left = ap (λ t. symbolAt t v) (early-same X B e E l .translation d ok) ∙ D .left;
             right = ap (λ t. symbolAt t v) (early-same X′ B′ e′ E′ l .translation d ok) ∙ D .right;
@@ -179,7 +178,7 @@ module _ {stock s ins counts bytes : List ℕ} {n : ℕ} (O : Opened stock s n i
   second-passed j = let w = O .holds in pass (w .1 .0) (pass (w .1 .1 .0) j)
 
   -- it is refused
-  pub second-refused : (s′ : List ℕ) (rest : Checks) {x : Refusal} {r : FileRead} → Kept → ReadsFile stock s′ r → r ≡ reading.Refused x → Judged {A = A} Kept Good (alphabetCheck stock (sheetCheck stock s (sheetCheck stock s′ rest))) (refused (number x))
+  pub second-refused : (s′ : List ℕ) (rest : Checks) {x : Refusal} {r : FileRead} → Kept → ReadsFile stock s′ r → r ≡ reading.Refused x → Judged {A = A} Kept Good (alphabetCheck stock (sheetCheck stock s (sheetCheck stock s′ rest))) (refused (refusalNumber x))
   second-refused s′ rest kept J e = first-passed (past (O .alphabets) (not-opened stock s′ rest kept J e))
 
 module _ {stock s s′ ins ins′ counts counts′ bytes bytes′ : List ℕ} {n n′ : ℕ} (O : Opened stock s n ins counts bytes) (O′ : Opened stock s′ n′ ins′ counts′ bytes′) where

@@ -9,12 +9,12 @@ use mathlib.Core.Path.{_≡_, refl, ap, sym, _∙_}
 use lib.ListN.{length, getD, length-append}
 use Rattle.theory.specs.Transducer.{Transducer}
 use Rattle.theory.proofs.Terms.{conflict}
-use Rattle.formats.specs.Alphabets.{inputs, outputs}
-use Rattle.formats.specs.Code.{Mark}
-use Rattle.formats.specs.Refusal.{accepted, Holds}
+use Rattle.trees.specs.Alphabets.{inputs, outputs}
+use Rattle.trees.specs.Code.{Mark}
+use Rattle.trees.specs.Refusal.{accepted, Holds}
 use Rattle.formats.specs.Sheet.{markBytes, bodyBytes, bodiesOf, Sheet}
 use Rattle.formats.proofs.Cuts.{length-markBytes}
-use Rattle.formats.proofs.Judging.{accepted-holds}
+use Rattle.trees.proofs.Judging.{accepted-holds}
 use Rattle.formats.proofs.Sheets.{sheet-unique}
 use Rattle.canonical.specs.Answers.{SewAlike}
 use Rattle.comparison.specs.Answers.{Found, pairCheck, Compares, comparedAs, FewerMarks, HandsShorter}

@@ -7,8 +7,8 @@ use mathlib.Core.Path.{_≡_}
 use lib.ListN.{length}
 use Rattle.theory.specs.Term.{Tree}
 use Rattle.theory.specs.Transducer.{Transducer}
-use Rattle.formats.specs.Alphabets.{inputs, outputs, alphabetCheck}
-use Rattle.formats.specs.Refusal.{number, Outcome, accepted, refused, Checks, done, check, Judged, Handed}
+use Rattle.trees.specs.Alphabets.{inputs, outputs, alphabetCheck}
+use Rattle.trees.specs.Refusal.{refusalNumber, Outcome, accepted, refused, Checks, done, check, Judged, Handed}
 use Rattle.formats.specs.Sheet.{Sheet, sheetCheck}
 use Rattle.earliest.specs.Answers.{formCheck}
 use Rattle.canonical.specs.Answers.{SewAlike}
@@ -27,7 +27,7 @@ pub record Differ (stock s s′ tree tree′ address address′ : List ℕ) (nod
 abbrev pub comparedAs : Comparison → Outcome (Option (ℕ × ℕ × ℕ × ℕ))
 comparedAs compared.Alike = accepted nothing
 comparedAs (compared.Differ n m b b′) = accepted (some (n, m, b, b′))
-comparedAs (compared.Refused r) = refused (number r)
+comparedAs (compared.Refused r) = refused (refusalNumber r)
 
 abbrev pub Found : List ℕ → List ℕ → List ℕ → List ℕ → List ℕ → List ℕ → List ℕ → Option (ℕ × ℕ × ℕ × ℕ) → Type 0
 Found stock s s′ tree tree′ address address′ nothing = SewAlike stock s s′ × (tree′ ≡ tree) × (address′ ≡ address)

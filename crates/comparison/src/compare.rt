@@ -6,15 +6,15 @@ ghost use Rattle.comparison.specs.Answers.{Compares};
 ghost use Rattle.witness.specs.Inner.Forms.{Comparable};
 ghost use Rattle.comparison.specs.Inner.Verdicts.{ComparesForms, EarlyForm, ComparesWith, ComparesParts};
 use earliest::earliest::form_of_parts;
-use earliest::queue::FormSize;
-use formats::alphabet::input_ranks;
-use formats::alphabet::output_ranks;
 use formats::file::FileRead;
 use formats::file::counts_end;
 use formats::file::read_transducer;
-use formats::refusal::Refusal;
+use forms::write::FormSize;
 use pairs::pairs::Verdict;
 use pairs::pairs::search;
+use trees::alphabet::input_ranks;
+use trees::alphabet::output_ranks;
+use trees::refusal::Refusal;
 use witness::witness::show;
 
 // Alike; or how many nodes the tree and how many numbers the address have that show a difference, and the two symbols there; or the refusal.

@@ -4,7 +4,7 @@ use Prim.Native.Nat.{ℕ}
 use mathlib.Core.List.{List, []}
 use mathlib.Core.Logic.{_⊎_, inl, inr}
 use mathlib.Core.Path.{_≡_, refl}
-use Rattle.formats.specs.Refusal.{Outcome, accepted, refused, Checks, done, check, Holds, judged, Judged}
+use Rattle.trees.specs.Refusal.{Outcome, accepted, refused, Checks, done, check, Holds, judged, Judged}
 use Rattle.demands.specs.First.{FirstFailing, Answered, Demand1}
 
 answers : {A : Type 0} (Left : Type 0) (Good : A → Type 0) (checks : Checks) (r : Outcome A) → judged Left Good checks r → Answered checks Left r

@@ -1,4 +1,4 @@
--- Demand 2 is met: the laws of `formats` and `transducer`, put together.
+-- Demand 2 is met: the laws of `trees`, `formats` and `transducer`, put together.
 -- Assumes nothing.
 use Prim.Native.Nat.{ℕ, _+_, _*_, _≤_}
 use mathlib.Core.List.{List}
@@ -8,9 +8,9 @@ use lib.ListN.{length, take}
 use lib.Seq.{sets}
 use Rattle.theory.specs.Transducer.{Transducer, translate}
 use Rattle.theory.proofs.Terms.{conflict}
-use Rattle.formats.specs.Alphabets.{Alphabets, inputs, outputs, alphabetCheck}
+use Rattle.trees.specs.Alphabets.{Alphabets, inputs, outputs, alphabetCheck}
 use Rattle.formats.specs.Answers.{fileRead, ReadsFile, HandsCounts, HandsMarks, fileWritten, WritesFile}
-use Rattle.formats.specs.Refusal.{Outcome, accepted, refused, done, check, Holds, judged}
+use Rattle.trees.specs.Refusal.{Outcome, accepted, refused, done, check, Holds, judged}
 use Rattle.formats.specs.Sheet.{longest, file, Encodes, Counted, CountedFile, Sheet, partsCheck}
 use Rattle.formats.specs.declared.file.FileRead.{FileRead}
 use Rattle.formats.specs.declared.file.FileRead.the-variants as reading
@@ -18,10 +18,11 @@ use Rattle.formats.specs.declared.file.FileWritten.{FileWritten}
 use Rattle.formats.specs.declared.file.FileWritten.the-variants as writing
 use Rattle.formats.proofs.Laws.{read-write, write-read}
 use Rattle.formats.proofs.Sheets.{counted-right, encodes-long, parts-at, sheet-unique}
-use Rattle.formats.proofs.Trees.{input-unique}
+use Rattle.trees.proofs.Trees.{input-unique}
 use Rattle.transducer.specs.Answers.{translated}
-use Rattle.transducer.proofs.Laws.{file-output-unique, must-translate, must-refuse-long, must-find}
-use Rattle.demands.specs.Second.{SameTransducer, ReadsParts, Demand2}
+use Rattle.transducer.proofs.Laws.{file-output-unique, must-translate, must-refuse-long}
+use Rattle.queries.proofs.Laws.{must-find}
+use Rattle.demands.specs.Second.{ReadsParts, Demand2}
 
 -- ---- reader and writer
 undone : (stock s counts bytes before after : List ℕ) (n : ℕ) (r : FileRead) (w : FileWritten) → ReadsFile stock s r → fileRead r ≡ accepted n → HandsCounts stock s counts → HandsMarks stock s bytes → longest ≤ length before → WritesFile stock n counts bytes before after w → (fileWritten w ≡ accepted (length s)) × (after ≡ sets before 0 s)

@@ -6,10 +6,10 @@ use mathlib.Core.Option.{Option, some}
 use mathlib.Core.Path.{_≡_, refl, sym, _∙_}
 use lib.ListN.{length}
 use Rattle.theory.proofs.Equivalences.{equivalent-refl}
-use Rattle.formats.specs.Refusal.{Holds}
+use Rattle.trees.specs.Refusal.{Holds}
 use Rattle.formats.specs.Sheet.{longest, file}
-use Rattle.formats.proofs.Judging.{must-accept}
-use Rattle.earliest.specs.declared.earliest.Formed.{Formed}
+use Rattle.trees.proofs.Judging.{must-accept}
+use Rattle.forms.specs.declared.write.Formed.{Formed}
 use Rattle.canonical.specs.Answers.{NormalFile, Cleans}
 use Rattle.canonical.proofs.Laws.{cleaned, cleaned-exact, clean-accepted, clean-alike, clean-again, sheets-alike}
 use Rattle.witness.specs.Difference.{treeArea, addressArea}

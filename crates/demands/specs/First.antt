@@ -4,31 +4,34 @@ use mathlib.Core.List.{List, []}
 use mathlib.Core.Logic.{_⊎_}
 use mathlib.Core.Path.{_≡_}
 use lib.ListN.{length}
-use Rattle.formats.specs.Alphabets.{alphabetCheck}
-use Rattle.formats.specs.Answers.{Nothing, alphabetsRead, ReadsAlphabets, treeRead, ReadsTree, fileRead, ReadsFile, HandsCounts, HandsMarks, fileWritten, WritesFile}
-use Rattle.formats.specs.Refusal.{Outcome, accepted, refused, Checks, done, check, Holds}
+use Rattle.trees.specs.Alphabets.{alphabetCheck}
+use Rattle.trees.specs.Answers.{Nothing, alphabetsRead, ReadsAlphabets, treeRead, ReadsTree}
+use Rattle.formats.specs.Answers.{fileRead, ReadsFile, HandsCounts, HandsMarks, fileWritten, WritesFile}
+use Rattle.trees.specs.Refusal.{Outcome, accepted, refused, Checks, done, check, Holds}
 use Rattle.formats.specs.Sheet.{longest, sheetCheck, partsCheck}
-use Rattle.formats.specs.Tree.{treeCheck}
-use Rattle.formats.specs.declared.alphabet.AlphabetsRead.{AlphabetsRead}
+use Rattle.trees.specs.Tree.{treeCheck}
+use Rattle.trees.specs.declared.alphabet.AlphabetsRead.{AlphabetsRead}
 use Rattle.formats.specs.declared.file.FileRead.{FileRead}
 use Rattle.formats.specs.declared.file.FileWritten.{FileWritten}
-use Rattle.formats.specs.declared.tree.TreeRead.{TreeRead}
-use Rattle.transducer.specs.Answers.{linearTest, TestsLinear, translated, roomCheck, Translates, found, FindsSymbol}
-use Rattle.transducer.specs.declared.address.Found.{Found}
-use Rattle.transducer.specs.declared.linear.LinearTest.{LinearTest}
+use Rattle.trees.specs.declared.tree.TreeRead.{TreeRead}
+use Rattle.queries.specs.Answers.{linearTest, TestsLinear, found, FindsSymbol}
+use Rattle.transducer.specs.Answers.{translated, roomCheck, Translates}
+use Rattle.queries.specs.declared.address.Found.{Found}
+use Rattle.queries.specs.declared.linear.LinearTest.{LinearTest}
 use Rattle.transducer.specs.declared.translate.Translation.{Translation}
-use Rattle.earliest.specs.Answers.{formCheck, formOf, MakesEarliest}
-use Rattle.earliest.specs.declared.earliest.Formed.{Formed}
+use Rattle.earliest.specs.Answers.{formCheck, MakesEarliest}
+use Rattle.forms.specs.Answers.{formOf}
+use Rattle.forms.specs.declared.write.Formed.{Formed}
 use Rattle.canonical.specs.Answers.{Cleans}
 use Rattle.witness.specs.Difference.{treeArea, addressArea}
 use Rattle.comparison.specs.Answers.{pairCheck, comparedAs, Compares, HandsShorter}
 use Rattle.comparison.specs.declared.compare.Comparison.{Comparison}
-use Rattle.registry.specs.Answers.{Kept, madeOf, Makes, numberOf, CleanFile, HasPlace, Enters, HandsBody}
-use Rattle.registry.specs.Book.{body, Chained}
-use Rattle.registry.specs.declared.book.Entered.{Entered}
-use Rattle.registry.specs.declared.book.Head.{Head}
-use Rattle.registry.specs.declared.book.Made.{Made}
-use Rattle.registry.specs.declared.book.Record.{Record}
+use Rattle.records.specs.Answers.{Kept, madeOf, Makes, numberOf, CleanFile, HasPlace, Enters, HandsBody}
+use Rattle.records.specs.Book.{body, Chained}
+use Rattle.records.specs.declared.book.Entered.{Entered}
+use Rattle.records.specs.declared.book.Head.{Head}
+use Rattle.records.specs.declared.book.Made.{Made}
+use Rattle.records.specs.declared.book.Record.{Record}
 
 -- k is the number of the first check that does not hold
 unfoldable pub FirstFailing : Checks → ℕ → Type 0

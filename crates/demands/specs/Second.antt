@@ -8,17 +8,18 @@ use lib.Seq.{sets}
 use Rattle.theory.specs.Size.{size}
 use Rattle.theory.specs.Term.{Tree, symbolAt}
 use Rattle.theory.specs.Transducer.{Transducer}
-use Rattle.formats.specs.Alphabets.{Alphabets, inputs, outputs, alphabetCheck}
+use Rattle.trees.specs.Alphabets.{Alphabets, inputs, alphabetCheck}
 use Rattle.formats.specs.Answers.{fileRead, ReadsFile, HandsCounts, HandsMarks, fileWritten, WritesFile}
-use Rattle.formats.specs.Code.{code}
-use Rattle.formats.specs.Refusal.{accepted, refused, done, Holds}
+use Rattle.trees.specs.Code.{code}
+use Rattle.trees.specs.Refusal.{accepted, refused, done, Holds}
 use Rattle.formats.specs.Sheet.{longest, file, Sheet, sheetCheck}
-use Rattle.formats.specs.Tree.{InputTree, treeCheck}
+use Rattle.trees.specs.Tree.{InputTree, treeCheck}
 use Rattle.formats.specs.declared.file.FileRead.{FileRead}
 use Rattle.formats.specs.declared.file.FileWritten.{FileWritten}
-use Rattle.transducer.specs.Answers.{translated, Translates, found, named, FindsSymbol}
+use Rattle.transducer.specs.Answers.{translated, Translates}
+use Rattle.queries.specs.Answers.{found, named, FindsSymbol}
 use Rattle.transducer.specs.Output.{Output}
-use Rattle.transducer.specs.declared.address.Found.{Found}
+use Rattle.queries.specs.declared.address.Found.{Found}
 use Rattle.transducer.specs.declared.translate.Translation.{Translation}
 
 -- two transducers with as many states n and the same initial term and right-hand sides, over P input symbols

@@ -5,11 +5,12 @@ use mathlib.Core.Logic.{_↔_}
 use mathlib.Core.Option.{Option, some, none as nothing}
 use mathlib.Core.Path.{_≡_}
 use lib.ListN.{length, take}
-use Rattle.formats.specs.Alphabets.{alphabetCheck}
-use Rattle.formats.specs.Refusal.{accepted, done, Holds}
+use Rattle.trees.specs.Alphabets.{alphabetCheck}
+use Rattle.trees.specs.Refusal.{accepted, done, Holds}
 use Rattle.formats.specs.Sheet.{longest, sheetCheck}
-use Rattle.earliest.specs.Answers.{formCheck, formOf}
-use Rattle.earliest.specs.declared.earliest.Formed.{Formed}
+use Rattle.earliest.specs.Answers.{formCheck}
+use Rattle.forms.specs.Answers.{formOf}
+use Rattle.forms.specs.declared.write.Formed.{Formed}
 use Rattle.canonical.specs.Answers.{SewAlike, Cleans}
 use Rattle.witness.specs.Difference.{treeArea, addressArea}
 use Rattle.comparison.specs.Answers.{Differ, comparedAs, Compares}

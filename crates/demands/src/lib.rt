@@ -3,7 +3,7 @@ ghost use Rattle.demands.specs.Third.{Judges};
 use canonical::normal::clean;
 use comparison::compare::Comparison;
 use comparison::compare::compare;
-use earliest::earliest::Formed;
+use forms::write::Formed;
 
 // What the three calls answer.
 pub struct Judged {

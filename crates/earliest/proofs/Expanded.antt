@@ -46,7 +46,7 @@ labeled-end base s m h = ap (labeled (base + m)) (drop-of-length-le s {i = m} h)
 -- ---- mark by mark
 -- what the call (i, q) gives
 abbrev pub labels : List ℕ → List ℕ → ℕ → ℕ → List ℕ
-labels heads sizes i q = labeled (8192 * i + 64 * q) (headAt heads sizes q)
+labels heads sizes i q = labeled (65536 * i + 64 * q) (headAt heads sizes q)
 
 -- mark j is the symbol x
 pub expand-symbol : (heads sizes bytes : List ℕ) (j to : ℕ) → j < to → 2 * to ≤ length bytes → {i x : ℕ} → i ≡ getD bytes (2 * j) 0 → x ≡ getD bytes (2 * j + 1) 0 → i ≡ 0 → expanded heads sizes bytes j to ≡ x ∷ expanded heads sizes bytes (j + 1) to
@@ -91,5 +91,5 @@ module _ {heads sizes bytes out : List ℕ} {from to : ℕ} (E : Expandable head
       let t = G .there j h g some in
       let i = markAt bytes j .0 in
       let q = markAt bytes j .1 in
-      omega (arith, t .1, t .2, labeled-length (8192 * i + 64 * q) (headAt heads sizes q), head-length heads sizes q (omega (arith, t .1, t .2)))) in
+      omega (arith, t .1, t .2, labeled-length (65536 * i + 64 * q) (headAt heads sizes q), head-length heads sizes q (omega (arith, t .1, t .2)))) in
       omega (arith, G .few, G .room)

@@ -18,19 +18,22 @@ use Rattle.theory.specs.Transducer.{renamed}
 use Rattle.theory.specs.Vars.{AllVars}
 use Rattle.theory.proofs.Terms.{conflict, bind-bind, bind-map}
 use Rattle.theory.proofs.Vars.{bind-ext, all-map}
-use Rattle.formats.specs.Code.{Ranked, AllRanked, Call, flat, flats}
-use Rattle.formats.specs.Inner.Decode.{letters, call, symbol, forest, first, Whole, Over, AllOver}
+use Rattle.trees.specs.Code.{Ranked, AllRanked, Call, preorder, preorders}
+use Rattle.theory.specs.Inner.Forests.{letters}
+use Rattle.trees.specs.Inner.Decode.{call, symbol, forest, first, Whole, Over, AllOver}
 use Rattle.formats.specs.Inner.Layout.{markOf}
 use Rattle.formats.specs.Inner.Marked.{part}
-use Rattle.formats.proofs.Codes.{flat-bind, reads-back, code-whole}
+use Rattle.trees.proofs.Codes.{preorder-bind, reads-back, code-whole}
 use Rattle.formats.proofs.Sheets.{whole-ranked}
 use Rattle.transducer.proofs.Meaning.{body-read}
 use Rattle.transducer.proofs.Walks.{spell-same}
 use Rattle.prefixes.specs.Inner.Heads.{Heads, headOf, bodyTerm}
 use Rattle.prefixes.specs.Inner.Patterns.{top, topIf, topOf, patternCode, headAt}
 use Rattle.prefixes.proofs.Grafts.{OverTop, pattern-read, head-length}
-use Rattle.earliest.specs.Inner.Letters.{letterOf, callLetter, spelt, openIf, labeled, expanded, State}
-use Rattle.earliest.proofs.Ranks.{ranked-all, ranked-bind}
+use Rattle.discovery.specs.Inner.Discovering.{ValidCall}
+use Rattle.earliest.specs.Inner.Letters.{letterOf, openIf, labeled, expanded, State}
+use Rattle.discovery.specs.Inner.Letters.{callLetter, spelt}
+use Rattle.discovery.proofs.Ranks.{ranked-all, ranked-bind}
 use Rattle.earliest.specs.Inner.Places.{place}
 use Rattle.earliest.proofs.Places.{numbered, numberedAll, label-number, pattern-length, RankedPattern, ranked-number}
 
@@ -64,31 +67,31 @@ labeled-append b (x ∷ s) u = ap (_∷_ (openIf (eqb x top) b x)) (labeled-appe
 
 module _ (outs : List ℕ) (few : length outs ≤ 64) where
   mutual
-    unfolding labeled flat numbered Ranked letters
+    unfolding labeled preorder numbered Ranked letters
 
     -- a labeled pattern has the letters of its numbered term
-    labeled-number : (p : Pattern) (b : ℕ) → RankedPattern outs p → labeled b (patternCode p) ≡ flat (λ x. x ∷ []) (λ k. k) (numbered p b)
+    labeled-number : (p : Pattern) (b : ℕ) → RankedPattern outs p → labeled b (patternCode p) ≡ preorder (λ x. x ∷ []) (λ k. k) (numbered p b)
     labeled-number (var a) b c = refl
     labeled-number (node k ps) b c = rw (ne-eqb k top (λ e. omega (arith, c .0))) (ap (_∷_ k) (labeled-numbers ps (suc b) (c .2)))
 
-    labeled-numbers : (ps : Patterns) (b : ℕ) → AllRanked (λ u. Unit {0}) outs ps → labeled b (flats (λ u. top ∷ []) (λ k. k) ps) ≡ flats (λ x. x ∷ []) (λ k. k) (numberedAll ps b)
+    labeled-numbers : (ps : Patterns) (b : ℕ) → AllRanked (λ u. Unit {0}) outs ps → labeled b (preorders (λ u. top ∷ []) (λ k. k) ps) ≡ preorders (λ x. x ∷ []) (λ k. k) (numberedAll ps b)
     labeled-numbers none b c = refl
     labeled-numbers (more p ps) b c =
-        labeled-append b (patternCode p) (flats (λ u. top ∷ []) (λ k. k) ps)
-        ∙ ap₂ _++_ (labeled-number p b (c .0)) (ap (λ n. labeled (b + n) (flats (λ u. top ∷ []) (λ k. k) ps)) (pattern-length p) ∙ labeled-numbers ps (b + letters p) (c .1))
+        labeled-append b (patternCode p) (preorders (λ u. top ∷ []) (λ k. k) ps)
+        ∙ ap₂ _++_ (labeled-number p b (c .0)) (ap (λ n. labeled (b + n) (preorders (λ u. top ∷ []) (λ k. k) ps)) (pattern-length p) ∙ labeled-numbers ps (b + letters p) (c .1))
 
 -- ---- a call for each number
 abbrev pub callOf : ℕ → ℕ × ℕ
-callOf x = (x / 8192, x % 8192)
+callOf x = (x / 65536, x % 65536)
 
 -- the numbers are the letters of the calls
-spelt-calls : (t : Term ℕ) → spelt (mapT callOf t) ≡ flat (λ x. x ∷ []) (λ k. k) t
-unfolding mapT flat
-spelt-calls t = flat-bind (λ e. callLetter e ∷ []) (λ k. k) (λ x. var (callOf x)) t ∙ ap (λ (g : ℕ → List ℕ). flat g (λ k. k) t) (fun-ext (λ x. ap (λ y. y ∷ []) (div-add-mod x 8192)))
+spelt-calls : (t : Term ℕ) → spelt (mapT callOf t) ≡ preorder (λ x. x ∷ []) (λ k. k) t
+unfolding mapT preorder
+spelt-calls t = preorder-bind (λ e. callLetter e ∷ []) (λ k. k) (λ x. var (callOf x)) t ∙ ap (λ (g : ℕ → List ℕ). preorder g (λ k. k) t) (fun-ext (λ x. ap (λ y. y ∷ []) (div-add-mod x 65536)))
 
 -- the pattern that stands for the call (i, q), with a call of state 64 q + m on child i at its ⊤ number m
 abbrev pub openNumbers : (ℕ → Pattern) → ℕ × ℕ → Term (ℕ × ℕ)
-openNumbers h e = mapT callOf (numbered (h (e .1)) (8192 * e .0 + 64 * e .1))
+openNumbers h e = mapT callOf (numbered (h (e .1)) (65536 * e .0 + 64 * e .1))
 
 -- t with such patterns for its calls
 unfoldable pub expandNumbers : (ℕ → Pattern) → Term (ℕ × ℕ) → Term (ℕ × ℕ)
@@ -100,10 +103,10 @@ pair h c = (c / 64, place (h (c / 64)) (c % 64))
 
 -- the parts of such a number
 module _ (i q m : ℕ) (state : q < 128) (inside : m < 64) where
-  number-call : callOf (8192 * i + 64 * q + m) ≡ (i, 64 * q + m)
+  number-call : callOf (65536 * i + 64 * q + m) ≡ (i, 64 * q + m)
   number-call =
-      let a : (8192 * i + 64 * q + m) / 8192 ≡ i = omega arith in
-      let b : (8192 * i + 64 * q + m) % 8192 ≡ 64 * q + m = omega arith in
+      let a : (65536 * i + 64 * q + m) / 65536 ≡ i = omega arith in
+      let b : (65536 * i + 64 * q + m) % 65536 ≡ 64 * q + m = omega arith in
       ap₂ (λ x y. (x, y)) a b
 
   number-state : ((64 * q + m) / 64 ≡ q) × ((64 * q + m) % 64 ≡ m)
@@ -119,7 +122,7 @@ module _ (h : ℕ → Pattern) (n r : ℕ) (few : n ≤ 128) (small : (q : ℕ) 
   unfolding renamed opened mapT
   opened-pair e c =
       let p = h (e .1) in
-      let b = 8192 * e .0 + 64 * e .1 in
+      let b = 65536 * e .0 + 64 * e .1 in
       let s = small (e .1) (c .state) in
       bind-map callOf (numbered p b) (λ d. var (d .0, pair h (d .1)))
       ∙ label-number (λ x. (callOf x .0, pair h (callOf x .1))) p b (λ v. (e .0, (e .1, v))) (λ m l.
@@ -135,12 +138,6 @@ module _ (h : ℕ → Pattern) (n r : ℕ) (few : n ≤ 128) (small : (q : ℕ) 
 -- there are at most 8,192 states
 pub state-small : {heads sizes : List ℕ} {c : ℕ} → State heads sizes c → length sizes ≤ 128 → c < 8192
 state-small S few = omega (arith, S .state)
-
--- a call (i, c) of a state of the earliest form on one of r children
-pub record StateCall (heads sizes : List ℕ) (r : ℕ) (e : ℕ × ℕ) : Type 0 where
-  pub from-one : 1 ≤ e .0
-  pub child : e .0 ≤ r
-  pub state : State heads sizes (e .1)
 
 module _ {outs heads sizes : List ℕ} (T : Heads outs heads sizes) (q : ℕ) (state : q < length sizes) where
   pub head-ranked : RankedPattern outs (headOf outs heads sizes q)
@@ -176,23 +173,23 @@ symbol-letter : (outs : List ℕ) (k : ℕ) → k < length outs → letterOf out
 unfolding letterOf
 symbol-letter outs k h = simp (lt-ltb k (length outs) h)
 
-call-letter : (outs : List ℕ) → length outs ≤ 64 → (e : ℕ × ℕ) → 1 ≤ e .0 → e .1 < 8192 → letterOf outs (callLetter e) ≡ call e
+call-letter : (outs : List ℕ) → length outs ≤ 64 → (e : ℕ × ℕ) → 1 ≤ e .0 → e .1 < 65536 → letterOf outs (callLetter e) ≡ call e
 unfolding letterOf
 call-letter outs few e h g =
-    let a : callLetter e / 8192 ≡ e .0 = omega arith in
-    let b : callLetter e % 8192 ≡ e .1 = omega arith in
-    simp (le-ltb (callLetter e) (length outs) (omega arith), le-leb 8192 (callLetter e) (omega arith)) (ap₂ (λ x y. call (x, y)) a b)
+    let a : callLetter e / 65536 ≡ e .0 = omega arith in
+    let b : callLetter e % 65536 ≡ e .1 = omega arith in
+    simp (le-ltb (callLetter e) (length outs) (omega arith), le-leb 65536 (callLetter e) (omega arith)) (ap₂ (λ x y. call (x, y)) a b)
 
 -- a ranked term is over the letters
 module _ (outs heads sizes : List ℕ) (few : length outs ≤ 64) (few-states : length sizes ≤ 128) (r : ℕ) where
   mutual
     unfolding Over Ranked
 
-    over-letters : (t : Term (ℕ × ℕ)) → Ranked (StateCall heads sizes r) outs t → Over (letterOf outs) callLetter (λ k. k) t
-    over-letters (var e) c = call-letter outs few e (c .from-one) (state-small (c .state) few-states)
+    over-letters : (t : Term (ℕ × ℕ)) → Ranked (ValidCall (State heads sizes) r) outs t → Over (letterOf outs) callLetter (λ k. k) t
+    over-letters (var e) c = call-letter outs few e (c .from-one) (omega (arith, state-small (c .state) few-states))
     over-letters (node k ts) c = (symbol-letter outs k (c .0) ∙ ap (symbol k) (sym (c .1)), all-over-letters ts (c .2))
 
-    all-over-letters : (ts : Terms (ℕ × ℕ)) → AllRanked (StateCall heads sizes r) outs ts → AllOver (letterOf outs) callLetter (λ k. k) ts
+    all-over-letters : (ts : Terms (ℕ × ℕ)) → AllRanked (ValidCall (State heads sizes) r) outs ts → AllOver (letterOf outs) callLetter (λ k. k) ts
     all-over-letters none c = tt
     all-over-letters (more t ts) c = (over-letters t (c .0), all-over-letters ts (c .1))
 
@@ -200,27 +197,27 @@ module _ (outs heads sizes : List ℕ) (few : length outs ≤ 64) (few-states : 
 pub record ExpandedRead (outs heads sizes bytes : List ℕ) (from to r : ℕ) : Type 0 where
   pub whole : Whole (letterOf outs) (expanded heads sizes bytes from to)
   pub read : first (forest (letterOf outs) (expanded heads sizes bytes from to)) ≡ expandNumbers (headOf outs heads sizes) (bodyTerm outs sizes r bytes from to)
-  pub ranked : Ranked (StateCall heads sizes r) outs (first (forest (letterOf outs) (expanded heads sizes bytes from to)))
+  pub ranked : Ranked (ValidCall (State heads sizes) r) outs (first (forest (letterOf outs) (expanded heads sizes bytes from to)))
   pub pairs : renamed (pair (headOf outs heads sizes)) (first (forest (letterOf outs) (expanded heads sizes bytes from to))) ≡ expand (headOf outs heads sizes) (bodyTerm outs sizes r bytes from to)
 
 module _ {outs heads sizes : List ℕ} (T : Heads outs heads sizes) (few : length outs ≤ 64) (few-states : length sizes ≤ 128)
     (bytes : List ℕ) (from to r : ℕ) (W : Whole (markOf outs (length sizes) r) (part bytes from to)) where
   -- the calls that stand for a call
-  opened-ranked : (e : ℕ × ℕ) → Call (length sizes) r e → Ranked (StateCall heads sizes r) outs (openNumbers (headOf outs heads sizes) e)
+  opened-ranked : (e : ℕ × ℕ) → Call (length sizes) r e → Ranked (ValidCall (State heads sizes) r) outs (openNumbers (headOf outs heads sizes) e)
   opened-ranked e c =
       let p = headOf outs heads sizes (e .1) in
       let l = head-letters T (e .1) (c .state) in
       let s = T .small (e .1) (c .state) in
-      ranked-number outs (StateCall heads sizes r) callOf p (8192 * e .0 + 64 * e .1) (head-ranked T (e .1) (c .state)) (λ m h g.
+      ranked-number outs (ValidCall (State heads sizes) r) callOf p (65536 * e .0 + 64 * e .1) (head-ranked T (e .1) (c .state)) (λ m h g.
       rw (number-call (e .0) (e .1) m (omega (arith, c .state)) (omega arith)) (record {
         from-one = c .from-one;
         child = c .child;
         state = head-state T (e .1) (c .state) (omega (arith, c .state)) m h g;
       }))
 
-  expand-ranked : Ranked (StateCall heads sizes r) outs (expandNumbers (headOf outs heads sizes) (bodyTerm outs sizes r bytes from to))
+  expand-ranked : Ranked (ValidCall (State heads sizes) r) outs (expandNumbers (headOf outs heads sizes) (bodyTerm outs sizes r bytes from to))
   unfolding expandNumbers
-  expand-ranked = ranked-bind (Call (length sizes) r) outs (StateCall heads sizes r) (openNumbers (headOf outs heads sizes)) opened-ranked (bodyTerm outs sizes r bytes from to) (whole-ranked outs (length sizes) r (part bytes from to) W .0)
+  expand-ranked = ranked-bind (Call (length sizes) r) outs (ValidCall (State heads sizes) r) (openNumbers (headOf outs heads sizes)) opened-ranked (bodyTerm outs sizes r bytes from to) (whole-ranked outs (length sizes) r (part bytes from to) W .0)
 
   -- the letters are those of the expanded term
   expanded-spelt : expanded heads sizes bytes from to ≡ spelt (expandNumbers (headOf outs heads sizes) (bodyTerm outs sizes r bytes from to))
@@ -228,10 +225,10 @@ module _ {outs heads sizes : List ℕ} (T : Heads outs heads sizes) (few : lengt
   expanded-spelt =
       let h = headOf outs heads sizes in
       let R = body-read outs (length sizes) r (part bytes from to) W in
-      spell-same (λ i q. labeled (8192 * i + 64 * q) (headAt heads sizes q)) (λ i q. spelt (openNumbers h (i, q))) (length sizes) r (part bytes from to) (R .callable)
-      (λ i q p l s. ap (labeled (8192 * i + 64 * q)) (sym (head-code T q s)) ∙ labeled-number outs few (h q) (8192 * i + 64 * q) (head-ranked T q s) ∙ sym (spelt-calls (numbered (h q) (8192 * i + 64 * q))))
+      spell-same (λ i q. labeled (65536 * i + 64 * q) (headAt heads sizes q)) (λ i q. spelt (openNumbers h (i, q))) (length sizes) r (part bytes from to) (R .callable)
+      (λ i q p l s. ap (labeled (65536 * i + 64 * q)) (sym (head-code T q s)) ∙ labeled-number outs few (h q) (65536 * i + 64 * q) (head-ranked T q s) ∙ sym (spelt-calls (numbered (h q) (65536 * i + 64 * q))))
       ∙ sym (R .spelled (λ e. spelt (openNumbers h e)))
-      ∙ sym (flat-bind (λ e. callLetter e ∷ []) (λ k. k) (openNumbers h) (bodyTerm outs sizes r bytes from to))
+      ∙ sym (preorder-bind (λ e. callLetter e ∷ []) (λ k. k) (openNumbers h) (bodyTerm outs sizes r bytes from to))
 
   pub expanded-read : ExpandedRead outs heads sizes bytes from to r
   expanded-read =

@@ -6,7 +6,7 @@ use mathlib.Core.List.{List}
 use mathlib.Core.Path.{_≡_, refl, sym, ap, ap₂, _∙_}
 use lib.ListN.{length, getD, take, drop}
 use lib.Seq.{length-slice, length-take-le, take-at, take-take, sets-eq, length-sets}
-use Rattle.formats.specs.Inner.Decode.{forest, Whole}
+use Rattle.trees.specs.Inner.Decode.{forest, Whole}
 use Rattle.formats.specs.Inner.Judging.{Put}
 use Rattle.formats.specs.Inner.Layout.{pairs, markAt, markOf, body, bodyNumber}
 use Rattle.formats.specs.Inner.Marked.{part}
@@ -16,8 +16,9 @@ use Rattle.transducer.proofs.Meaning.{body-read}
 use Rattle.prefixes.specs.Inner.Heads.{Heads, headOf}
 use Rattle.prefixes.specs.Inner.Patterns.{topOf, headAt, Ended}
 use Rattle.prefixes.proofs.Grafts.{head-length, head-lent, lentArea, lentHead}
-use Rattle.earliest.specs.Inner.Discovering.{FindsRhs}
-use Rattle.earliest.specs.Inner.Letters.{earliest, expanded, expandedBody, letterOf, spelt, under, Expandable, Expanding, Locatable, LocatedAt, State}
+use Rattle.discovery.specs.Inner.Discovering.{FindsRhs}
+use Rattle.earliest.specs.Inner.Letters.{earliest, expanded, expandedBody, letterOf, under, Expandable, Expanding, Locatable, LocatedAt, State}
+use Rattle.discovery.specs.Inner.Letters.{spelt}
 use Rattle.earliest.proofs.Expanded.{expanded-short}
 use Rattle.earliest.proofs.Locating.{located-slice}
 use Rattle.earliest.proofs.Numbers.{expanded-whole}
@@ -64,7 +65,7 @@ module _ {ins outs starts bytes heads sizes : List ℕ} (X : Expanding ins outs 
       let L = X .layout in
       let j = bodyNumber ins (c / 64) a in
       let less = number-less ins (c / 64) (length sizes) a (S .state) there in
-      can-expand (X .table) (L .few-states) (omega (arith, L .laid .ordered j less)) (omega (arith, L .laid .inside (j + 1) (omega arith))) (omega (arith, L .few j less)) {r = getD ins a 0} (rw (f, t) (L .wholes .rhs (c / 64) a (S .state) there)) (X .ranks a there) room
+      can-expand (X .table) (L .few-states) (omega (arith, L .bounds .ordered j less)) (omega (arith, L .bounds .inside (j + 1) (omega arith))) (omega (arith, L .few j less)) {r = getD ins a 0} (rw (f, t) (L .wholes .rhs (c / 64) a (S .state) there)) (X .ranks a there) room
 
   module _ {len : ℕ} {letters′ : List ℕ} (P : Put (expanded heads sizes bytes from to) letters letters′ len) {size : ℕ} (right : size ≡ getD sizes (c / 64) 0) where
     -- the parts that are lent: of the table, and of the letters
@@ -92,7 +93,7 @@ module _ {ins outs starts bytes heads sizes : List ℕ} (X : Expanding ins outs 
     }
 
     -- and what stands under its ⊤ is the right-hand side
-    pub finds-rhs : {at stop : ℕ} → LocatedAt outs (lentHead heads (c / 64) size) (lentArea len letters′) (c % 64) at → Ended (letterOf outs) (lentArea len letters′) at stop → FindsRhs ins outs starts bytes heads sizes c a letters′ at stop
+    pub finds-rhs : {at stop : ℕ} → LocatedAt outs (lentHead heads (c / 64) size) (lentArea len letters′) (c % 64) at → Ended (letterOf outs) (lentArea len letters′) at stop → FindsRhs (earliest ins outs starts bytes heads sizes) c a letters′ at stop
     unfolding earliest
     finds-rhs {at} {stop} K E =
         let z : len - 0 ≡ len = omega arith in

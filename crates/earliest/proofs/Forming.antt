@@ -5,7 +5,7 @@ use native.Mathlib.Omega.{arith}
 use mathlib.Core.List.{List}
 use mathlib.Core.Logic.{inl, inr}
 use mathlib.Core.Path.{_≡_, refl, ap, _∙_}
-use lib.ListN.{length, getD, take, replicate, length-append, length-replicate}
+use lib.ListN.{length, take, replicate, length-append, length-replicate}
 use lib.Seq.{length-take-le, take-at}
 use borrow.Rule.Slice.PartMut.{putMid, postOf}
 use Rattle.theory.specs.NormalForm.{Identical}
@@ -14,35 +14,36 @@ use Rattle.theory.specs.Transducer.{Transducer}
 use Rattle.theory.specs.Trimmed.{Trimmed}
 use Rattle.theory.specs.Wf.{Wf}
 use Rattle.theory.proofs.Identity.{identical-sym, identical-wf}
-use Rattle.theory.proofs.Terms.{conflict}
 use Rattle.theory.proofs.Trimming.{trimmed-by, trimmed-follows-stage, trimmed-follows-states, trimmed-form, trimmed-same}
-use Rattle.formats.specs.Alphabets.{Leaf, Alphabets, inputs, outputs}
+use Rattle.trees.specs.Alphabets.{Leaf, inputs, outputs}
 use Rattle.formats.specs.Inner.Layout.{bodyCount, Starts}
-use Rattle.formats.specs.Refusal.{done, check, judged, Holds, Judged}
+use Rattle.trees.specs.Refusal.{done, check, judged, Holds, Judged}
 use Rattle.formats.specs.Sheet.{longest, Encodes}
-use Rattle.formats.specs.declared.refusal.Refusal.the-variants.{OverLimits}
-use Rattle.formats.proofs.Judging.{refuse, pass, accept}
+use Rattle.trees.proofs.Judging.{refuse, pass, accept}
 use Rattle.formats.proofs.Sheets.{sheet-unique}
 use Rattle.transducer.specs.Inner.Machine.{Machine}
 use Rattle.transducer.proofs.Opening.{Opened, opened-sheet}
 use Rattle.transducer.proofs.Translating.{starts-fit}
-use Rattle.prefixes.specs.Alphabet.{alphabet}
-use Rattle.prefixes.specs.Inner.Heads.{headOf, machine, Layout, Prefixable, Prefixes}
-use Rattle.prefixes.proofs.Settling.{machine-wf}
-use Rattle.earliest.specs.Answers.{formOf, formCheck, EarliestFile, FileOf, MakesForm, MakesEarliest}
-use Rattle.earliest.specs.Inner.Forms.{WritesForm, FoundWritable, WritesFound}
-use Rattle.earliest.specs.Inner.Discovering.{DiscoversForm, Formable, FormOfTable}
-use Rattle.earliest.specs.Inner.Bodies.{AllFollow}
+use Rattle.forms.specs.Alphabet.{alphabet}
+use Rattle.prefixes.specs.Inner.Heads.{headOf, Prefixable, Prefixes}
+use Rattle.forms.specs.Inner.Tables.{machine, Layout}
+use Rattle.forms.proofs.Files.{machine-wf}
+use Rattle.forms.specs.Answers.{formOf, FileOf}
+use Rattle.discovery.specs.Inner.Discovering.{Discovers}
+use Rattle.discovery.proofs.Stages.{numbers-wf}
+use Rattle.earliest.specs.Answers.{formCheck, EarliestFile, MakesForm, MakesEarliest}
+use Rattle.forms.specs.Inner.Writing.{WritesForm, WritesFound}
+use Rattle.earliest.specs.Inner.Discovering.{Formable, FormOfTable}
+use Rattle.discovery.specs.Inner.Bodies.{AllFollow}
 use Rattle.earliest.specs.Inner.Letters.{earliest, Expanding}
 use Rattle.earliest.specs.Inner.Loaded.{EarliestOf, FormOfParts, FormsFile}
-use Rattle.earliest.specs.Inner.Packed.{Packed}
-use Rattle.earliest.specs.declared.queue.FormSize.{FormSize}
-use Rattle.earliest.specs.declared.queue.FormSize.the-variants.{States, Over}
-use Rattle.earliest.specs.declared.earliest.Formed.{Formed}
-use Rattle.earliest.specs.declared.earliest.Formed.the-variants.{Form, Refused}
+use Rattle.forms.specs.declared.write.FormSize.{FormSize}
+use Rattle.forms.specs.declared.write.FormSize.the-variants.{States, Over}
+use Rattle.forms.specs.declared.write.Formed.{Formed}
+use Rattle.forms.specs.declared.write.Formed.the-variants.{Form, Refused}
 use Rattle.earliest.proofs.Expanding.{pair}
-use Rattle.earliest.proofs.Loading.{encoded-layout, encoded-same}
-use Rattle.earliest.proofs.Numbers.{prefixed-by, pair-injective, earliest-numbers-wf, earliest-maps, pair-sort}
+use Rattle.forms.proofs.Loading.{encoded-layout, encoded-same}
+use Rattle.earliest.proofs.Numbers.{prefixed-by, pair-injective, by-numbers, earliest-maps, pair-sort}
 
 -- ---- by the common prefixes
 module _ {ins outs starts bytes heads sizes : List ℕ} (X : Expanding ins outs starts bytes heads sizes)
@@ -53,19 +54,19 @@ module _ {ins outs starts bytes heads sizes : List ℕ} (X : Expanding ins outs 
       let h = headOf outs heads sizes in
       let W = machine-wf l (X .layout .wholes) in
       record {
-        states = λ p L s g. trimmed-follows-states W h (H l) (earliest-numbers-wf X l) (pair h) (earliest-maps X l) (λ c v. pair-sort X c) (λ c d v w e. pair-injective (X .table) (X .layout .few-symbols) v w e) s g T;
-        stage = λ p c a L L′ s e r g. trimmed-follows-stage W h (H l) (earliest-numbers-wf X l) (pair h) (earliest-maps X l) (λ c v. pair-sort X c) (λ c d v w e. pair-injective (X .table) (X .layout .few-symbols) v w e) s e r g T;
+        states = λ p L s g. trimmed-follows-states W h (H l) (numbers-wf (by-numbers X) l) (pair h) (earliest-maps X l) (λ c v. pair-sort X c) (λ c d v w e. pair-injective (X .table) (X .layout .few-symbols) v w e) s g T;
+        stage = λ p c a L L′ s e r g. trimmed-follows-stage W h (H l) (numbers-wf (by-numbers X) l) (pair h) (earliest-maps X l) (λ c v. pair-sort X c) (λ c d v w e. pair-injective (X .table) (X .layout .few-symbols) v w e) s e r g T;
       }
 
   -- and what it finds is the trimmed form
-  makes-form : {starts′ out : List ℕ} {r : FormSize} → DiscoversForm ins outs starts bytes heads sizes starts′ out r → FormOfTable ins outs starts bytes (length sizes) starts′ out r
+  makes-form : {starts′ out : List ℕ} {r : FormSize} → Discovers ins outs (earliest ins outs starts bytes heads sizes) starts′ out r → FormOfTable ins outs starts bytes (length sizes) starts′ out r
   makes-form G = record {
     over = λ e l N k counts marks T E. G .over e l N k counts marks (all-follow l T) E;
     layout = G .layout;
     packed = G .packed;
     trimmed = λ k e l.
         let m = G .met k e in
-        trimmed-by (machine-wf l (X .layout .wholes)) (headOf outs heads sizes) (H l) (earliest-numbers-wf X l) (pair (headOf outs heads sizes)) (earliest-maps X l) (λ c v. pair-sort X c) (λ c d v w e. pair-injective (X .table) (X .layout .few-symbols) v w e) (m .met l) (m .indexes) (m .form l);
+        trimmed-by (machine-wf l (X .layout .wholes)) (headOf outs heads sizes) (H l) (numbers-wf (by-numbers X) l) (pair (headOf outs heads sizes)) (earliest-maps X l) (λ c v. pair-sort X c) (λ c d v w e. pair-injective (X .table) (X .layout .few-symbols) v w e) (m .met l) (m .indexes) (m .form l);
   }
 
 -- the array of the sizes as it starts
@@ -103,7 +104,7 @@ module _ {ins outs starts bytes : List ℕ} {n : ℕ} (F : Formable ins outs sta
     can-discover = rw lent-again here-expand
 
     -- the contract of `form_of_table`
-    pub form-by-table : {starts′ out : List ℕ} {r : FormSize} → DiscoversForm ins outs starts bytes heads′ (take (n - 0) (putMid 0 (n - 0) noSizes sizes′)) starts′ out r → FormOfTable ins outs starts bytes n starts′ out r
+    pub form-by-table : {starts′ out : List ℕ} {r : FormSize} → Discovers ins outs (earliest ins outs starts bytes heads′ (take (n - 0) (putMid 0 (n - 0) noSizes sizes′))) starts′ out r → FormOfTable ins outs starts bytes n starts′ out r
     form-by-table G = rw (P .same ∙ sizes-long) at (makes-form here-expand here-prefs (rw lent-again at G))
 
 -- ---- of the parts of a file
@@ -141,19 +142,7 @@ module _ {stock counts bytes : List ℕ} {n : ℕ} (X : Machine stock n counts b
   form-by G = form-parts (rw (i, o) at G)
 
 -- ---- the file of the form that was found
-module _ {stock starts bytes area : List ℕ} {found : FormSize} where
-  -- it stands in the table, and there is room
-  pub found-writable : Alphabets stock → ((k : ℕ) → found ≡ States k → Layout (inputs stock) (outputs stock) starts bytes k) → ((k : ℕ) → found ≡ States k → Packed (inputs stock) starts k) → longest ≤ length area → FoundWritable stock found starts bytes area
-  found-writable A L P h = record { each = λ k e. record { alphabets = A; layout = L k e; packed = P k e; room = h } }
-
-  -- the contract of `write_found`: it is over the limits, or it is written
-  pub writes-over : found ≡ Over → WritesFound stock found starts bytes area area (Refused OverLimits)
-  writes-over e = record { over = λ z. (refl, refl); form = λ k z. conflict (cc) }
-
-  pub writes-form : {k : ℕ} → found ≡ States k → {ins after : List ℕ} {m size : ℕ} → ins ≡ inputs stock → m ≡ getD starts (bodyCount ins k) 0 → WritesForm stock starts bytes k area after size → WritesFound stock found starts bytes area after (Form k m size)
-  writes-form {k} e i t W = record { over = λ z. conflict (cc); form = λ k′ z. let h : k ≡ k′ = cc in rw (← h) (record { marks = _; size = _; answer = refl; many = rw i at t; written = W }) }
-
--- so a form with a property is answered, where no form is over the limits but one whose earliest form is
+-- a form with a property is answered, where no form is over the limits but one whose earliest form is
 module _ (Good : ℕ → List ℕ → List ℕ → Type 0) {stock counts bytes starts out before after : List ℕ} {n : ℕ} where
   pub found-file : (found : FormSize) {r : Formed} → WritesFound stock found starts out before after r
       → (found ≡ Over → (k : ℕ) (counts′ bytes′ : List ℕ) → EarliestOf stock n counts bytes k counts′ bytes′ → ⊥)

@@ -13,15 +13,17 @@ use Rattle.theory.specs.Lcp.{Patterns}
 use Rattle.theory.specs.Prefix.{Prefixes, keeps, no-more, also}
 use Rattle.theory.specs.Term.{var, node, Terms, none, more, count}
 use Rattle.theory.proofs.Terms.{conflict}
-use Rattle.formats.specs.Code.{flat}
-use Rattle.formats.specs.Inner.Decode.{lettersAll, Letter, call, symbol, unknown, firsts, rests, grown, put, forest, first, Whole, joined}
-use Rattle.formats.proofs.Codes.{Faithful, words, single}
-use Rattle.formats.proofs.Forest.{joined-split, all-tail, all-drop}
+use Rattle.trees.specs.Code.{preorder}
+use Rattle.theory.specs.Inner.Forests.{lettersAll, joined}
+use Rattle.trees.specs.Inner.Decode.{Letter, call, symbol, unknown, firsts, rests, nodeIf, put, forest, first, Whole}
+use Rattle.trees.proofs.Codes.{Faithful, words, single}
+use Rattle.trees.proofs.Forest.{joined-split, all-tail, all-drop}
 use Rattle.prefixes.specs.Inner.Patterns.{topOf, readPattern, Ended}
 use Rattle.prefixes.proofs.Ends.{taken, letter-inside, letter-put, Ranks}
-use Rattle.prefixes.proofs.Grafts.{slice-from}
-use Rattle.prefixes.proofs.Patterns.{patternsAt, Byte, named, free, byte-at, all-there, flats-split}
-use Rattle.earliest.specs.Inner.Letters.{letterIf, letterOf, callLetter, spelt, firstUnder, under, Locatable, LocatedAt}
+use Rattle.forms.proofs.Slices.{slice-from}
+use Rattle.prefixes.proofs.Patterns.{patternsAt, Byte, named, free, byte-at, all-there, preorders-split}
+use Rattle.earliest.specs.Inner.Letters.{letterIf, letterOf, firstUnder, under, Locatable, LocatedAt}
+use Rattle.discovery.specs.Inner.Letters.{callLetter, spelt}
 
 -- the trees that stand from position p on
 abbrev pub treesAt : List ℕ → List ℕ → ℕ → Terms (ℕ × ℕ)
@@ -31,7 +33,7 @@ treesAt outs s p = forest (letterOf outs) (drop p s)
 -- a symbol takes as many trees as its rank says, and a call none
 pub letter-ranks : (outs : List ℕ) → Ranks (letterOf outs) outs
 unfolding letterOf
-letter-ranks outs = record { named = λ x h. simp (lt-ltb x (length outs) h); free = λ x h. simp (le-ltb x (length outs) h) (other x (leb 8192 x)) }
+letter-ranks outs = record { named = λ x h. simp (lt-ltb x (length outs) h); free = λ x h. simp (le-ltb x (length outs) h) (other x (leb 65536 x)) }
   where
     other : (x : ℕ) (b : Bool) → taken (letterIf false b outs x) ≡ 0
     other x true = refl
@@ -44,7 +46,7 @@ unfolding put
 opened (call a) G e = conflict (cc)
 opened (symbol j n) G {k} {ds} {vs} e = by-rank (leb n (count G)) e
   where
-    by-rank : (b : Bool) → grown b j n G ≡ more (node k ds) vs → G ≡ joined ds vs
+    by-rank : (b : Bool) → nodeIf b j n G ≡ more (node k ds) vs → G ≡ joined ds vs
     by-rank true e = let f : firsts n G ≡ ds = cc in let g : rests n G ≡ vs = cc in sym (joined-split n G) ∙ ap₂ joined f g
     by-rank false e = conflict (cc)
 opened unknown G e = conflict (cc)
@@ -149,11 +151,11 @@ module _ {outs head s : List ℕ} {m : ℕ} (L : Locatable outs head s m) where
 -- a call and a symbol are each written in one way
 pub faithful-letter : (outs : List ℕ) → Faithful (letterOf outs) callLetter (λ k. k)
 unfolding letterOf
-faithful-letter outs = record { calls = λ x a e. of-call x a (ltb x (length outs)) (leb 8192 x) e; symbols = λ x k n e. of-symbol x k n (ltb x (length outs)) (leb 8192 x) e }
+faithful-letter outs = record { calls = λ x a e. of-call x a (ltb x (length outs)) (leb 65536 x) e; symbols = λ x k n e. of-symbol x k n (ltb x (length outs)) (leb 65536 x) e }
   where
     of-call : (x : ℕ) (a : ℕ × ℕ) (b c : Bool) → letterIf b c outs x ≡ call a → callLetter a ≡ x
     of-call x a true c e = conflict (cc)
-    of-call x a false true e = let f : a ≡ (x / 8192, x % 8192) = cc in ap callLetter f ∙ omega arith
+    of-call x a false true e = let f : a ≡ (x / 65536, x % 65536) = cc in ap callLetter f ∙ omega arith
     of-call x a false false e = conflict (cc)
 
     of-symbol : (x k n : ℕ) (b c : Bool) → letterIf b c outs x ≡ symbol k n → k ≡ x
@@ -164,17 +166,17 @@ faithful-letter outs = record { calls = λ x a e. of-call x a (ltb x (length out
 -- where all letters are read, the trees have just these letters
 module _ {A : Type 0} (f : ℕ → Letter A) (c : A → ℕ) (faithful : Faithful f c (λ k. k)) where
   put-words : (x : ℕ) (l : Letter A) (G : Terms A) → f x ≡ l → 0 < lettersAll (put l G) → words c (λ k. k) (put l G) ≡ x ∷ words c (λ k. k) G
-  unfolding put flat lettersAll
+  unfolding put preorder lettersAll
   put-words x (call a) G e h = ap (λ y. y ∷ words c (λ k. k) G) (faithful .calls x a e)
   put-words x (symbol k n) G e h = by-rank (leb n (count G)) h
     where
-      by-rank : (b : Bool) → 0 < lettersAll (grown b k n G) → words c (λ k. k) (grown b k n G) ≡ x ∷ words c (λ k. k) G
-      by-rank true h = ap₂ _∷_ (faithful .symbols x k n e) (flats-split (λ a. c a ∷ []) (λ k. k) n G)
+      by-rank : (b : Bool) → 0 < lettersAll (nodeIf b k n G) → words c (λ k. k) (nodeIf b k n G) ≡ x ∷ words c (λ k. k) G
+      by-rank true h = ap₂ _∷_ (faithful .symbols x k n e) (preorders-split (λ a. c a ∷ []) (λ k. k) n G)
       by-rank false h = absurd (omega arith)
   put-words x unknown G e h = absurd (omega arith)
 
   all-words : (s : List ℕ) → lettersAll (forest f s) ≡ length s → words c (λ k. k) (forest f s) ≡ s
-  unfolding forest flat
+  unfolding forest preorder
   all-words [] h = refl
   all-words (x ∷ s) h = put-words x (f x) (forest f s) refl (omega arith) ∙ ap (_∷_ x) (all-words s (all-tail f x s h))
 
@@ -184,7 +186,7 @@ trees-spelt outs s p W = all-words (letterOf outs) callLetter (faithful-letter o
 
 -- a word that is one tree has the letters of that tree
 pub whole-spelt : (outs s : List ℕ) → Whole (letterOf outs) s → spelt (first (forest (letterOf outs) s)) ≡ s
-unfolding flat
+unfolding preorder
 whole-spelt outs s W = sym (append-nil _) ∙ sym (ap (words callLetter (λ k. k)) (single (forest (letterOf outs) s) (W .one))) ∙ trees-spelt outs s 0 W
 
 -- the trees that begin at p: the first, and those behind it
@@ -195,7 +197,7 @@ first-rests (more t ts) h = refl
 
 -- the letters from the place that was located up to the end of the tree there
 pub located-slice : {outs head s : List ℕ} {m p e : ℕ} → LocatedAt outs head s m p → Ended (letterOf outs) s p e → Whole (letterOf outs) s → slice p e s ≡ spelt (under m (forest (topOf outs) head) (forest (letterOf outs) s))
-unfolding flat
+unfolding preorder
 located-slice {outs} {head} {s} {m} {p} {e} K E W =
     let t = first (treesAt outs s p) in
     let d : drop p s ≡ spelt t ++ drop e s =

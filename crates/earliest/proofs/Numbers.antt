@@ -1,36 +1,37 @@
 -- The earliest form by its numbers: its right-hand sides are over the output alphabet, its states are those of the theory's earliest form, and so are its right-hand sides.
 -- Assumes nothing.
-use Prim.Native.Nat.{ℕ, suc, _+_, _*_, _/_, _%_, _≤_, _<_}
+use Prim.Native.Nat.{ℕ, _+_, _*_, _/_, _%_, _≤_, _<_}
 use native.Mathlib.Omega.{arith}
 use mathlib.Core.List.{List}
 use mathlib.Core.Option.{some, Option·getD}
 use mathlib.Core.Path.{_≡_, refl, sym, ap, ap₂, _∙_}
-use lib.ListN.{length, getD, replicate}
+use lib.ListN.{length, getD}
 use Rattle.theory.specs.EarliestForm.{expand, earliestForm}
 use Rattle.theory.specs.Pref.{Prefs}
 use Rattle.theory.specs.Prefix.{Prefix, Open}
 use Rattle.theory.specs.Term.{Term, var, node, none, mapT, sub}
 use Rattle.theory.specs.Transducer.{renamed}
-use Rattle.theory.specs.Wf.{nth, Wf}
 use Rattle.theory.proofs.Cut.{prefs-fixed}
 use Rattle.theory.proofs.Morphism.{Maps}
 use Rattle.theory.proofs.Prefixes.{prefix-map, prefix-trans}
 use Rattle.theory.proofs.Terms.{bind-var, sub-bind}
-use Rattle.theory.proofs.Vars.{all-map}
-use Rattle.formats.specs.Alphabets.{Leaf}
-use Rattle.formats.specs.Code.{Ranked}
-use Rattle.formats.specs.Inner.Decode.{letters, forest, first, Whole}
+use Rattle.trees.specs.Alphabets.{Leaf}
+use Rattle.trees.specs.Code.{Ranked}
+use Rattle.theory.specs.Inner.Forests.{letters}
+use Rattle.trees.specs.Inner.Decode.{forest, first, Whole}
 use Rattle.formats.specs.Inner.Layout.{body, bodyNumber, transducer}
-use Rattle.formats.proofs.Codes.{single}
-use Rattle.prefixes.specs.Alphabet.{alphabet, children-inside, children-of}
-use Rattle.prefixes.specs.Inner.Heads.{Heads, Layout, headOf, machine}
+use Rattle.trees.proofs.Codes.{single}
+use Rattle.forms.specs.Alphabet.{alphabet, children-inside, children-of}
+use Rattle.prefixes.specs.Inner.Heads.{Heads, headOf}
+use Rattle.forms.specs.Inner.Tables.{Layout, machine}
 use Rattle.prefixes.specs.Inner.Patterns.{top, topOf, patternCode, headAt, readPattern}
-use Rattle.prefixes.proofs.Settling.{machine-wf}
+use Rattle.forms.proofs.Files.{machine-wf}
+use Rattle.discovery.specs.Inner.Discovering.{ValidCall, ByNumbers}
 use Rattle.earliest.specs.Inner.Letters.{letterOf, expandedBody, under, earliest, State, Expanding}
-use Rattle.earliest.proofs.Ranks.{ranked-all, ranked-sub}
+use Rattle.discovery.proofs.Ranks.{ranked-sub}
 use Rattle.earliest.specs.Inner.Places.{place}
 use Rattle.earliest.proofs.Places.{under-place, place-open, place-same}
-use Rattle.earliest.proofs.Expanding.{pair, StateCall, ExpandedRead, expanded-read, head-ranked, head-letters, head-byte}
+use Rattle.earliest.proofs.Expanding.{state-small, pair, ExpandedRead, expanded-read, head-ranked, head-letters, head-byte}
 
 -- the term that is read from expanded body j
 abbrev pub expandedTerm : List ℕ → List ℕ → List ℕ → List ℕ → List ℕ → ℕ → Term (ℕ × ℕ)
@@ -61,7 +62,7 @@ module _ {ins outs starts bytes heads sizes : List ℕ} (T : Heads outs heads si
     unfolding transducer body
     expanded-pairs = read-rhs .pairs
 
-    pub expanded-ranked : Ranked (StateCall heads sizes (getD ins a 0)) outs (expandedTerm outs starts bytes heads sizes (bodyNumber ins q a))
+    pub expanded-ranked : Ranked (ValidCall (State heads sizes) (getD ins a 0)) outs (expandedTerm outs starts bytes heads sizes (bodyNumber ins q a))
     expanded-ranked = read-rhs .ranked
 
   pub expanded-whole-initial : Whole (letterOf outs) (expandedBody starts bytes heads sizes 0)
@@ -104,13 +105,6 @@ pair-injective {outs} {heads} {sizes} T few {c} {d} S R e =
     omega arith
 
 -- ---- the transducer
-nth-child : (r i : ℕ) → 1 ≤ i → i ≤ r → nth {A = ℕ} (replicate r 0) i ≡ some 0
-unfolding nth
-nth-child ℕ.zero i p h = absurd (omega arith)
-nth-child (suc r) ℕ.zero p h = absurd (omega arith)
-nth-child (suc r) (suc ℕ.zero) p h = refl
-nth-child (suc r) (suc (suc i)) p h = nth-child r (suc i) (omega arith) (omega arith)
-
 module _ {ins outs starts bytes heads sizes : List ℕ} (X : Expanding ins outs starts bytes heads sizes) where
   -- the right-hand side of c is the subtree at its address of the expanded right-hand side
   earliest-sub : {c : ℕ} (a : ℕ) → State heads sizes c → a < length ins → sub (expandedTerm outs starts bytes heads sizes (bodyNumber ins (c / 64) a)) (place (headOf outs heads sizes (c / 64)) (c % 64)) ≡ some (earliest ins outs starts bytes heads sizes .rhs c a)
@@ -121,22 +115,26 @@ module _ {ins outs starts bytes heads sizes : List ℕ} (X : Expanding ins outs 
       (sym (single (forest (letterOf outs) (expandedBody starts bytes heads sizes (bodyNumber ins (c / 64) a))) (expanded-whole (X .table) (X .layout) (c / 64) a (S .state) h .one))))
 
   -- the initial term and the right-hand sides are over the output alphabet, and call states
-  pub earliest-over-initial : Ranked (StateCall heads sizes 1) outs (earliest ins outs starts bytes heads sizes .initial)
+  pub earliest-over-initial : Ranked (ValidCall (State heads sizes) 1) outs (earliest ins outs starts bytes heads sizes .initial)
   unfolding earliest
   earliest-over-initial = read-initial (X .table) (X .layout) .ranked
 
-  pub earliest-over : {c : ℕ} (a : ℕ) → State heads sizes c → a < length ins → Ranked (StateCall heads sizes (getD ins a 0)) outs (earliest ins outs starts bytes heads sizes .rhs c a)
+  pub earliest-over : {c : ℕ} (a : ℕ) → State heads sizes c → a < length ins → Ranked (ValidCall (State heads sizes) (getD ins a 0)) outs (earliest ins outs starts bytes heads sizes .rhs c a)
   earliest-over {c} a S h =
-      ranked-sub (StateCall heads sizes (getD ins a 0)) outs (expandedTerm outs starts bytes heads sizes (bodyNumber ins (c / 64) a)) (place (headOf outs heads sizes (c / 64)) (c % 64)) (expanded-ranked (X .table) (X .layout) (c / 64) a (S .state) h) (earliest-sub a S h)
+      ranked-sub (ValidCall (State heads sizes) (getD ins a 0)) outs (expandedTerm outs starts bytes heads sizes (bodyNumber ins (c / 64) a)) (place (headOf outs heads sizes (c / 64)) (c % 64)) (expanded-ranked (X .table) (X .layout) (c / 64) a (S .state) h) (earliest-sub a S h)
 
-  pub earliest-numbers-wf : (l : Leaf ins) → Wf (alphabet ins l) (earliest ins outs starts bytes heads sizes) (State heads sizes)
-  unfolding alphabet earliest
-  earliest-numbers-wf l = record {
-    initial = all-map (λ e k. record { valid = k .state; sort = nth-child 1 (e .0) (k .from-one) (k .child) }) (ranked-all (StateCall heads sizes 1) outs _ earliest-over-initial);
-    rhs = λ c a S k.
-        let i = children-inside ins a k in
-        all-map (λ e m. record { valid = m .state; sort = ap (λ z. nth z (e .0)) (i .1) ∙ nth-child (getD ins a 0) (e .0) (m .from-one) (m .child) })
-        (ranked-all (StateCall heads sizes (getD ins a 0)) outs _ (earliest-over a S (i .0)));
+  -- its states are numbers below 8,192
+  pub by-numbers : ByNumbers ins outs 8192 (earliest ins outs starts bytes heads sizes) (State heads sizes)
+  unfolding earliest
+  by-numbers = record {
+    few-symbols = X .layout .few-symbols;
+    few-inputs = X .layout .few-inputs;
+    ranks = X .ranks;
+    narrow = omega arith;
+    small = λ c S. state-small S (X .layout .few-states);
+    sort = λ c. refl;
+    initial = earliest-over-initial;
+    rhs = λ c a. earliest-over a;
   }
 
   -- the pairs of its states map it into the theory's earliest form

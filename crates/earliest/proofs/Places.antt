@@ -17,9 +17,10 @@ use Rattle.theory.specs.Lcp.{Patterns}
 use Rattle.theory.specs.Prefix.{Pattern, Open, Prefix, any, keeps, Prefixes, no-more, also}
 use Rattle.theory.specs.Term.{Term, var, node, Terms, none, more, count, bind, binds, mapT, sub, subs}
 use Rattle.theory.proofs.Terms.{sub-here, sub-bind, count-binds}
-use Rattle.formats.specs.Code.{Ranked, AllRanked, flat, flats}
-use Rattle.formats.specs.Inner.Decode.{letters, lettersAll, unknown, joined}
-use Rattle.formats.proofs.Codes.{word-length}
+use Rattle.trees.specs.Code.{Ranked, AllRanked, preorder, preorders}
+use Rattle.theory.specs.Inner.Forests.{letters, lettersAll, joined}
+use Rattle.trees.specs.Inner.Decode.{unknown}
+use Rattle.trees.proofs.Codes.{word-length}
 use Rattle.prefixes.specs.Inner.Patterns.{top, patternCode}
 use Rattle.earliest.specs.Inner.Letters.{firstUnder, under}
 use Rattle.earliest.specs.Inner.Places.{behind, place, placeAmong}
@@ -112,7 +113,7 @@ count-numbered (more t ts) b = ap suc (count-numbered ts (b + letters t))
 
 module _ (outs : List ℕ) {A : Type 0} (P : A → Type 0) (f : ℕ → A) where
   mutual
-    unfolding Ranked numbered mapT bind flat letters
+    unfolding Ranked numbered mapT bind preorder letters
 
     -- what holds of the numbers of the ⊤ holds of the variables
     pub ranked-number : (p : Pattern) (b : ℕ) → RankedPattern outs p → ((m : ℕ) → m < letters p → getD (patternCode p) m 0 ≡ top → P (f (b + m))) → Ranked P outs (mapT f (numbered p b))
@@ -120,10 +121,10 @@ module _ (outs : List ℕ) {A : Type 0} (P : A → Type 0) (f : ℕ → A) where
     ranked-number (node k ps) b c e =
         (c .0, count-binds (numberedAll ps (suc b)) _ ∙ count-numbered ps (suc b) ∙ c .1, ranked-numbers ps (suc b) (c .2) (λ m h g. let z : suc b + m ≡ b + suc m = omega arith in rw z (e (suc m) (omega arith) g)))
 
-    ranked-numbers : (ps : Patterns) (b : ℕ) → AllRanked (λ u. Unit {0}) outs ps → ((m : ℕ) → m < lettersAll ps → getD (flats (λ u. top ∷ []) (λ k. k) ps) m 0 ≡ top → P (f (b + m))) → AllRanked P outs (binds (numberedAll ps b) (λ x. var (f x)))
+    ranked-numbers : (ps : Patterns) (b : ℕ) → AllRanked (λ u. Unit {0}) outs ps → ((m : ℕ) → m < lettersAll ps → getD (preorders (λ u. top ∷ []) (λ k. k) ps) m 0 ≡ top → P (f (b + m))) → AllRanked P outs (binds (numberedAll ps b) (λ x. var (f x)))
     ranked-numbers none b c e = tt
     ranked-numbers (more p ps) b c e =
-        let rest = flats (λ u. top ∷ []) (λ k. k) ps in
+        let rest = preorders (λ u. top ∷ []) (λ k. k) ps in
         let l = pattern-length p in (
           ranked-number p b (c .0) (λ m h g. e m (omega arith) (List·getD-append (patternCode p) rest 0 m (omega arith) ∙ g)),
           ranked-numbers ps (b + letters p) (c .1) (λ m h g.
@@ -145,7 +146,7 @@ mutual
 
 module _ (outs : List ℕ) (few : length outs ≤ 64) where
   mutual
-    unfolding Ranked numbered flat letters place sub
+    unfolding Ranked numbered preorder letters place sub
 
     -- and each stands at its address
     number-at : (p : Pattern) (b m : ℕ) → RankedPattern outs p → m < letters p → getD (patternCode p) m 0 ≡ top → sub (numbered p b) (place p m) ≡ some (var (b + m))
@@ -154,10 +155,10 @@ module _ (outs : List ℕ) (few : length outs ≤ 64) where
     number-at (node k ps) b ℕ.zero c h e = absurd (omega (arith, c .0))
     number-at (node k ps) b (suc m) c h e = numbers-at ps (suc b) m (c .2) (omega arith) e ∙ ap (λ n. some (var n)) (omega arith)
 
-    numbers-at : (ps : Patterns) (b m : ℕ) → AllRanked (λ u. Unit {0}) outs ps → m < lettersAll ps → getD (flats (λ u. top ∷ []) (λ k. k) ps) m 0 ≡ top → subs (numberedAll ps b) (suc (placeAmong ps m .0)) (placeAmong ps m .1) ≡ some (var (b + m))
+    numbers-at : (ps : Patterns) (b m : ℕ) → AllRanked (λ u. Unit {0}) outs ps → m < lettersAll ps → getD (preorders (λ u. top ∷ []) (λ k. k) ps) m 0 ≡ top → subs (numberedAll ps b) (suc (placeAmong ps m .0)) (placeAmong ps m .1) ≡ some (var (b + m))
     numbers-at none b m c h e = absurd (omega arith)
     numbers-at (more p ps) b m c h e =
-        let rest = flats (λ u. top ∷ []) (λ k. k) ps in
+        let rest = preorders (λ u. top ∷ []) (λ k. k) ps in
         let l = pattern-length p in
         let look : ℕ × List ℕ → Option (Term ℕ) = λ r. subs (more (numbered p b) (numberedAll ps (b + letters p))) (suc (r .0)) (r .1) in
         by-cases (decLt m (letters p))

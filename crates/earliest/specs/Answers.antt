@@ -1,17 +1,16 @@
 -- What making the earliest form answers.
-use Prim.Native.Nat.{ℕ, _*_, _≤_, _<_}
+use Prim.Native.Nat.{ℕ, _≤_, _<_}
 use mathlib.Core.List.{List}
 use mathlib.Core.Path.{_≡_}
 use lib.ListN.{length}
-use lib.Seq.{sets}
 use Rattle.theory.specs.Transducer.{Transducer}
 use Rattle.theory.specs.Trimmed.{Trimmed}
-use Rattle.formats.specs.Alphabets.{Alphabets, inputs, outputs, alphabetCheck}
-use Rattle.formats.specs.Refusal.{number, Outcome, accepted, refused, Checks, done, check, Judged}
-use Rattle.formats.specs.Sheet.{longest, file, Encodes, Sheet, sheetCheck}
-use Rattle.prefixes.specs.Alphabet.{alphabet}
-use Rattle.earliest.specs.declared.earliest.Formed.{Formed}
-use Rattle.earliest.specs.declared.earliest.Formed.the-variants as formed
+use Rattle.trees.specs.Alphabets.{Alphabets, inputs, outputs, alphabetCheck}
+use Rattle.trees.specs.Refusal.{Checks, done, check, Judged}
+use Rattle.formats.specs.Sheet.{longest, Encodes, Sheet, sheetCheck}
+use Rattle.forms.specs.Alphabet.{alphabet}
+use Rattle.forms.specs.declared.write.Formed.{Formed}
+use Rattle.forms.specs.Answers.{formOf, FileOf}
 
 -- k, the counts and the marks are those of the earliest form (01: trimmed sheet) of the transducer of the file s; so it is within the limits of a file
 pub record EarliestFile (stock s : List ℕ) (k : ℕ) (counts bytes : List ℕ) : Type 0 where
@@ -26,17 +25,6 @@ pub record EarliestFile (stock s : List ℕ) (k : ℕ) (counts bytes : List ℕ)
 -- refusal 7
 abbrev pub formCheck : List ℕ → List ℕ → Checks → Checks
 formCheck stock s rest = check 7 ((k : ℕ) × ((counts : List ℕ) × ((bytes : List ℕ) × EarliestFile stock s k counts bytes))) rest
-
--- a form: how many states and marks it has, and how long its file is
-abbrev pub formOf : Formed → Outcome (ℕ × ℕ × ℕ)
-formOf (formed.Form k m n) = accepted (k, m, n)
-formOf (formed.Refused r) = refused (number r)
-
--- v says how many states and marks a form has and how long its file is, and the area begins with the file; the rest of the area stays
-pub record FileOf (v : ℕ × ℕ × ℕ) (counts bytes before after : List ℕ) : Type 0 where
-  pub marks : 2 * v .1 ≡ length bytes
-  pub size : v .2 ≡ length (file (v .0) counts bytes)
-  pub wrote : after ≡ sets before 0 (file (v .0) counts bytes)
 
 -- ---- a form of the transducer of the file s, as a file: Form says which k, counts and marks are the form's; refusal 7 where the earliest form is over the limits of a file
 abbrev pub MakesForm : (ℕ → List ℕ → List ℕ → Type 0) → List ℕ → List ℕ → List ℕ → List ℕ → Formed → Type 0

@@ -2,24 +2,20 @@
 ghost use Prim.Native.Nat.{_+_, _≤_, _<_};
 ghost use mathlib.Core.Path.{_≡_};
 ghost use lib.ListN.{length};
-ghost use Rattle.earliest.specs.Inner.Letters.{Expanding, State};
-ghost use Rattle.formats.specs.Alphabets.{Leaf};
-ghost use Rattle.earliest.specs.Inner.Discovering.{FindsRhs, Discoverable, Empty, Found, AddsInitial, AddsState, AddsStates, DiscoversForm, Formable, FormOfTable};
+ghost use Rattle.earliest.specs.Inner.Letters.{earliest, Expanding, State};
+ghost use Rattle.trees.specs.Alphabets.{Leaf};
+ghost use Rattle.discovery.specs.Inner.Discovering.{FindsRhs, Empty, Found, Adds, AddsAll, Discovers};
+ghost use Rattle.earliest.specs.Inner.Discovering.{Discoverable, Formable, FormOfTable};
 use crate::expand::expand;
 use crate::expand::letter_end;
 use crate::expand::locate;
-use crate::queue::FormSize;
-use crate::queue::add_body;
-use formats::bytes::number;
-use formats::bytes::wide;
+use discovery::queue::add_body;
+use forms::write::FormSize;
 use prefixes::pattern::SLOT;
 use prefixes::prefix::prefixes;
-
-// A stretch of letters.
-pub struct Span {
-    pub from: usize,
-    pub to: usize,
-}
+use trees::bytes::Span;
+use trees::bytes::number;
+use trees::bytes::wide;
 
 // Writes the expanded right-hand side of state c / SLOT for symbol a, and says where in it that of state c of the earliest form stands.
 fn find_rhs(
@@ -31,10 +27,10 @@ fn find_rhs(
     sizes: &[u8],
     c: usize,
     a: usize,
-    letters: &mut [u16],
+    letters: &mut [u32],
 ) -> Span
     requires { ⌜ Expanding (now ins) (now outs) (now starts) (now marks) (now heads) (now sizes) × State (now heads) (now sizes) c × (a < length (now ins)) × (4096 ≤ length (now letters)) ⌝ }
-    ensures { λ r. ⌜ FindsRhs (now (ins .entry)) (now (outs .entry)) (now (starts .entry)) (now (marks .entry)) (now (heads .entry)) (now (sizes .entry)) c a (now (letters .exit)) (r .from) (r .to) ⌝ }
+    ensures { λ r. ⌜ FindsRhs (earliest (now (ins .entry)) (now (outs .entry)) (now (starts .entry)) (now (marks .entry)) (now (heads .entry)) (now (sizes .entry))) c a (now (letters .exit)) (r .from) (r .to) ⌝ }
 {
     let q = c / SLOT;
     let b = 1 + q * ins.len() + a;
@@ -56,14 +52,14 @@ fn add_initial(
     marks: &[u8],
     heads: &[u8],
     sizes: &[u8],
-    letters: &mut [u16],
+    letters: &mut [u32],
     starts2: &mut [u16],
     out: &mut [u8],
     list: &mut [u16],
     place: &mut [u8],
 ) -> FormSize
-    requires { ⌜ Discoverable (now ins) (now outs) (now starts) (now marks) (now heads) (now sizes) (now letters) × Empty (now starts2) (now out) (now list) (now place) ⌝ }
-    ensures { λ r. ⌜ AddsInitial (now (ins .entry)) (now (outs .entry)) (now (starts .entry)) (now (marks .entry)) (now (heads .entry)) (now (sizes .entry)) (now (starts2 .exit)) (now (out .exit)) (now (list .exit)) (now (place .exit)) r ⌝ }
+    requires { ⌜ Discoverable (now ins) (now outs) (now starts) (now marks) (now heads) (now sizes) (now letters) × Empty 8192 (now starts2) (now out) (now list) (now place) ⌝ }
+    ensures { λ r. ⌜ Adds (now (ins .entry)) (now (outs .entry)) (earliest (now (ins .entry)) (now (outs .entry)) (now (starts .entry)) (now (marks .entry)) (now (heads .entry)) (now (sizes .entry))) 8192 0 (now (starts2 .exit)) (now (out .exit)) (now (list .exit)) (now (place .exit)) r ⌝ }
 {
     let from = number(starts[0]);
     let to = number(starts[1]);
@@ -79,7 +75,7 @@ fn add_state(
     marks: &[u8],
     heads: &[u8],
     sizes: &[u8],
-    letters: &mut [u16],
+    letters: &mut [u32],
     p: usize,
     starts2: &mut [u16],
     out: &mut [u8],
@@ -87,8 +83,8 @@ fn add_state(
     place: &mut [u8],
     met: usize,
 ) -> FormSize
-    requires { ⌜ Discoverable (now ins) (now outs) (now starts) (now marks) (now heads) (now sizes) (now letters) × Found (now ins) (now outs) (now starts) (now marks) (now heads) (now sizes) p (now starts2) (now out) (now list) (now place) met × (p < met) ⌝ }
-    ensures { λ r. ⌜ AddsState (now (ins .entry)) (now (outs .entry)) (now (starts .entry)) (now (marks .entry)) (now (heads .entry)) (now (sizes .entry)) p (now (starts2 .exit)) (now (out .exit)) (now (list .exit)) (now (place .exit)) r ⌝ }
+    requires { ⌜ Discoverable (now ins) (now outs) (now starts) (now marks) (now heads) (now sizes) (now letters) × Found (now ins) (earliest (now ins) (now outs) (now starts) (now marks) (now heads) (now sizes)) 8192 p (now starts2) (now out) (now list) (now place) met × (p < met) ⌝ }
+    ensures { λ r. ⌜ Adds (now (ins .entry)) (now (outs .entry)) (earliest (now (ins .entry)) (now (outs .entry)) (now (starts .entry)) (now (marks .entry)) (now (heads .entry)) (now (sizes .entry))) 8192 (p + 1) (now (starts2 .exit)) (now (out .exit)) (now (list .exit)) (now (place .exit)) r ⌝ }
 {
     let c = number(list[p]);
     let mut n = met;
@@ -126,15 +122,15 @@ fn add_states(
     marks: &[u8],
     heads: &[u8],
     sizes: &[u8],
-    letters: &mut [u16],
+    letters: &mut [u32],
     starts2: &mut [u16],
     out: &mut [u8],
     list: &mut [u16],
     place: &mut [u8],
     met: usize,
 ) -> FormSize
-    requires { ⌜ Discoverable (now ins) (now outs) (now starts) (now marks) (now heads) (now sizes) (now letters) × Found (now ins) (now outs) (now starts) (now marks) (now heads) (now sizes) 0 (now starts2) (now out) (now list) (now place) met ⌝ }
-    ensures { λ r. ⌜ AddsStates (now (ins .entry)) (now (outs .entry)) (now (starts .entry)) (now (marks .entry)) (now (heads .entry)) (now (sizes .entry)) (now (starts2 .exit)) (now (out .exit)) (now (list .exit)) (now (place .exit)) r ⌝ }
+    requires { ⌜ Discoverable (now ins) (now outs) (now starts) (now marks) (now heads) (now sizes) (now letters) × Found (now ins) (earliest (now ins) (now outs) (now starts) (now marks) (now heads) (now sizes)) 8192 0 (now starts2) (now out) (now list) (now place) met ⌝ }
+    ensures { λ r. ⌜ AddsAll (now (ins .entry)) (now (outs .entry)) (earliest (now (ins .entry)) (now (outs .entry)) (now (starts .entry)) (now (marks .entry)) (now (heads .entry)) (now (sizes .entry))) 8192 (now (starts2 .exit)) (now (out .exit)) (now (list .exit)) (now (place .exit)) r ⌝ }
 {
     let mut n = met;
     let mut p = 0;
@@ -178,9 +174,9 @@ fn discover(
     out: &mut [u8],
 ) -> FormSize
     requires { ⌜ Expanding (now ins) (now outs) (now starts) (now marks) (now heads) (now sizes) × Leaf (now ins) × (2050 ≤ length (now starts2)) × (length (now out) ≡ 16384) ⌝ }
-    ensures { λ r. ⌜ DiscoversForm (now (ins .entry)) (now (outs .entry)) (now (starts .entry)) (now (marks .entry)) (now (heads .entry)) (now (sizes .entry)) (now (starts2 .exit)) (now (out .exit)) r ⌝ }
+    ensures { λ r. ⌜ Discovers (now (ins .entry)) (now (outs .entry)) (earliest (now (ins .entry)) (now (outs .entry)) (now (starts .entry)) (now (marks .entry)) (now (heads .entry)) (now (sizes .entry))) (now (starts2 .exit)) (now (out .exit)) r ⌝ }
 {
-    let mut letters = [0u16; 4096];
+    let mut letters = [0u32; 4096];
     let mut list = [0u16; 192];
     let mut place = [0u8; 8192];
     starts2[0] = 0;

@@ -7,21 +7,16 @@ ghost use Rattle.transducer.specs.Inner.Machine.{Machine};
 ghost use Rattle.earliest.specs.Answers.{MakesEarliest};
 ghost use Rattle.earliest.specs.Inner.Loaded.{EarliestOf, FormOfParts, FormsFile};
 use crate::discover::form_of_table;
-use crate::queue::FormSize;
-use crate::write::write_found;
-use formats::alphabet::input_ranks;
-use formats::alphabet::output_ranks;
 use formats::bodies::fill_starts;
 use formats::file::FileRead;
 use formats::file::counts_end;
 use formats::file::read_transducer;
-use formats::refusal::Refusal;
-
-// How many states and marks a form has, and how long its file is; or the refusal.
-pub enum Formed {
-    Form(usize, usize, usize),
-    Refused(Refusal),
-}
+use forms::write::FormSize;
+use forms::write::Formed;
+use forms::write::write_found;
+use trees::alphabet::input_ranks;
+use trees::alphabet::output_ranks;
+use trees::refusal::Refusal;
 
 // The earliest form of the transducer whose n, counts and marks these are: `starts` says where its bodies start in `out`.
 // What stands in both behind the last body is scratch, and all of it after `Over`.

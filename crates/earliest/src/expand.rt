@@ -5,29 +5,27 @@ ghost use mathlib.Core.Path.{_≡_};
 ghost use lib.ListN.{length, drop};
 ghost use lib.Seq.{sets};
 ghost use Rattle.theory.specs.Term.{count};
-ghost use Rattle.formats.specs.Inner.Decode.{forest};
+ghost use Rattle.trees.specs.Inner.Decode.{forest};
 ghost use Rattle.formats.specs.Inner.Judging.{Put};
 ghost use Rattle.prefixes.specs.Inner.Patterns.{Ended};
 ghost use Rattle.earliest.specs.Inner.Letters.{letterOf, labeled, expanded, Expandable, Locatable, LocatedAt};
-use formats::bytes::number;
-use formats::bytes::wide;
+use discovery::queue::CALL;
+use discovery::queue::letter;
 use prefixes::pattern::SLOT;
-
-// The letters of the calls on a child: as many as the table of prefixes has bytes.
-pub(crate) const CALL: usize = 8192;
+use trees::bytes::wide;
 
 // Writes a pattern as letters: the ⊤ at byte m becomes the call `base + m`.
-fn label_head(head: &[u8], base: usize, out: &mut [u16], at: usize)
-    requires { ⌜ (length (now head) ≤ 64) × (base + 64 ≤ 65536) × (at + length (now head) ≤ length (now out)) ⌝ }
+fn label_head(head: &[u8], base: usize, out: &mut [u32], at: usize)
+    requires { ⌜ (length (now head) ≤ 64) × (base + 64 ≤ 4294967296) × (at + length (now head) ≤ length (now out)) ⌝ }
     ensures { λ _. ⌜ now (out .exit) ≡ sets (now (out .entry)) at (labeled base (now (head .entry))) ⌝ }
 {
     let mut m = 0;
     while m < head.len() {
         let x = wide(head[m]);
         if x == 255 {
-            out[at + m] = (base + m) as u16;
+            out[at + m] = (base + m) as u32;
         } else {
-            out[at + m] = x as u16;
+            out[at + m] = x as u32;
         }
         m += 1;
     }
@@ -40,7 +38,7 @@ pub(crate) fn expand(
     marks: &[u8],
     from: usize,
     to: usize,
-    out: &mut [u16],
+    out: &mut [u32],
 ) -> usize
     requires { ⌜ Expandable (now heads) (now sizes) (now marks) from to (now out) ⌝ }
     ensures { λ r. ⌜ Put (expanded (now (heads .entry)) (now (sizes .entry)) (now (marks .entry)) from to) (now (out .entry)) (now (out .exit)) r ⌝ }
@@ -51,7 +49,7 @@ pub(crate) fn expand(
         let i = wide(marks[2 * j]);
         let x = wide(marks[2 * j + 1]);
         if i == 0 {
-            out[w] = x as u16;
+            out[w] = x as u32;
             w += 1;
         } else {
             let start = SLOT * x;
@@ -65,14 +63,14 @@ pub(crate) fn expand(
 }
 
 // The end of the tree at `at`.
-pub(crate) fn letter_end(outs: &[u8], s: &[u16], at: usize) -> usize
+pub(crate) fn letter_end(outs: &[u8], s: &[u32], at: usize) -> usize
     requires { ⌜ 0 < count (forest (letterOf (now outs)) (drop at (now s))) ⌝ }
     ensures { λ r. ⌜ Ended (letterOf (now (outs .entry))) (now (s .entry)) at r ⌝ }
 {
     let mut owed = 1;
     let mut p = at;
     while owed > 0 {
-        let x = number(s[p]);
+        let x = letter(s[p]);
         if x < outs.len() {
             owed += wide(outs[x]);
         }
@@ -83,7 +81,7 @@ pub(crate) fn letter_end(outs: &[u8], s: &[u16], at: usize) -> usize
 }
 
 // Where in a tree of letters the subtree stands that byte m of a prefix of it stands for.
-pub(crate) fn locate(outs: &[u8], head: &[u8], s: &[u16], m: usize) -> usize
+pub(crate) fn locate(outs: &[u8], head: &[u8], s: &[u32], m: usize) -> usize
     requires { ⌜ Locatable (now outs) (now head) (now s) m ⌝ }
     ensures { λ p. ⌜ LocatedAt (now (outs .entry)) (now (head .entry)) (now (s .entry)) m p ⌝ }
 {

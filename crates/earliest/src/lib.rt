@@ -2,5 +2,3 @@
 pub mod discover;
 pub mod earliest;
 pub mod expand;
-pub mod queue;
-pub mod write;

@@ -9,9 +9,9 @@ use mathlib.Core.Path.{_≡_, refl, sym, ap, _∙_}
 use lib.ListN.{length, drop, length-append}
 use lib.Seq.{drop-at}
 use Rattle.theory.specs.Transducer.{Transducer}
-use Rattle.formats.specs.Alphabets.{Alphabets, inputs, outputs}
+use Rattle.trees.specs.Alphabets.{Alphabets, inputs, outputs}
 use Rattle.formats.specs.Answers.{HandsMarks}
-use Rattle.formats.specs.Refusal.{Holds}
+use Rattle.trees.specs.Refusal.{Holds}
 use Rattle.formats.specs.Sheet.{Sheet}
 use Rattle.formats.proofs.Laws.{sheet-holds, sheet-marks}
 use Rattle.comparison.specs.Answers.{FewerMarks, HandsShorter}

@@ -5,12 +5,12 @@ use native.Mathlib.Omega.{arith}
 use mathlib.Core.List.{List, [], _∷_}
 use mathlib.Core.Path.{_≡_, refl, ap}
 use lib.ListN.{length, length-append}
-use Rattle.formats.specs.Alphabets.{inputs, outputs}
+use Rattle.trees.specs.Alphabets.{inputs, outputs}
 use Rattle.formats.specs.Answers.{ReadsFile}
 use Rattle.formats.specs.Inner.Layout.{bodyCount}
 use Rattle.formats.specs.declared.file.FileRead.{FileRead}
 use Rattle.formats.specs.declared.file.FileRead.the-variants.{States}
-use Rattle.formats.proofs.Judging.{accepted-holds}
+use Rattle.trees.proofs.Judging.{accepted-holds}
 use Rattle.formats.proofs.Sheets.{encodes-long}
 use Rattle.formats.proofs.Verdicts.{accepted-long}
 use Rattle.exports.specs.Exported.{FileParts}

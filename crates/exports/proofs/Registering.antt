@@ -8,10 +8,10 @@ use mathlib.Core.Logic.{inl, inr, ⊎-elim}
 use mathlib.Core.Path.{_≡_, refl, sym, ap, _∙_}
 use lib.ListN.{length, take, drop, length-take}
 use lib.Seq.{take-take, take-length}
-use Rattle.registry.specs.Answers.{HandsBody}
-use Rattle.registry.specs.Book.{recordAt}
-use Rattle.registry.specs.declared.book.Head.{Head}
-use Rattle.registry.specs.declared.book.Record.{Record}
+use Rattle.records.specs.Answers.{HandsBody}
+use Rattle.records.specs.Book.{recordAt}
+use Rattle.records.specs.declared.book.Head.{Head}
+use Rattle.records.specs.declared.book.Record.{Record}
 use Rattle.exports.specs.Registered.{startOf, ExportsBody}
 use Rattle.exports.proofs.Parts.{length-zero}
 

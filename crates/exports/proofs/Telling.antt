@@ -2,7 +2,7 @@
 -- Assumes nothing.
 use Prim.Native.Nat.{ℕ}
 use mathlib.Core.Path.{_≡_}
-use Rattle.formats.specs.Refusal.{Outcome, accepted, refused}
+use Rattle.trees.specs.Refusal.{Outcome, accepted, refused}
 use Rattle.exports.specs.Exported.{told, Exported}
 
 module _ {E A L : Type 0} {Promise : E → Type 0} {outcome : E → Outcome A} {Left : A → L → Type 0} {before after : L} {r : ℕ} where

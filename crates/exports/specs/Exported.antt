@@ -6,13 +6,16 @@ use mathlib.Core.Option.{Option, some, none as nothing}
 use mathlib.Core.Path.{_≡_}
 use lib.ListN.{length, drop}
 use Rattle.theory.specs.Transducer.{Transducer}
-use Rattle.formats.specs.Alphabets.{inputs, outputs}
-use Rattle.formats.specs.Answers.{alphabetsRead, ReadsAlphabets, treeRead, ReadsTree, fileRead, ReadsFile, fileWritten, WritesFile, HandsMarks}
-use Rattle.formats.specs.Refusal.{Outcome, accepted, refused}
+use Rattle.trees.specs.Alphabets.{inputs, outputs}
+use Rattle.trees.specs.Answers.{alphabetsRead, ReadsAlphabets, treeRead, ReadsTree}
+use Rattle.formats.specs.Answers.{fileRead, ReadsFile, fileWritten, WritesFile, HandsMarks}
+use Rattle.trees.specs.Refusal.{Outcome, accepted, refused}
 use Rattle.formats.specs.Sheet.{Sheet}
-use Rattle.transducer.specs.Answers.{linearTest, TestsLinear, translated, Translates, found, FindsSymbol}
-use Rattle.transducer.specs.Linear.{oneIf}
-use Rattle.earliest.specs.Answers.{formOf, MakesEarliest}
+use Rattle.queries.specs.Answers.{linearTest, TestsLinear, found, FindsSymbol}
+use Rattle.transducer.specs.Answers.{translated, Translates}
+use Rattle.theory.specs.Weight.{oneIf}
+use Rattle.forms.specs.Answers.{formOf}
+use Rattle.earliest.specs.Answers.{MakesEarliest}
 use Rattle.canonical.specs.Answers.{Cleans}
 use Rattle.comparison.specs.Answers.{comparedAs, Compares, HandsShorter}
 

@@ -4,12 +4,12 @@ use mathlib.Core.List.{List, []}
 use mathlib.Core.Logic.{_⊎_}
 use mathlib.Core.Path.{_≡_}
 use lib.ListN.{length, take, drop}
-use Rattle.registry.specs.Answers.{madeOf, Makes, numberOf, Enters, HandsBody}
-use Rattle.registry.specs.Book.{recordAt}
-use Rattle.registry.specs.declared.book.Entered.{Entered}
-use Rattle.registry.specs.declared.book.Head.{Head}
-use Rattle.registry.specs.declared.book.Made.{Made}
-use Rattle.registry.specs.declared.book.Record.{Record}
+use Rattle.records.specs.Answers.{madeOf, Makes, numberOf, Enters, HandsBody}
+use Rattle.records.specs.Book.{recordAt}
+use Rattle.records.specs.declared.book.Entered.{Entered}
+use Rattle.records.specs.declared.book.Head.{Head}
+use Rattle.records.specs.declared.book.Made.{Made}
+use Rattle.records.specs.declared.book.Record.{Record}
 use Rattle.exports.specs.Exported.{Exported}
 
 -- what is told of an answer to making, which has no value, and of one to entry, whose value is the number of the normal form

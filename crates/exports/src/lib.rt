@@ -9,25 +9,25 @@ use canonical::normal::clean;
 use comparison::compare::Comparison;
 use comparison::compare::compare;
 use comparison::shorter::shorter;
-use earliest::earliest::Formed;
 use earliest::earliest::earliest_form;
-use formats::alphabet::AlphabetsRead;
-use formats::alphabet::input_ranks;
-use formats::alphabet::read_alphabets;
 use formats::file::FileRead;
 use formats::file::FileWritten;
 use formats::file::read_transducer;
 use formats::file::transducer_marks;
 use formats::file::write_transducer;
-use formats::refusal::number_of;
-use formats::tree::TreeRead;
-use formats::tree::read_tree;
-use transducer::address::Found;
-use transducer::address::symbol_at;
-use transducer::linear::LinearTest;
-use transducer::linear::is_linear;
+use forms::write::Formed;
+use queries::address::Found;
+use queries::address::symbol_at;
+use queries::linear::LinearTest;
+use queries::linear::is_linear;
 use transducer::translate::Translation;
 use transducer::translate::translate;
+use trees::alphabet::AlphabetsRead;
+use trees::alphabet::input_ranks;
+use trees::alphabet::read_alphabets;
+use trees::refusal::number_of;
+use trees::tree::TreeRead;
+use trees::tree::read_tree;
 
 // Reads two alphabets (01: stock): how many input and output symbols there are.
 #[no_mangle]

@@ -1,16 +1,16 @@
 // The registry (01: book) for Rust and C: the head behind a reference, the records as a run of structs. Thin functions over
 // those of `registry`, which answer by an enum; here the answer is a number, as in the other exported functions.
 ghost use mathlib.Core.Path.{_≡_};
-ghost use Rattle.registry.specs.Book.{recordAt};
+ghost use Rattle.records.specs.Book.{recordAt};
 ghost use Rattle.exports.specs.Registered.{TellsMade, TellsEntered, startOf, ExportsMaking, ExportsEntry, ExportsBody};
-use formats::refusal::number_of;
-use registry::book::Entered;
-use registry::book::Head;
-use registry::book::Made;
-use registry::book::Record;
+use records::book::Entered;
+use records::book::Head;
+use records::book::Made;
+use records::book::Record;
 use registry::lent::body;
 use registry::lent::enter;
 use registry::lent::make;
+use trees::refusal::number_of;
 
 // The number of an answer to making.
 fn tell_made(answer: Made) -> u32

@@ -11,12 +11,13 @@ use lib.ListN.{length, getD}
 use lib.Seq.{slice-empty, drop-drop}
 use borrow.Author.Tests.{le-leb, lt-leb, eqb-true, eq-eqb}
 use Rattle.theory.specs.Term.{count}
-use Rattle.formats.specs.Inner.Decode.{letters, lettersAll, Letter, call, symbol, unknown, put, forest, Whole}
+use Rattle.theory.specs.Inner.Forests.{letters, lettersAll}
+use Rattle.trees.specs.Inner.Decode.{Letter, call, symbol, unknown, put, forest, Whole}
 use Rattle.formats.specs.Inner.Layout.{markOf}
 use Rattle.formats.specs.Inner.Marked.{part}
-use Rattle.formats.specs.Refusal.{Decides}
-use Rattle.formats.proofs.Deciding.{decides-no}
-use Rattle.formats.proofs.Forest.{count-rests, put-letters, all-drop}
+use Rattle.trees.specs.Refusal.{Decides}
+use Rattle.trees.proofs.Deciding.{decides-no}
+use Rattle.trees.proofs.Forest.{count-rests, put-letters, all-drop}
 use Rattle.formats.proofs.Marks.{letter-far, letter-no-state, letter-call, letter-no-symbol, letter-symbol, next-mark}
 
 -- s is the code of k trees, one behind the other

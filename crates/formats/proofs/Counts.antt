@@ -12,9 +12,9 @@ use lib.ListN.{length, getD}
 use borrow.Author.Count.{below-more}
 use borrow.Author.Tests.{eqb-true, eq-eqb}
 use Rattle.theory.proofs.Terms.{conflict}
-use Rattle.formats.specs.Inner.Layout.{offset, body, bodyNumber, bodyCount, countAt, Summed, Right, Starts, Laid, Wholes}
-use Rattle.formats.specs.Refusal.{Decides}
-use Rattle.formats.proofs.Offsets.{offset-grows, offset-next, offset-most}
+use Rattle.formats.specs.Inner.Layout.{offset, body, bodyNumber, bodyCount, countAt, Summed, Right, Starts, InBounds, Wholes}
+use Rattle.trees.specs.Refusal.{Decides}
+use Rattle.formats.proofs.Offsets.{offset-ordered, offset-next, offset-most}
 use Rattle.formats.proofs.Pairs.{number-less}
 
 -- the counts below j are right, and their sum is
@@ -54,10 +54,10 @@ pub few-bodies : {ins counts bytes : List ℕ} {n : ℕ} → Right ins n counts 
 few-bodies {ins} {n = n} C = omega (arith, mul-le-mul (C .states) (C .symbols))
 
 module _ {ins counts bytes : List ℕ} {n : ℕ} (starts : List ℕ) (C : Right ins n counts bytes) (S : Starts counts starts (bodyCount ins n)) (long : length starts ≡ 2050) where
-  pub laid : Laid ins n starts bytes
-  laid = record {
+  pub in-bounds : InBounds ins n starts bytes
+  in-bounds = record {
     long = omega (arith, few-bodies C);
-    ordered = λ j h. rw (S j (omega arith), S (j + 1) (omega arith)) (offset-grows counts j);
+    ordered = λ j h. rw (S j (omega arith), S (j + 1) (omega arith)) (offset-ordered counts j);
     inside = λ j h. rw (S j h) (omega (arith, C .sums .all, offset-most counts j (bodyCount ins n) h));
   }
 

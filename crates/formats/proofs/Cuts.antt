@@ -8,7 +8,7 @@ use mathlib.Core.Path.{_≡_, refl, sym, ap, ap₂, _∙_}
 use mathlib.Core.List.{List, [], _∷_, _++_}
 use lib.ListN.{length, getD, take, drop, length-append, length-drop, take-append-drop}
 use lib.Seq.{slice, take-at, take-append-add, drop-append-add, length-take-le}
-use Rattle.formats.specs.Code.{Mark}
+use Rattle.trees.specs.Code.{Mark}
 use Rattle.formats.specs.Sheet.{countBytes, markBytes, bodyBytes}
 use Rattle.formats.specs.Inner.Layout.{pairs, offset, body, countAt}
 

@@ -1,4 +1,4 @@
--- What a byte or a mark says as a letter, and the terms that are over such letters: the ranked ones.
+-- What a mark says as a letter, and the terms that are over such letters: the ranked ones.
 -- Assumes nothing.
 use Prim.Native.Nat.{ℕ, suc, _<_}
 use native.Mathlib.Omega.{arith}
@@ -8,23 +8,14 @@ use mathlib.Core.List.{List}
 use lib.Dec.{ltb, leb}
 use lib.ListN.{length, getD}
 use borrow.Author.Tests.{ltb-true, leb-true, lt-ltb, le-leb}
-use Rattle.theory.specs.Term.{Term, var, node, Terms, none, more, count, Tree}
+use Rattle.theory.specs.Term.{Term, var, node, Terms, none, more, count}
 use Rattle.theory.proofs.Terms.{conflict}
-use Rattle.formats.specs.Code.{Ranked, AllRanked, Call}
-use Rattle.formats.specs.Inner.Decode.{call, symbol, Over, AllOver}
-use Rattle.formats.specs.Inner.Layout.{symbolIf, callIf, symbolOf, markOf}
-use Rattle.formats.proofs.Codes.{Faithful}
-
-pub symbol-inside : {A : Type 0} (rs : List ℕ) (x : ℕ) (k n : ℕ) → symbolOf {A = A} rs x ≡ symbol k n → (k ≡ x) × (x < length rs) × (n ≡ getD rs x 0)
-unfolding symbolOf
-symbol-inside {A} rs x k n e = go (ltb x (length rs)) refl e
-  where
-    go : (b : Bool) → ltb x (length rs) ≡ b → symbolIf {A = A} b x (getD rs x 0) ≡ symbol k n → (k ≡ x) × (x < length rs) × (n ≡ getD rs x 0)
-    go true h e = ((cc), ltb-true _ _ h, (cc))
-    go false h e = conflict (cc)
-
-pub faithful-symbols : (rs : List ℕ) → Faithful {A = ⊥} (symbolOf rs) (λ x. absurd x) (λ k. k)
-faithful-symbols rs = record { calls = λ x a. absurd a; symbols = λ x k n e. symbol-inside rs x k n e .0 }
+use Rattle.trees.specs.Code.{Ranked, AllRanked, Call}
+use Rattle.trees.specs.Inner.Decode.{call, symbol, Over, AllOver}
+use Rattle.trees.specs.Inner.Symbols.{symbolIf, symbolOf}
+use Rattle.formats.specs.Inner.Layout.{callIf, markOf}
+use Rattle.trees.proofs.Codes.{Faithful}
+use Rattle.trees.proofs.Letters.{symbol-there}
 
 pub call-made : (outs : List ℕ) (n r i q : ℕ) (e : ℕ × ℕ) → markOf outs n r (i, q) ≡ call e → Call n r (i, q) × (e ≡ (i, q))
 unfolding markOf symbolOf
@@ -61,37 +52,10 @@ faithful-marks outs n r = record {
 }
 
 -- ---- over the letters is ranked
-pub symbol-there : {A : Type 0} (rs : List ℕ) (k : ℕ) → k < length rs → symbolOf {A = A} rs k ≡ symbol k (getD rs k 0)
-unfolding symbolOf
-symbol-there rs k h = simp (lt-ltb k (length rs) h)
-
 call-there : (outs : List ℕ) (n r i q : ℕ) → Call n r (i, q) → markOf outs n r (i, q) ≡ call (i, q)
 unfolding markOf
 call-there outs n r ℕ.zero q c = absurd (omega (arith, c .from-one))
 call-there outs n r (suc i) q c = simp (le-leb (suc i) r (c .child), lt-ltb q n (c .state))
-
-module _ (ins : List ℕ) where
-  mutual
-    unfolding Over Ranked
-
-    pub over-tree : (d : Tree) → Ranked (λ x. ⊥) ins d → Over (symbolOf ins) (λ x. absurd x) (λ k. k) d
-    over-tree (var x) r = absurd x
-    over-tree (node k ts) r = (symbol-there ins k (r .0) ∙ ap (symbol k) (sym (r .1)), over-trees ts (r .2))
-
-    over-trees : (ds : Terms ⊥) → AllRanked (λ x. ⊥) ins ds → AllOver (symbolOf ins) (λ x. absurd x) (λ k. k) ds
-    over-trees none r = tt
-    over-trees (more d ds) r = (over-tree d (r .0), over-trees ds (r .1))
-
-  mutual
-    unfolding Over Ranked
-
-    pub ranked-tree : (d : Tree) → Over (symbolOf ins) (λ x. absurd x) (λ k. k) d → Ranked (λ x. ⊥) ins d
-    ranked-tree (var x) o = absurd x
-    ranked-tree (node k ts) o = let i = symbol-inside ins k k (count ts) (o .0) in (i .1, i .2, ranked-trees ts (o .1))
-
-    ranked-trees : (ds : Terms ⊥) → AllOver (symbolOf ins) (λ x. absurd x) (λ k. k) ds → AllRanked (λ x. ⊥) ins ds
-    ranked-trees none o = tt
-    ranked-trees (more d ds) o = (ranked-tree d (o .0), ranked-trees ds (o .1))
 
 module _ (outs : List ℕ) (n r : ℕ) where
   mutual

@@ -9,7 +9,7 @@ use mathlib.Core.List.{List, [], _∷_, _++_, map}
 use lib.ListN.{length, getD, length-append, length-map, List·getD-append}
 use lib.Seq.{getD-append-add, ext-getD}
 use Rattle.theory.specs.Transducer.{Transducer}
-use Rattle.formats.specs.Code.{Mark, marks}
+use Rattle.trees.specs.Code.{Mark, marks}
 use Rattle.formats.specs.Sheet.{each, terms, bodiesOf}
 use Rattle.formats.proofs.Pairs.{row-less}
 

@@ -4,21 +4,24 @@ use Prim.Native.Nat.{ℕ, suc, _+_, _-_, _*_, _≤_, _<_}
 use native.Mathlib.Omega.{arith}
 use mathlib.Core.Bool.{Bool, true, false}
 use mathlib.Core.Path.{_≡_, refl, sym, ap, ap₂, _∙_}
-use mathlib.Core.List.{List, [], _∷_}
+use mathlib.Core.List.{List, _∷_}
 use lib.Dec.{leb}
 use lib.ListN.{length, getD, drop, take, drop-of-length-le}
-use lib.Seq.{length-take-le, drop-length}
+use lib.Seq.{length-take-le}
 use borrow.Author.Count.{below-more}
 use borrow.Author.Tests.{lt-ltb, le-ltb, le-leb, lt-leb, leb-true, leb-false}
 use Rattle.theory.specs.Term.{Terms, none, more, count}
 use Rattle.theory.proofs.Terms.{conflict}
-use Rattle.formats.specs.Inner.Decode.{letters, lettersAll, Letter, call, symbol, unknown, firsts, grown, put, forest, Whole}
-use Rattle.formats.specs.Inner.Layout.{symbolOf, markOf, pairs, body, bodyNumber, bodyCount, Laid}
-use Rattle.formats.specs.Inner.Marked.{ended, part}
-use Rattle.formats.specs.Refusal.{Decides}
-use Rattle.formats.specs.declared.bodies.End.{End}
-use Rattle.formats.specs.declared.bodies.End.the-variants.{At, Bad}
-use Rattle.formats.proofs.Forest.{first-tree, letters-pos}
+use Rattle.theory.specs.Inner.Forests.{letters, lettersAll}
+use Rattle.trees.specs.Inner.Decode.{Letter, call, symbol, unknown, firsts, nodeIf, put, forest, Whole}
+use Rattle.trees.specs.Inner.Symbols.{symbolOf}
+use Rattle.formats.specs.Inner.Layout.{markOf, pairs, body, bodyNumber, bodyCount, InBounds}
+use Rattle.trees.specs.Inner.Ended.{ended}
+use Rattle.formats.specs.Inner.Marked.{part}
+use Rattle.trees.specs.Refusal.{Decides}
+use Rattle.trees.specs.declared.tree.End.{End}
+use Rattle.trees.specs.declared.tree.End.the-variants.{At, Bad}
+use Rattle.trees.proofs.Forest.{first-tree, letters-pos}
 use Rattle.formats.proofs.Pairs.{pairs-length, number-less, part-cons}
 
 -- ---- n more trees, behind a part that ends at p: where the whole node ends
@@ -40,10 +43,10 @@ module _ {A : Type 0} where
   resume-short (suc n) p none h = refl
   resume-short (suc n) p (more t ts) h = resume-short n (p + letters t) ts (omega arith)
 
-  node-grown : (at k n : ℕ) (ts : Terms A) (b : Bool) → leb n (count ts) ≡ b → ended at (grown b k n ts) ≡ resume n (at + 1) ts
+  node-if : (at k n : ℕ) (ts : Terms A) (b : Bool) → leb n (count ts) ≡ b → ended at (nodeIf b k n ts) ≡ resume n (at + 1) ts
   unfolding ended letters
-  node-grown at k n ts true e = ap At (omega arith) ∙ sym (resume-fits n (at + 1) ts (leb-true n (count ts) e))
-  node-grown at k n ts false e = sym (resume-short n (at + 1) ts (leb-false n (count ts) e))
+  node-if at k n ts true e = ap At (omega arith) ∙ sym (resume-fits n (at + 1) ts (leb-true n (count ts) e))
+  node-if at k n ts false e = sym (resume-short n (at + 1) ts (leb-false n (count ts) e))
 
   pub no-more : (p : ℕ) (ts : Terms A) (n : ℕ) → n ≡ 0 → resume n p ts ≡ At p
   unfolding resume
@@ -115,7 +118,7 @@ module _ (outs : List ℕ) (n r : ℕ) (bytes : List ℕ) (at to : ℕ) where
     unfolding put
     a-symbol z g k h =
         let G = forest (markOf outs n r) (part bytes (at + 1) to) in
-        by-letter (symbol x (getD outs x 0)) (letter-symbol outs n r i x z g) ∙ node-grown at x (getD outs x 0) G (leb (getD outs x 0) (count G)) refl ∙ ap (λ k. resume k (at + 1) G) (sym h)
+        by-letter (symbol x (getD outs x 0)) (letter-symbol outs n r i x z g) ∙ node-if at x (getD outs x 0) G (leb (getD outs x 0) (count G)) refl ∙ ap (λ k. resume k (at + 1) G) (sym h)
 
 -- a tree that is there
 pub record Child {A X : Type 0} (f : X → Letter A) (s : List X) (n p e : ℕ) : Type 0 where
@@ -138,26 +141,6 @@ child {A} {X} f d s (suc n) p e h m = go (forest f (drop p s)) refl
         let q : suc n - 1 ≡ n = omega arith in
         record { next = ap (resume (suc n) p) g ∙ cc; further = omega (arith, letters-pos t); inside = omega arith }
 
-forest-nil : {A X : Type 0} (f : X → Letter A) → forest f [] ≡ none
-unfolding forest
-forest-nil f = refl
-
--- a word is one tree if the tree at its start ends at its end
-pub whole-end : {A X : Type 0} (f : X → Letter A) (d : X) (s : List X) (at : ℕ) → ended at (forest f s) ≡ At (at + length s) → Whole f s
-unfolding ended count lettersAll
-whole-end {A} {X} f d s at m = go (forest f s) refl
-  where
-    go : (F : Terms A) → forest f s ≡ F → Whole f s
-    go none g = conflict (let x : ended {A = A} at none ≡ At (at + length s) = sym (ap (ended at) g) ∙ m in cc)
-    go (more t ts) g =
-        let x : ended at (more t ts) ≡ At (at + length s) = sym (ap (ended at) g) ∙ m in
-        let y : at + letters t ≡ at + length s = cc in
-        let e : 0 + letters t ≡ length s = omega arith in
-        let w = first-tree f d s 0 g in
-        let b : ts ≡ none = w .0 ∙ ap (λ k. forest f (drop k s)) e ∙ ap (forest f) (drop-length s) ∙ forest-nil f in
-        let h : forest f s ≡ more t none = g ∙ ap (more t) b in
-        record { one = ap count h; all = ap lettersAll h ∙ omega arith }
-
 -- ---- one body after the other
 abbrev pub BodyOk : List ℕ → List ℕ → ℕ → (ℕ → ℕ) → List ℕ → ℕ → ℕ → Type 0
 BodyOk ins outs n start bytes q a = Whole (markOf outs n (getD ins a 0)) (body start bytes (bodyNumber ins q a))
@@ -174,8 +157,8 @@ next-body ins outs n start bytes q a old new = below-more (BodyOk ins outs n sta
 pub next-state : (ins outs : List ℕ) (n : ℕ) (start : ℕ → ℕ) (bytes : List ℕ) (q a : ℕ) → length ins ≤ a → ((p b : ℕ) → p < q → b < length ins → BodyOk ins outs n start bytes p b) → ((b : ℕ) → b < a → BodyOk ins outs n start bytes q b) → (p b : ℕ) → p < q + 1 → b < length ins → BodyOk ins outs n start bytes p b
 next-state ins outs n start bytes q a h old new p b l m = below-more (λ p. BodyOk ins outs n start bytes p b) q (λ k g. old k b g m) (new b (omega arith)) p l
 
-pub laid-fits : {ins starts bytes : List ℕ} {n q a : ℕ} → Laid ins n starts bytes → q < n → a < length ins → bodyNumber ins q a + 1 < length starts
-laid-fits {ins} {n = n} {q} {a} L h g = omega (arith, number-less ins q n a h g, L .long)
+pub bounds-fit : {ins starts bytes : List ℕ} {n q a : ℕ} → InBounds ins n starts bytes → q < n → a < length ins → bodyNumber ins q a + 1 < length starts
+bounds-fit {ins} {n = n} {q} {a} L h g = omega (arith, number-less ins q n a h g, L .long)
 
-pub laid-part : {ins starts bytes : List ℕ} {n j from to : ℕ} → Laid ins n starts bytes → j < bodyCount ins n → from ≡ getD starts j 0 → to ≡ getD starts (j + 1) 0 → (from ≤ to) × (2 * to ≤ length bytes)
-laid-part {j = j} L h f g = (rw (f, g) (L .ordered j h), rw g (L .inside (j + 1) (omega arith)))
+pub bounds-part : {ins starts bytes : List ℕ} {n j from to : ℕ} → InBounds ins n starts bytes → j < bodyCount ins n → from ≡ getD starts j 0 → to ≡ getD starts (j + 1) 0 → (from ≤ to) × (2 * to ≤ length bytes)
+bounds-part {j = j} L h f g = (rw (f, g) (L .ordered j h), rw g (L .inside (j + 1) (omega arith)))

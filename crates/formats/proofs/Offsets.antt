@@ -11,16 +11,16 @@ use lib.ListN.{length, getD, set}
 use lib.Seq.{getD-set-same, getD-set-other}
 use Rattle.formats.specs.Inner.Layout.{offset, Starts, KeptBehind}
 
-pub offset-grows : (cs : List ℕ) (j : ℕ) → offset cs j ≤ offset cs (j + 1)
+pub offset-ordered : (cs : List ℕ) (j : ℕ) → offset cs j ≤ offset cs (j + 1)
 unfolding offset
-offset-grows cs ℕ.zero = omega arith
-offset-grows [] (suc j) = rw add-one (omega arith)
-offset-grows (hi ∷ []) (suc j) = rw add-one (omega arith)
-offset-grows (hi ∷ lo ∷ cs) (suc j) = rw add-one (omega (arith, rw add-one at (offset-grows cs j)))
+offset-ordered cs ℕ.zero = omega arith
+offset-ordered [] (suc j) = rw add-one (omega arith)
+offset-ordered (hi ∷ []) (suc j) = rw add-one (omega arith)
+offset-ordered (hi ∷ lo ∷ cs) (suc j) = rw add-one (omega (arith, rw add-one at (offset-ordered cs j)))
 
 pub offset-up : (cs : List ℕ) (m j : ℕ) → offset cs j ≤ offset cs (j + m)
 offset-up cs ℕ.zero j = rw add-zero (omega arith)
-offset-up cs (suc m) j = let e : j + suc m ≡ j + m + 1 = omega arith in rw e (omega (arith, offset-up cs m j, offset-grows cs (j + m)))
+offset-up cs (suc m) j = let e : j + suc m ≡ j + m + 1 = omega arith in rw e (omega (arith, offset-up cs m j, offset-ordered cs (j + m)))
 
 pub offset-most : (cs : List ℕ) (j k : ℕ) → j ≤ k → offset cs j ≤ offset cs k
 offset-most cs j k h = let e : j + (k - j) ≡ k = omega arith in rw e at (offset-up cs (k - j) j)

@@ -8,7 +8,7 @@ use mathlib.Core.Path.{_≡_, refl, sym, ap, ap₂, _∙_}
 use mathlib.Core.List.{List, [], _∷_}
 use lib.ListN.{length, getD, take}
 use lib.Seq.{slice, slice-cons, length-slice, getD-drop, getD-take}
-use Rattle.formats.specs.Code.{Mark}
+use Rattle.trees.specs.Code.{Mark}
 use Rattle.formats.specs.Inner.Layout.{pairs, markAt, bodyNumber, bodyCount}
 use Rattle.formats.specs.Inner.Marked.{part}
 

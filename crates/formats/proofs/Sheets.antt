@@ -11,11 +11,11 @@ use lib.ListN.{length, getD, take, drop, length-append}
 use lib.Seq.{take-at, drop-at}
 use Rattle.theory.specs.Term.{Term}
 use Rattle.theory.specs.Transducer.{Transducer}
-use Rattle.formats.specs.Code.{Ranked, Mark, marks, Call}
-use Rattle.formats.specs.Inner.Decode.{forest, first, Whole}
+use Rattle.trees.specs.Code.{Ranked, Mark, marks, Call}
+use Rattle.trees.specs.Inner.Decode.{forest, first, Whole}
 use Rattle.formats.specs.Inner.Layout.{pairs, offset, countAt, markOf, body, bodyNumber, bodyCount, transducer, Right, Wholes}
 use Rattle.formats.specs.Sheet.{longest, countBytes, bodyBytes, Contents, Counted, OverAlphabets, bodiesOf, terms, Encodes, file, CountedFile, Sheet}
-use Rattle.formats.proofs.Codes.{reads-back, unique, exactly}
+use Rattle.trees.proofs.Codes.{reads-back, unique, exactly}
 use Rattle.formats.proofs.Letters.{faithful-marks, over-term, ranked-term}
 use Rattle.formats.proofs.Pairs.{number-less}
 use Rattle.formats.proofs.Cuts.{markBytes-pairs, length-countBytes, count-at, length-bodyBytes, body-at, cut, cut-marks, cut-counts, cut-length}

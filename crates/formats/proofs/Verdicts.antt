@@ -9,19 +9,20 @@ use mathlib.Core.Path.{_≡_, refl, sym, ap, ap₂, _∙_}
 use lib.ListN.{length, getD, take, drop, length-append, length-drop, take-append-drop}
 use lib.Seq.{sets, take-all, drop-drop}
 use Rattle.theory.specs.Transducer.{Transducer}
-use Rattle.formats.specs.Alphabets.{Alphabets, inputs, outputs, alphabetCheck}
+use Rattle.trees.specs.Alphabets.{Alphabets, inputs, outputs, alphabetCheck}
 use Rattle.formats.specs.Inner.Judging.{JudgesParts, JudgesFile, Put}
 use Rattle.formats.specs.Inner.Layout.{offset, bodyCount, Summed, Right, Wholes}
-use Rattle.formats.specs.Answers.{Nothing, fileRead, ReadsFile, HandsCounts, HandsMarks, WritesFile}
-use Rattle.formats.specs.Refusal.{done, Holds, judged}
+use Rattle.trees.specs.Answers.{Nothing}
+use Rattle.formats.specs.Answers.{fileRead, ReadsFile, HandsCounts, HandsMarks, WritesFile}
+use Rattle.trees.specs.Refusal.{done, Holds, judged}
 use Rattle.formats.specs.Sheet.{longest, Counted, Encodes, CountedFile, Sheet, file, sheetCheck, partsCheck}
 use Rattle.formats.specs.declared.file.FileRead.{FileRead}
 use Rattle.formats.specs.declared.file.FileRead.the-variants.{States, Refused}
 use Rattle.formats.specs.declared.file.FileWritten.the-variants as writing
 use Rattle.formats.specs.declared.file.FileWritten.the-variants.{Bytes}
-use Rattle.formats.specs.declared.refusal.Refusal.{Refusal}
-use Rattle.formats.specs.declared.refusal.Refusal.the-variants.{BadContents, BadBody}
-use Rattle.formats.proofs.Judging.{refuse, pass, accept, accepted-holds, refused-fails, refused-early}
+use Rattle.trees.specs.declared.refusal.Refusal.{Refusal}
+use Rattle.trees.specs.declared.refusal.Refusal.the-variants.{BadContents, BadBody}
+use Rattle.trees.proofs.Judging.{refuse, pass, accept, accepted-holds, refused-fails, refused-early}
 use Rattle.formats.proofs.Sheets.{counted-right, right-counted, encodes-wholes, file-short, wholes-encodes, encodes-counted, parts-at}
 
 -- ---- N, counts and marks

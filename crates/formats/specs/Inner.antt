@@ -1,6 +1,4 @@
 -- What only inner functions and their proofs speak of: no promise of an entry point needs it.
-pub mod Decode
 pub mod Layout
-pub mod Measured
 pub mod Marked
 pub mod Judging

@@ -5,9 +5,9 @@ use mathlib.Core.Path.{_≡_}
 use lib.ListN.{length, getD}
 use Rattle.theory.specs.Term.{Term}
 use Rattle.theory.specs.Transducer.{Transducer}
-use Rattle.formats.specs.Alphabets.{inputs, outputs}
-use Rattle.formats.specs.Code.{Ranked, Mark, marks, Call}
-use Rattle.formats.specs.Refusal.{Checks, check}
+use Rattle.trees.specs.Alphabets.{inputs, outputs}
+use Rattle.trees.specs.Code.{Ranked, Mark, marks, Call}
+use Rattle.trees.specs.Refusal.{Checks, check}
 
 -- the longest file: N, 2,049 counts of two bytes, 8,192 marks of two bytes
 abbrev pub longest : ℕ

@@ -2,12 +2,14 @@
 ghost use mathlib.Core.Path.{_≡_};
 ghost use Prim.Native.Nat.{_+_, _*_, _≤_, _<_};
 ghost use lib.ListN.{length, getD};
-ghost use Rattle.formats.specs.Inner.Decode.{forest, Whole};
-ghost use Rattle.formats.specs.Inner.Layout.{offset, markOf, Summed, Starts, KeptBehind, Laid, Wholes};
-ghost use Rattle.formats.specs.Inner.Marked.{ended, part};
-ghost use Rattle.formats.specs.Refusal.{Decides};
-use crate::bytes::number;
-use crate::bytes::wide;
+ghost use Rattle.trees.specs.Inner.Decode.{forest, Whole};
+ghost use Rattle.formats.specs.Inner.Layout.{offset, markOf, Summed, Starts, KeptBehind, InBounds, Wholes};
+ghost use Rattle.trees.specs.Inner.Ended.{ended};
+ghost use Rattle.formats.specs.Inner.Marked.{part};
+ghost use Rattle.trees.specs.Refusal.{Decides};
+use trees::bytes::number;
+use trees::bytes::wide;
+use trees::tree::End;
 
 // Whether the counts of `bodies` bodies are right, and the marks as many as they say.
 pub(crate) fn counts_right(counts: &[u8], bodies: usize, marks: &[u8]) -> bool
@@ -47,12 +49,6 @@ pub fn fill_starts(counts: &[u8], bodies: usize, starts: &mut [u16])
         j += 1;
         starts[j] = sum as u16;
     }
-}
-
-// Where a tree of marks ends, or that there is none.
-pub enum End {
-    At(usize),
-    Bad,
 }
 
 // Reads the tree of marks that begins with mark number `at`, in a body that ends at `to`: `n` states, and calls on `r` children.
@@ -125,7 +121,7 @@ fn one_body(outs: &[u8], n: usize, r: usize, marks: &[u8], from: usize, to: usiz
 
 // Whether every body is one tree of known marks.
 pub(crate) fn bodies_whole(ins: &[u8], outs: &[u8], n: usize, starts: &[u16], marks: &[u8]) -> bool
-    requires { ⌜ Laid (now ins) n (now starts) (now marks) ⌝ }
+    requires { ⌜ InBounds (now ins) n (now starts) (now marks) ⌝ }
     ensures { λ b. ⌜ Decides (Wholes (now (ins .entry)) (now (outs .entry)) n (λ j. getD (now (starts .entry)) j 0) (now (marks .entry))) b ⌝ }
 {
     let first = number(starts[1]);

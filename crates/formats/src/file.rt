@@ -3,19 +3,19 @@ ghost use mathlib.Core.Path.{_≡_};
 ghost use Prim.Native.Nat.{_+_, _*_, _≤_};
 ghost use lib.ListN.{length};
 ghost use lib.Seq.{sets};
-ghost use Rattle.formats.specs.Alphabets.{Alphabets, inputs};
+ghost use Rattle.trees.specs.Alphabets.{Alphabets, inputs};
 ghost use Rattle.formats.specs.Answers.{ReadsFile, HandsCounts, HandsMarks, WritesFile};
 ghost use Rattle.formats.specs.Inner.Layout.{bodyCount};
 ghost use Rattle.formats.specs.Inner.Judging.{JudgesParts, JudgesFile, Put};
 ghost use Rattle.formats.specs.Sheet.{file};
-use crate::alphabet::alphabets_right;
-use crate::alphabet::input_ranks;
-use crate::alphabet::output_ranks;
 use crate::bodies::bodies_whole;
 use crate::bodies::counts_right;
 use crate::bodies::fill_starts;
-use crate::bytes::wide;
-use crate::refusal::Refusal;
+use trees::alphabet::alphabets_right;
+use trees::alphabet::input_ranks;
+use trees::alphabet::output_ranks;
+use trees::bytes::wide;
+use trees::refusal::Refusal;
 
 // How many states the transducer has, or the refusal.
 pub enum FileRead {

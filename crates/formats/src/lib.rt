@@ -1,7 +1,3 @@
-// The files of document 01: alphabets (a stock), input trees (a design), transducers (a sheet).
-pub mod alphabet;
+// The file of a transducer (01: sheet): N, the counts, the bodies.
 pub mod bodies;
-pub mod bytes;
 pub mod file;
-pub mod refusal;
-pub mod tree;

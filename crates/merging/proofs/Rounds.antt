@@ -12,8 +12,8 @@ use lib.ListN.{length, set, length-set}
 use lib.Seq.{getD-set-same, getD-set-other, set-getD}
 use Rattle.theory.proofs.Pigeon.{pigeon}
 use Rattle.theory.proofs.Terms.{conflict}
-use Rattle.formats.specs.Refusal.{Decides}
-use Rattle.merging.specs.Inner.Classes.{SameStates, at, Classed}
+use Rattle.trees.specs.Refusal.{Decides}
+use Rattle.classes.specs.Inner.Classes.{SameStates, at, Classed}
 use Rattle.merging.specs.Inner.Refining.{Placed, NonePlaced, PlacedMember, Member, Represents, FindsClass, Round, Places, Listed, Moved, Rounded}
 
 -- ---- the state that stands for a class
@@ -70,7 +70,7 @@ record Fits (ins starts bytes old new pending reps : List ℕ) (base count p : �
   coarse : (r : ℕ) → r < length old → Placed pending r → at old r ≡ at old p → SameStates ins starts bytes old r p → at new r ≡ k
   stays : k < base → k ≡ at old p
   below : k < count′
-  grown : count ≤ count′
+  at-least : count ≤ count′
   names : (j : ℕ) → j < count → at reps′ j ≡ at reps j
   named : k < base → at reps′ k < length old
   fresh : (j : ℕ) → count ≤ j → j < count′ → Member new′ j (at reps′ j) × Placed pending′ (at reps′ j)
@@ -87,7 +87,7 @@ module _ {ins starts bytes old new pending reps : List ℕ} {base count : ℕ} (
   -- a state comes to stand for an old class
   round-named : {c q : ℕ} → length old ≤ 128 → c < base → q < length old → Round ins starts bytes old new pending (set reps c q) base count
   round-named {c} {q} few l h =
-      let here : at (set reps c q) c ≡ q = getD-set-same reps c q 0 (omega (arith, round-few, R .grown, R .names)) in
+      let here : at (set reps c q) c ≡ q = getD-set-same reps c q 0 (omega (arith, round-few, R .at-least, R .names)) in
       let there : (k : ℕ) → (k ≡ c → ⊥) → at (set reps c q) k ≡ at reps k = λ k z. getD-set-other reps c k q 0 z in
       record {
         waits = R .waits;
@@ -101,7 +101,7 @@ module _ {ins starts bytes old new pending reps : List ℕ} {base count : ℕ} (
         keeps = R .keeps;
         every = R .every;
         unnamed = λ k b m. by-cases (ℕ-discrete k c) (λ z. absurd (omega (arith, here, ap (at (set reps c q)) z))) (λ z. R .unnamed k b (rw (there k z) at m));
-        grown = R .grown;
+        at-least = R .at-least;
         flags = R .flags;
         names = length-set reps c q ∙ R .names;
       }
@@ -173,14 +173,14 @@ module _ {ins starts bytes old new pending reps : List ℕ} {base count : ℕ} (
       made = made′;
       long = long′;
       known = R .known;
-      below = elsewhere (λ q. q < length old → at new′ q < count′) p (λ l. rw here (F .below)) (λ q z l. rw (there q z) (omega (arith, R .below q l, F .grown)));
+      below = elsewhere (λ q. q < length old → at new′ q < count′) p (λ l. rw here (F .below)) (λ q z l. rw (there q z) (omega (arith, R .below q l, F .at-least)));
       stays = elsewhere (λ q. q < length old → at new′ q < base → at new′ q ≡ at old q) p (λ l m. here ∙ F .stays (rw here at m)) (λ q z l m. there q z ∙ R .stays q l (rw (there q z) at m));
       keeps = elsewhere (λ r. r < length old → Placed pending′ r → (s : ℕ) × (Member new′ (at old r) s × Placed pending′ s)) p (λ l d. F .keeper) (λ r z l d. let w = R .keeps r l (placed-was r z d) in (w .0, placed-member-still (w .1)));
       every = every′;
       unnamed = λ c b m. elsewhere (λ q. q < length new′ → at new′ q ≡ c → Placed pending′ q → ⊥) p
           (λ l e d. let w : k ≡ c = sym here ∙ e in omega (arith, F .named (omega arith), ap (at reps′) w))
-          (λ q z l e d. R .unnamed c b (rw (← F .names c (omega (arith, R .grown))) m) q (omega (arith, long′, R .long)) (sym (there q z) ∙ e) (placed-was q z d));
-      grown = omega (arith, R .grown, F .grown);
+          (λ q z l e d. R .unnamed c b (rw (← F .names c (omega (arith, R .at-least))) m) q (omega (arith, long′, R .long)) (sym (there q z) ∙ e) (placed-was q z d));
+      at-least = omega (arith, R .at-least, F .at-least);
       flags = ap length (F .flagged) ∙ simp length-set (R .flags);
       names = F .names-long;
     }
@@ -203,7 +203,7 @@ module _ {ins starts bytes old new pending reps : List ℕ} {base count : ℕ} (
         coarse = λ r l d e S. let k = R .keeps r l d in absurd (none (k .0) (k .1 .0 .there) (k .1 .0 .class ∙ e ∙ sym w) (k .1 .1));
         stays = λ b. w;
         below = R .below p h;
-        grown = omega arith;
+        at-least = omega arith;
         names = λ j m. refl;
         named = λ b. named;
         fresh = λ j l m. absurd (omega arith);
@@ -228,7 +228,7 @@ module _ {ins starts bytes old new pending reps : List ℕ} {base count : ℕ} (
       coarse = λ r i z y T. R .coarse r s i l z c (y ∙ sym x) (same-trans T (same-sym S));
       stays = λ b. R .stays s l b ∙ x;
       below = R .below s l;
-      grown = omega arith;
+      at-least = omega arith;
       names = λ j m. refl;
       named = λ b. rw (R .stays s l b ∙ x) named;
       fresh = λ j l m. absurd (omega arith);
@@ -255,11 +255,11 @@ module _ {ins starts bytes old new pending reps : List ℕ} {base count : ℕ} (
       names-long = length-set reps count p ∙ R .names;
       fine = λ r l z y. absurd (omega (arith, R .below r l));
       coarse = λ r l z y T. absurd (apart r l z y T);
-      stays = λ b. absurd (omega (arith, R .grown));
+      stays = λ b. absurd (omega (arith, R .at-least));
       below = omega arith;
-      grown = omega arith;
+      at-least = omega arith;
       names = λ j l. getD-set-other reps count j p 0 (λ z. omega arith);
-      named = λ b. absurd (omega (arith, R .grown));
+      named = λ b. absurd (omega (arith, R .at-least));
       fresh = λ j l k. let z : j ≡ count = omega arith in rw (z, getD-set-same reps count p 0 room) (record { there = omega (arith, R .long, length-set new p count); class = getD-set-same new p count 0 (omega (arith, R .long)) }, getD-set-same pending p 0 0 flags);
       keeper = keeper count refl;
     })
@@ -283,7 +283,7 @@ pub record Stands (ins starts bytes old new pending : List ℕ) (base count p : 
 module _ {ins starts bytes old new pending reps : List ℕ} {base count p : ℕ} (C : Classed ins starts bytes old) (R : Round ins starts bytes old new pending reps base count) (h : p < length old) (waiting : Placed pending p → ⊥) where
   -- what standing for the class of p asks
   pub can-stand : Member new (at old p) p × (length new ≤ 128) × (length pending ≡ 128) × (length reps ≡ 128) × (at old p < 128)
-  can-stand = (record { there = omega (arith, R .long); class = R .waits p h waiting }, omega (arith, R .long, C .layout .few-states), R .flags, R .names, omega (arith, R .known p h, R .grown, round-few R, C .layout .few-states))
+  can-stand = (record { there = omega (arith, R .long); class = R .waits p h waiting }, omega (arith, R .long, C .layout .few-states), R .flags, R .names, omega (arith, R .known p h, R .at-least, round-few R, C .layout .few-states))
 
   pub stands : {pending′ reps′ : List ℕ} {q : ℕ} → Represents new pending reps (at old p) pending′ reps′ q → Stands ins starts bytes old new pending base count p pending′ reps′ q
   stands {pending′} {reps′} {q} E = ⊎-elim
@@ -315,7 +315,7 @@ module _ {ins starts bytes old new pending reps : List ℕ} {base count p : ℕ}
 module _ {ins starts bytes old new pending : List ℕ} {base count p : ℕ} {pending′ reps′ : List ℕ} {q : ℕ} (few : length old ≤ 128) (h : p < length old) (S : Stands ins starts bytes old new pending base count p pending′ reps′ q) where
   -- it is p
   pub places-rep : Placed pending′ p → Places ins starts bytes old new pending base count p new pending′ reps′ count
-  places-rep d = record { round = S .round; here = d; remain = S .remain; others = λ q z. refl; grown = omega arith }
+  places-rep d = record { round = S .round; here = d; remain = S .remain; others = λ q z. refl; at-least = omega arith }
 
   module _ (waiting : Placed pending′ p → ⊥) where
     fits : p < length pending′
@@ -337,11 +337,11 @@ module _ {ins starts bytes old new pending : List ℕ} {base count p : ℕ} {pen
       here = getD-set-same pending′ p 0 0 fits;
       remain = both;
       others = λ q z. refl;
-      grown = omega arith;
+      at-least = omega arith;
     }
 
     pub find-asks : (base ≤ count) × (count ≤ 128) × ((k : ℕ) → base ≤ k → k < count → at reps′ k < length old)
-    find-asks = (S .round .grown, omega (arith, round-few (S .round)), λ k b l. omega (arith, S .round .made k b l .0 .there, S .round .long))
+    find-asks = (S .round .at-least, omega (arith, round-few (S .round)), λ k b l. omega (arith, S .round .made k b l .0 .there, S .round .long))
 
     pub room : count < length old
     room = round-room (S .round) few h waiting (S .member) (S .placed)
@@ -355,7 +355,7 @@ module _ {ins starts bytes old new pending : List ℕ} {base count p : ℕ} {pen
             here = getD-set-same pending′ p 0 0 fits;
             remain = both;
             others = λ q z. getD-set-other new p q k 0 z;
-            grown = omega arith;
+            at-least = omega arith;
           }
 
       pub places-fresh : count ≤ k → (SameStates ins starts bytes old q p → ⊥) → Places ins starts bytes old new pending base count p (set new p k) (set pending′ p 0) (set reps′ k p) (count + 1)
@@ -366,7 +366,7 @@ module _ {ins starts bytes old new pending : List ℕ} {base count p : ℕ} {pen
             here = getD-set-same pending′ p 0 0 fits;
             remain = both;
             others = λ q z. getD-set-other new p q k 0 z;
-            grown = omega arith;
+            at-least = omega arith;
           }
 
 -- ---- one round
@@ -427,7 +427,7 @@ module _ {ins starts bytes old pending₀ list : List ℕ} {base len : ℕ} {new
         states = L .listed .states;
         all = elsewhere (λ q. q < length old → (at new′ q ≡ at old q) ⊎ ((j : ℕ) × ((j < m) × (at moved j ≡ q)))) p (λ l. inl k) (λ q z l. ⊎-elim (λ w. inl (P .others q z ∙ w)) inr (L .listed .all q l));
       };
-      grew = λ l. omega (arith, L .grew l, P .grown);
+      grew = λ l. omega (arith, L .grew l, P .at-least);
     }
 
     -- it has another class

@@ -4,7 +4,7 @@ use Prim.Native.Nat.{ℕ, _+_, _-_, _*_, _≤_, _<_}
 use native.Mathlib.Decide.{ℕ-discrete, decLt}
 use native.Mathlib.Omega.{arith}
 use mathlib.Core.Bool.{Bool, true, false}
-use mathlib.Core.List.{List}
+use mathlib.Core.List.{List, []}
 use mathlib.Core.Logic.{by-cases, ⊎-elim}
 use mathlib.Core.Path.{_≡_, refl, sym, ap, _∙_}
 use lib.ListN.{length, getD}
@@ -15,13 +15,20 @@ use Rattle.formats.specs.Inner.Layout.{bodyNumber, bodyCount}
 use Rattle.formats.specs.Inner.Marked.{part}
 use Rattle.formats.proofs.Laws.{written-take}
 use Rattle.formats.proofs.Pairs.{number-less}
-use Rattle.merging.specs.Inner.Classes.{keyed, bodyMarks, SameStates, at, Keyable, Classed, Patterned, Numbers, Settles}
-use Rattle.merging.specs.Inner.Refining.{Placed, NonePlaced, Member, Round, Rounded, Callers, Listed, FlagsMoved, AllPending, Continues, Respecting, Stable, Refined, Startable, Refines, sign}
-use Rattle.merging.proofs.Keys.{keyAt, key-symbol, key-call, keyed-length, keyed-at, body-ordered, body-keyable, first-there, same-simulates, simulates-same}
-use Rattle.merging.proofs.Numbering.{classes-agree, class-below, least-below}
-use Rattle.merging.proofs.Patterns.{laid-le, pattern-respects}
+use Rattle.classes.specs.Inner.Classes.{keyed, bodyMarks, SameStates, at, Keyable, Classed, Patterned, Numbers}
+use Rattle.merging.specs.Inner.Refining.{Settles, Placed, NonePlaced, Member, Round, Rounded, Callers, Listed, FlagsMoved, AllPending, Continues, Respecting, Stable, Refined, Startable, Refines, sign}
+use Rattle.classes.proofs.Keys.{keyAt, key-symbol, key-call, keyed-length, keyed-at, body-ordered, body-keyable, first-there, same-simulates, simulates-same}
+use Rattle.classes.proofs.Numbering.{classes-agree, class-below, least-below}
+use Rattle.classes.proofs.Patterns.{starts-ordered, same-byte}
 use Rattle.merging.proofs.Rounds.{round-few}
 use Rattle.merging.proofs.Worklist.{no-sign, some-sign, one-sign}
+
+-- ---- the classes to start from
+-- equivalent states are in one of them
+pub pattern-respects : {ins starts bytes classes : List ℕ} {n : ℕ} → Patterned ins starts bytes n classes → Respecting ins starts bytes n classes
+pattern-respects {classes = classes} P = record {
+  each = λ outs l L W E. refine-respects W E (λ q. at [] q) (λ q. at classes q) (λ p q h g s. refl) (λ p q h g e S. same-byte (L .bounds) P p q h g (simulates-same L [] h g l S));
+}
 
 -- ---- keys up to new classes
 -- a part whose calls are of states that keep their class has the same keys
@@ -53,8 +60,8 @@ module _ {ins starts bytes old : List ℕ} (C : Classed ins starts bytes old) (n
       let K : Keyable old bytes from (to - from) = body-keyable C b less refl refl refl in
       let e : from + (to - from) ≡ to = omega arith in
       let last = number-less ins p (length old) (length ins - 1) h (omega arith) in
-      let low : at starts (bodyCount ins p) ≤ from = laid-le (C .layout .laid) (bodyCount ins p) a (omega arith) in
-      let high : to ≤ at starts (b + 1 + (length ins - (a + 1))) = laid-le (C .layout .laid) (b + 1) (length ins - (a + 1)) (omega arith) in
+      let low : at starts (bodyCount ins p) ≤ from = starts-ordered (C .layout .bounds) (bodyCount ins p) a (omega arith) in
+      let high : to ≤ at starts (b + 1 + (length ins - (a + 1))) = starts-ordered (C .layout .bounds) (b + 1) (length ins - (a + 1)) (omega arith) in
       let end : b + 1 + (length ins - (a + 1)) ≡ bodyCount ins p + length ins = omega arith in
       rw e at (keys-kept old new bytes from (to - from) K (λ k g c. same (from + k) (omega arith) (omega (arith, ap (at starts) end)) c (first-there (K, K) g c refl)))
 
@@ -77,7 +84,7 @@ module _ {ins starts bytes old new pending reps : List ℕ} {count : ℕ} (long 
     keeps = λ r h d. (r, (record { there = omega arith; class = same r h }, d));
     every = every;
     unnamed = unnamed;
-    grown = omega arith;
+    at-least = omega arith;
     flags = flags;
     names = names;
   }
@@ -182,7 +189,7 @@ module _ {ins starts bytes old new pending reps list moved : List ℕ} {count m 
       unfolding left sign
       next-less n e h = by-cases (decLt 0 m′)
           (λ z. omega (arith, R .grew z, round-few (R .round), long, one-sign m′, some-sign m h))
-          (λ z. omega (arith, R .round .grown, no-sign m′ (omega arith), some-sign m h))
+          (λ z. omega (arith, R .round .at-least, no-sign m′ (omega arith), some-sign m h))
 
 module _ {ins starts bytes old new pending reps list : List ℕ} {count : ℕ} (S : Startable ins starts bytes old new count) (A : AllPending pending reps list (length old)) where
   -- what the first round asks

@@ -8,7 +8,7 @@ use mathlib.Core.Logic.{_⊎_, inl, inr, by-cases, ⊎-elim}
 use mathlib.Core.Path.{_≡_, refl, sym, ap, _∙_}
 use lib.ListN.{length, set, length-set}
 use lib.Seq.{getD-set-same, getD-set-other}
-use Rattle.merging.specs.Inner.Classes.{at}
+use Rattle.classes.specs.Inner.Classes.{at}
 use Rattle.merging.specs.Inner.Refining.{Placed, Moved, Flagged, sign, pendingCount, Queue, FlagsCallers, FlagsMoved, AllPending}
 
 -- ---- how many states are pending

@@ -1,3 +1,2 @@
 -- What only inner functions and their proofs speak of.
-pub mod Classes
 pub mod Refining

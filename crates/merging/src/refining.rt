@@ -1,13 +1,18 @@
-// Refining the classes of states until those of one class have the same right-hand sides, up to the classes of the states called.
+// Classes of equivalent states: those with like right-hand sides are one class at first, and are refined until states of one class have
+// the same right-hand sides, up to the classes of the states called.
 // A state is looked at again only if a state that it calls has another class than before.
 ghost use Prim.Native.Nat.{ℕ, _+_, _*_, _≤_, _<_};
 ghost use mathlib.Core.Path.{_≡_};
 ghost use lib.ListN.{length, getD};
-ghost use Rattle.merging.specs.Inner.Classes.{Classed};
-ghost use Rattle.merging.specs.Inner.Refining.{firstAt, lastAt, Placed, FindsPlaced, PlacedMember, Member, Represents, FindsClass, Round, Places, Listed, Rounded, Flagged, StillFlagged, FlaggedCalls, Flaggable, Callers, Queue, FlagsCallers, Moved, FlagsMoved, AllPending, Continues, Refined, Startable, Stable, Refines};
-use crate::classes::same_states;
-use formats::bytes::number;
-use formats::bytes::wide;
+ghost use Rattle.classes.specs.Inner.Classes.{Classed};
+ghost use Rattle.merging.specs.Inner.Refining.{firstAt, lastAt, Placed, FindsPlaced, PlacedMember, Member, Represents, FindsClass, Round, Places, Listed, Rounded, Flagged, StillFlagged, FlaggedCalls, Callers, Queue, FlagsCallers, Moved, FlagsMoved, AllPending, Continues, Refined, Startable, Stable, Refines, Settles};
+ghost use Rattle.forms.specs.Inner.Tables.{Bounded};
+use classes::classes::number_classes;
+use classes::classes::pattern_classes;
+use classes::classes::same_states;
+use formats::file::copy_at;
+use trees::bytes::number;
+use trees::bytes::wide;
 
 // The first placed state of class c from number `from` on; `to` if there is none below.
 fn find_placed(classes: &[u8], pending: &[u8; 128], c: u8, from: usize, to: usize) -> usize
@@ -236,7 +241,7 @@ fn flag_calls(marks: &[u8], from: usize, to: usize, p: usize, callers: &mut [u8;
 
 // Flags the callers of all states; the right-hand sides of a state stand one after the other.
 fn find_callers(ins: &[u8], starts: &[u16], marks: &[u8], n: usize, callers: &mut [u8; 16640])
-    requires { ⌜ Flaggable (now ins) (now starts) (now marks) n × (length (now callers) ≡ 16640) ⌝ }
+    requires { ⌜ Bounded (now ins) (now starts) (now marks) n × (length (now callers) ≡ 16640) ⌝ }
     ensures { λ _. ⌜ (length (now (callers .exit)) ≡ 16640) × Callers (now (ins .entry)) (now (starts .entry)) (now (marks .entry)) n (now (callers .exit)) ⌝ }
 {
     let mut p = 0;
@@ -407,7 +412,7 @@ fn refine_more(
 }
 
 // Refines the states of each of `count` classes, which `old` and `new` hold, until states of one class have the same right-hand sides up to classes; says whether any was moved.
-pub(crate) fn refine_classes(
+fn refine_classes(
     ins: &[u8],
     starts: &[u16],
     marks: &[u8],
@@ -454,4 +459,25 @@ pub(crate) fn refine_classes(
         step.moved,
     );
     true
+}
+
+// The classes of equivalent states, and the least member of each; says how many classes there are. `old` has a byte for each state.
+pub fn settle_classes(
+    ins: &[u8],
+    starts: &[u16],
+    marks: &[u8],
+    old: &mut [u8],
+    new: &mut [u8],
+    least: &mut [u8],
+) -> usize
+    requires { ⌜ Classed (now ins) (now starts) (now marks) (now old) × (length (now new) ≡ length (now old)) × (128 ≤ length (now least)) ⌝ }
+    ensures { λ c. ⌜ Settles (now (ins .entry)) (now (starts .entry)) (now (marks .entry)) (now (new .exit)) (now (least .exit)) (length (now (old .entry))) c ⌝ }
+{
+    pattern_classes(ins, starts, marks, old);
+    let count = number_classes(old, new, least);
+    copy_at(new, old, 0);
+    if refine_classes(ins, starts, marks, old, new, count) {
+        return number_classes(old, new, least);
+    }
+    count
 }

@@ -10,7 +10,7 @@ use lib.ListN.{length, getD, set, length-set}
 use lib.Seq.{getD-set-same, getD-set-other}
 use borrow.Author.Tests.{lt-ltb, le-ltb}
 use Rattle.theory.proofs.Partition.{ForcedBy, merged, merged-hit, merged-miss, forced-merge, forced-ext}
-use Rattle.merging.specs.Inner.Classes.{at}
+use Rattle.classes.specs.Inner.Classes.{at}
 use Rattle.pairs.specs.Inner.Pairs.{pairLeft, pairRight, Added, Joined, Member, classOf, roots, Connected, pair, itself, back, onward, Table, table, Merging, Later, JoinsStates}
 
 -- ---- a pair is listed

@@ -17,12 +17,12 @@ use Rattle.theory.specs.Transducer.{Transducer}
 use Rattle.theory.specs.Wf.{Wf}
 use Rattle.theory.proofs.Pairs.{Generated, Checked, search-equivalent}
 use Rattle.theory.proofs.Terms.{conflict}
-use Rattle.formats.specs.Alphabets.{Leaf}
+use Rattle.trees.specs.Alphabets.{Leaf}
 use Rattle.formats.specs.Inner.Layout.{body, bodyNumber, bodyCount, transducer}
 use Rattle.formats.proofs.Pairs.{number-less}
-use Rattle.prefixes.specs.Alphabet.{alphabet, children-inside}
-use Rattle.prefixes.specs.Inner.Heads.{Layout, machine}
-use Rattle.merging.specs.Inner.Classes.{at}
+use Rattle.forms.specs.Alphabet.{alphabet, children-inside}
+use Rattle.forms.specs.Inner.Tables.{Layout, machine}
+use Rattle.classes.specs.Inner.Classes.{at}
 use Rattle.pairs.specs.Inner.Pairs.{Sides, Forms, FirstClash, InStep, pairLeft, pairRight, pairParent, pairSymbol, Entry, bodyOf, leftBody, rightBody, Linked, Table, table, Merging, Later, JoinsStates, Joinable, Listed, JoinsMarks, Searching, Goes, Alike, Walkable, Walks, WalksPair, WalksAll, Searches, Connected, pair, itself, back, onward}
 use Rattle.pairs.specs.declared.pairs.Walked.{Walked}
 use Rattle.pairs.specs.declared.pairs.Stage.{Stage}
@@ -95,14 +95,14 @@ module _ {ins outs starts bytes : List ℕ} {n : ℕ} (L : Layout ins outs start
   -- the initial term
   pub initial-spelt : Spelt outs n 1 bytes (at starts 0) (at starts (0 + 1))
   unfolding body
-  initial-spelt = record { ordered = L .laid .ordered 0 (omega arith); inside = L .laid .inside (0 + 1) (omega arith); whole = L .wholes .initial }
+  initial-spelt = record { ordered = L .bounds .ordered 0 (omega arith); inside = L .bounds .inside (0 + 1) (omega arith); whole = L .wholes .initial }
 
   -- a right-hand side
   pub rhs-spelt : (q a : ℕ) → q < n → a < length ins → Spelt outs n (getD ins a 0) bytes (at starts (bodyNumber ins q a)) (at starts (bodyNumber ins q a + 1))
   unfolding body
   rhs-spelt q a h g =
       let l = number-less ins q n a h g in
-      record { ordered = L .laid .ordered (bodyNumber ins q a) l; inside = L .laid .inside (bodyNumber ins q a + 1) (omega arith); whole = L .wholes .rhs q a h g }
+      record { ordered = L .bounds .ordered (bodyNumber ins q a) l; inside = L .bounds .inside (bodyNumber ins q a + 1) (omega arith); whole = L .wholes .rhs q a h g }
 
 -- bodies j and j′ are two right-hand sides over r children
 pub record Bodies (S : Sides) (outs : List ℕ) (n n′ r j j′ : ℕ) : Type 0 where
@@ -430,7 +430,7 @@ module _ {S : Sides} {T : Table} (F : Searching S T) where
   -- classes are no coarser than the pairs force
   classes-generated : Generated (λ x. x < lefts′) (λ y. y < rights′) (IsPair T) (at (T .left)) (at (T .right))
   classes-generated = record {
-    spreads = λ Z f g same x y h i e.
+    by-classes = λ Z f g same x y h i e.
         let few = F .merging .few-left in
         let j = F .merging .forced x (128 + y) (inl h) (inr (omega arith, omega arith)) (class-left (T .left) (T .right) x (omega arith) ∙ e ∙ sym (class-right (T .left) (T .right) y)) in
         sym (one-left f g x (omega arith)) ∙ connected-same f g same j ∙ one-right f g y;

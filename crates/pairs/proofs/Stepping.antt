@@ -3,7 +3,7 @@
 use Prim.Native.Nat.{ℕ, suc, _+_, _-_, _*_, _≤_, _<_}
 use native.Mathlib.Decide.{ℕ-discrete, decLt}
 use native.Mathlib.Omega.{arith}
-use mathlib.Core.List.{List, [], _∷_, _++_, append-assoc, append-nil, map-append}
+use mathlib.Core.List.{List, [], _++_, append-assoc, append-nil, map-append}
 use mathlib.Core.Logic.{by-cases}
 use mathlib.Core.Path.{_≡_, refl, sym, ap, ap₂, _∙_, subst}
 use lib.ListN.{length, getD, take, drop, length-map, length-take, length-drop, take-append-drop, List·getD-map, List·getD-append}
@@ -11,15 +11,17 @@ use lib.Seq.{ext-getD, length-slice, getD-take, getD-append-add}
 use Rattle.theory.specs.Term.{Term, var, node, Terms, none, more, count}
 use Rattle.theory.proofs.Along.{Along, here, under, Alongs, first, later, Are, Differ, node-node, node-call, call-node, call-call}
 use Rattle.theory.proofs.Match.{Match, calls, nodes, Matches, nil, cons, Related}
-use Rattle.formats.specs.Code.{Ranked, AllRanked, Mark, Call, flat, flats, marks}
-use Rattle.formats.specs.Inner.Decode.{letters, lettersAll, unknown, forest, Whole, first as firstOf}
+use Rattle.trees.specs.Code.{Ranked, AllRanked, Mark, Call, preorder, marks}
+use Rattle.theory.specs.Inner.Forests.{letters, lettersAll}
+use Rattle.trees.specs.Inner.Decode.{unknown, forest, Whole, first as firstOf}
 use Rattle.formats.specs.Inner.Layout.{pairs, markOf}
 use Rattle.formats.specs.Inner.Marked.{part}
-use Rattle.formats.proofs.Codes.{word-length}
+use Rattle.trees.proofs.Codes.{word-length}
 use Rattle.formats.proofs.Pairs.{pairs-length, pairs-at, getD-slice}
 use Rattle.formats.proofs.Sheets.{whole-ranked}
 use Rattle.transducer.proofs.Meaning.{body-read}
-use Rattle.merging.specs.Inner.Classes.{keyOf, keyed, at}
+use Rattle.classes.specs.Inner.Classes.{keyOf, keyed, at}
+use Rattle.classes.proofs.Keys.{key-symbol, key-call, key-first, termMarks}
 use Rattle.pairs.specs.Inner.Pairs.{InStep, Clashing, two-symbols, symbol-call, call-symbol, two-children}
 use Rattle.earliest.specs.Inner.Places.{place, placeAmong}
 use Rattle.earliest.proofs.Places.{place-first, place-behind}
@@ -37,21 +39,6 @@ module _ (bytes bytes′ : List ℕ) (i j : ℕ) where
   clash-second e z n = two-symbols z (omega arith) n
 
 -- ---- one key
-module _ (classes : List ℕ) where
-  key-symbol : (i x : ℕ) → i ≡ 0 → keyOf classes (i, x) ≡ (0, x)
-  unfolding keyOf
-  key-symbol i x e = rw e
-
-  key-call : (i q : ℕ) → 0 < i → keyOf classes (i, q) ≡ (i, at classes q)
-  unfolding keyOf
-  key-call ℕ.zero q h = absurd (omega arith)
-  key-call (suc i) q h = refl
-
-  key-first : (m : Mark) → keyOf classes m .0 ≡ m .0
-  unfolding keyOf
-  key-first (ℕ.zero, x) = refl
-  key-first (suc i, x) = refl
-
 -- marks in step whose calls are of states of one class have one key
 key-same : (C D : List ℕ) (i j x y : ℕ) → i ≡ j → (i ≡ 0 → x ≡ y) → (0 < i → at C x ≡ at D y) → keyOf C (i, x) ≡ keyOf D (j, y)
 key-same C D i j x y e f g = by-cases (ℕ-discrete i 0)
@@ -62,9 +49,6 @@ key-same C D i j x y e f g = by-cases (ℕ-discrete i 0)
 -- calls of states of one class
 abbrev pub SameCall : List ℕ → List ℕ → ℕ × ℕ → ℕ × ℕ → Type 0
 SameCall C D = Related (λ r r′. at C r ≡ at D r′)
-
-abbrev flatMarks : Terms (ℕ × ℕ) → List Mark
-flatMarks ts = flats (λ e. e ∷ []) (λ b. (0, b)) ts
 
 -- a call on a child, these counted from 1
 abbrev FromOne : ℕ × ℕ → Type 0
@@ -92,7 +76,7 @@ module _ (C D outs : List ℕ) where
   same-symbol k j x = ap (λ m. m .1) (sym (key-symbol C 0 k refl) ∙ x ∙ key-symbol D 0 j refl)
 
   mutual
-    unfolding flat Ranked count
+    unfolding preorder Ranked count
 
     -- terms over one alphabet that have the same keys match up to classes
     keys-match : (t u : Term (ℕ × ℕ)) (l m : List Mark) → Ranked FromOne outs t → Ranked FromOne outs u → keyed C (marks t ++ l) ≡ keyed D (marks u ++ m) → Match (SameCall C D) t u × (keyed C l ≡ keyed D m)
@@ -104,12 +88,12 @@ module _ (C D outs : List ℕ) where
         let w = keys-matches ts us l m (o .1 ∙ ap (λ k. getD outs k 0) s ∙ sym (p .1)) (o .2) (p .2) (cc) in
         (nodes s (w .0), w .1)
 
-    keys-matches : (ts us : Terms (ℕ × ℕ)) (l m : List Mark) → count ts ≡ count us → AllRanked FromOne outs ts → AllRanked FromOne outs us → keyed C (flatMarks ts ++ l) ≡ keyed D (flatMarks us ++ m) → Matches (SameCall C D) ts us × (keyed C l ≡ keyed D m)
+    keys-matches : (ts us : Terms (ℕ × ℕ)) (l m : List Mark) → count ts ≡ count us → AllRanked FromOne outs ts → AllRanked FromOne outs us → keyed C (termMarks ts ++ l) ≡ keyed D (termMarks us ++ m) → Matches (SameCall C D) ts us × (keyed C l ≡ keyed D m)
     keys-matches none none l m c o p x = (nil, x)
     keys-matches none (more u us) l m c o p x = absurd (omega arith)
     keys-matches (more t ts) none l m c o p x = absurd (omega arith)
     keys-matches (more t ts) (more u us) l m c o p x =
-        let y = keys-match t u (flatMarks ts ++ l) (flatMarks us ++ m) (o .0) (p .0) (rw (append-assoc, append-assoc) at x) in
+        let y = keys-match t u (termMarks ts ++ l) (termMarks us ++ m) (o .0) (p .0) (rw (append-assoc, append-assoc) at x) in
         let z = keys-matches ts us l m (omega arith) (o .1) (p .1) (y .1) in
         (cons (y .0) (z .0), z .1)
 
@@ -166,7 +150,7 @@ root-call e (node k ts) h o = absurd (omega (arith, ap (λ m. m .0) h))
 -- ---- terms in step up to letter m, along its address
 module _ (outs : List ℕ) (e e′ : Mark) where
   mutual
-    unfolding flat Ranked count letters place Root
+    unfolding preorder Ranked count letters place Root
 
     along-step : (t u : Term (ℕ × ℕ)) (m : ℕ) → Ranked FromOne outs t → Ranked FromOne outs u → m < letters t → m < letters u → SameKeys m (marks t) (marks u) → getD (marks t) m (0, 0) ≡ e → getD (marks u) m (0, 0) ≡ e′ → Along (Begin e e′) t u (place t m)
     along-step (var a) (var b) ℕ.zero o p h g s x y = let z : Begin e e′ (var a) (var b) = ((x, o), (y, p)) in here z
@@ -179,14 +163,14 @@ module _ (outs : List ℕ) (e e′ : Mark) where
         let z : k ≡ j = same-symbol [] [] outs k j (s 0 (omega arith)) in
         under z (alongs-step ts us m (o .1 ∙ ap (λ k. getD outs k 0) z ∙ sym (p .1)) (o .2) (p .2) (omega arith) (omega arith) (λ i l. s (suc i) (omega arith)) x y)
 
-    alongs-step : (ts us : Terms (ℕ × ℕ)) (m : ℕ) → count ts ≡ count us → AllRanked FromOne outs ts → AllRanked FromOne outs us → m < lettersAll ts → m < lettersAll us → SameKeys m (flatMarks ts) (flatMarks us) → getD (flatMarks ts) m (0, 0) ≡ e → getD (flatMarks us) m (0, 0) ≡ e′ → Alongs (Begin e e′) ts us (suc (placeAmong ts m .0)) (placeAmong ts m .1)
+    alongs-step : (ts us : Terms (ℕ × ℕ)) (m : ℕ) → count ts ≡ count us → AllRanked FromOne outs ts → AllRanked FromOne outs us → m < lettersAll ts → m < lettersAll us → SameKeys m (termMarks ts) (termMarks us) → getD (termMarks ts) m (0, 0) ≡ e → getD (termMarks us) m (0, 0) ≡ e′ → Alongs (Begin e e′) ts us (suc (placeAmong ts m .0)) (placeAmong ts m .1)
     alongs-step none us m c o p h g s x y = absurd (omega arith)
     alongs-step (more t ts) none m c o p h g s x y = absurd (omega arith)
     alongs-step (more t ts) (more u us) m c o p h g s x y =
         let l = marks-length t in
         let l′ = marks-length u in
-        let at-t : (k : ℕ) → k < letters t → getD (marks t ++ flatMarks ts) k (0, 0) ≡ getD (marks t) k (0, 0) = λ k i. List·getD-append (marks t) (flatMarks ts) (0, 0) k (omega arith) in
-        let at-u : (k : ℕ) → k < letters u → getD (marks u ++ flatMarks us) k (0, 0) ≡ getD (marks u) k (0, 0) = λ k i. List·getD-append (marks u) (flatMarks us) (0, 0) k (omega arith) in
+        let at-t : (k : ℕ) → k < letters t → getD (marks t ++ termMarks ts) k (0, 0) ≡ getD (marks t) k (0, 0) = λ k i. List·getD-append (marks t) (termMarks ts) (0, 0) k (omega arith) in
+        let at-u : (k : ℕ) → k < letters u → getD (marks u ++ termMarks us) k (0, 0) ≡ getD (marks u) k (0, 0) = λ k i. List·getD-append (marks u) (termMarks us) (0, 0) k (omega arith) in
         let both : (k : ℕ) → k < m → k < letters t → k < letters u → keyOf [] (getD (marks t) k (0, 0)) ≡ keyOf [] (getD (marks u) k (0, 0)) = λ k i a b. ap (keyOf []) (sym (at-t k a)) ∙ s k i ∙ ap (keyOf []) (at-u k b) in
         by-cases (decLt m (letters t))
         (λ i.
@@ -196,12 +180,12 @@ module _ (outs : List ℕ) (e e′ : Mark) where
         let d = m - letters t in
         let z : letters t ≡ letters u = step-size outs t u (o .0) (p .0) (λ k a b. both k (omega arith) a b) in
         let w : m ≡ letters t + d = omega arith in
-        let far-t : (k : ℕ) → getD (marks t ++ flatMarks ts) (letters t + k) (0, 0) ≡ getD (flatMarks ts) k (0, 0) = λ k. ap (λ a. getD (marks t ++ flatMarks ts) (a + k) (0, 0)) (sym l) ∙ getD-append-add (marks t) (flatMarks ts) k (0, 0) in
-        let far-u : (k : ℕ) → getD (marks u ++ flatMarks us) (letters t + k) (0, 0) ≡ getD (flatMarks us) k (0, 0) = λ k. ap (λ a. getD (marks u ++ flatMarks us) (a + k) (0, 0)) (z ∙ sym l′) ∙ getD-append-add (marks u) (flatMarks us) k (0, 0) in
+        let far-t : (k : ℕ) → getD (marks t ++ termMarks ts) (letters t + k) (0, 0) ≡ getD (termMarks ts) k (0, 0) = λ k. ap (λ a. getD (marks t ++ termMarks ts) (a + k) (0, 0)) (sym l) ∙ getD-append-add (marks t) (termMarks ts) k (0, 0) in
+        let far-u : (k : ℕ) → getD (marks u ++ termMarks us) (letters t + k) (0, 0) ≡ getD (termMarks us) k (0, 0) = λ k. ap (λ a. getD (marks u ++ termMarks us) (a + k) (0, 0)) (z ∙ sym l′) ∙ getD-append-add (marks u) (termMarks us) k (0, 0) in
         let below = alongs-step ts us d (omega arith) (o .1) (p .1) (omega arith) (omega arith)
         (λ k a. ap (keyOf []) (sym (far-t k)) ∙ s (letters t + k) (omega arith) ∙ ap (keyOf []) (far-u k))
-        (sym (far-t d) ∙ ap (λ a. getD (marks t ++ flatMarks ts) a (0, 0)) (sym w) ∙ x)
-        (sym (far-u d) ∙ ap (λ a. getD (marks u ++ flatMarks us) a (0, 0)) (sym w) ∙ y) in
+        (sym (far-t d) ∙ ap (λ a. getD (marks t ++ termMarks ts) a (0, 0)) (sym w) ∙ x)
+        (sym (far-u d) ∙ ap (λ a. getD (marks u ++ termMarks us) a (0, 0)) (sym w) ∙ y) in
         subst (λ v. Alongs (Begin e e′) (more t ts) (more u us) (suc (v .0)) (v .1)) (sym (ap (placeAmong (more t ts)) w ∙ place-behind t ts d)) (later below))
 
 module _ {A B : Type 0} {R S : Term A → Term B → Type 0} (f : (t : Term A) (u : Term B) → R t u → S t u) where

@@ -4,8 +4,8 @@ ghost use Prim.Native.Nat.{ℕ, _+_, _*_, _≤_, _<_, min};
 ghost use mathlib.Core.Path.{_≡_};
 ghost use lib.ListN.{length, getD};
 ghost use Rattle.pairs.specs.Inner.Pairs.{sides, table, pairByte, Forms, FirstClash, Joined, Added, Merging, JoinsStates, Joinable, JoinsMarks, Searching, Walkable, Walks, WalksPair, WalksAll, Searches};
-use formats::bytes::number;
-use formats::bytes::wide;
+use trees::bytes::number;
+use trees::bytes::wide;
 
 // A pair in the list has six bytes: its two states, its parent, the symbol and the mark at which it was found, and the child called there.
 pub const PAIR: usize = 6;

@@ -1,64 +1,32 @@
 -- Patterns above the common prefixes: what holds the pref(q) of every state is above them, a cut keeps it so, and patterns that nothing cuts are the pref(q).
 -- Assumes nothing.
-use Prim.Native.Nat.{ℕ, suc, _≤_, _<_}
+use Prim.Native.Nat.{ℕ, _<_}
 use native.Mathlib.Decide.{ℕ-discrete}
-use native.Mathlib.Omega.{arith}
 use mathlib.Core.List.{List}
 use mathlib.Core.Logic.{_≢_, by-cases}
-use mathlib.Core.Option.{some}
-use mathlib.Core.Path.{_≡_, refl, sym, ap, _∙_}
-use lib.ListN.{length, getD, replicate}
+use mathlib.Core.Path.{_≡_, refl, sym, _∙_}
+use lib.ListN.{length}
 use Rattle.theory.specs.Inner.Graft.{graft}
 use Rattle.theory.specs.Lcp.{lcp, lcps}
 use Rattle.theory.specs.Pref.{Prefs}
 use Rattle.theory.specs.Prefix.{Pattern, Prefix, any, keeps, Prefixes, no-more, also}
-use Rattle.theory.specs.Term.{Term, Terms, var, bind, binds, mapT}
+use Rattle.theory.specs.Term.{Term, Terms, var, bind, binds}
 use Rattle.theory.specs.Transducer.{Transducer}
 use Rattle.theory.specs.Vars.{AllVars, one, each, EachVars, done, both}
-use Rattle.theory.specs.Wf.{nth, Wf}
+use Rattle.theory.specs.Wf.{Wf}
 use Rattle.theory.proofs.Cut.{lcp-graft, prefs-fixed}
 use Rattle.theory.proofs.Lcps.{lcp-keeps, lcp-right}
-use Rattle.theory.proofs.Prefixes.{prefixes-count, prefix-map, prefix-trans, prefix-antisym}
+use Rattle.theory.proofs.NothingEarlier.{prefix-bind}
+use Rattle.theory.proofs.Prefixes.{prefixes-count, prefix-trans, prefix-antisym}
 use Rattle.theory.proofs.Prefs.{Fixed, fixpoint, pref-largest}
 use Rattle.theory.proofs.PrefsExist.{prefs-exist}
 use Rattle.theory.proofs.Terms.{bind-var}
 use Rattle.theory.proofs.Vars.{all-map}
-use Rattle.formats.specs.Alphabets.{Leaf}
-use Rattle.formats.specs.Inner.Layout.{transducer, Wholes}
-use Rattle.formats.proofs.Sheets.{transducer-over}
-use Rattle.transducer.proofs.Outputs.{ranked-vars}
-use Rattle.prefixes.specs.Alphabet.{alphabet, children-inside, children-of}
+use Rattle.trees.specs.Alphabets.{Leaf}
+use Rattle.forms.specs.Alphabet.{alphabet, children-of}
 use Rattle.prefixes.specs.Inner.Heads.{AllAbove, AllUnder}
 
--- ---- the transducer of whole bodies is well-formed over the alphabet
--- each of r children is of sort 0
-nth-sort : (r i : ℕ) → 1 ≤ i → i ≤ r → nth {A = ℕ} (replicate r 0) i ≡ some 0
-unfolding nth
-nth-sort ℕ.zero i p h = absurd (omega arith)
-nth-sort (suc r) ℕ.zero p h = absurd (omega arith)
-nth-sort (suc r) (suc ℕ.zero) p h = refl
-nth-sort (suc r) (suc (suc i)) p h = nth-sort r (suc i) (omega arith) (omega arith)
-
--- its calls are of its states, on children that are there
-pub machine-wf : {ins outs : List ℕ} {n : ℕ} {start : ℕ → ℕ} {bytes : List ℕ} (l : Leaf ins) → Wholes ins outs n start bytes → Wf (alphabet ins l) (transducer ins outs n start bytes) (λ q. q < n)
-unfolding alphabet transducer nth
-machine-wf {ins} {outs} {n} {start} {bytes} l W =
-    let O = transducer-over ins outs n start bytes W in
-    let M = transducer ins outs n start bytes in
-    record {
-      initial = all-map (λ e c. record { valid = c .state; sort = nth-sort 1 (e .0) (c .from-one) (c .child) }) (ranked-vars outs n 1 (M .initial) (O .initial));
-      rhs = λ q a {sorts} h k.
-          let c = children-inside ins a k in
-          all-map (λ e m. record { valid = m .state; sort = ap (λ z. nth z (e .0)) (c .1) ∙ nth-sort (getD ins a 0) (e .0) (m .from-one) (m .child) })
-          (ranked-vars outs n (getD ins a 0) (M .rhs q a) (O .rhs q a h (c .0)));
-    }
-
 -- ---- prefixes
--- a term is a prefix of what a substitution makes of it
-pub prefix-bind : {A B : Type 0} (t : Term A) (f : A → Term B) → Prefix t (bind t f)
-unfolding mapT
-prefix-bind t f = rw (bind-var t) at (prefix-map (λ a. a) t f)
-
 -- a term is a prefix of itself
 pub prefix-self : {A : Type 0} (t : Term A) → Prefix t t
 prefix-self t = rw (bind-var t) at (prefix-bind t (λ a. var a))

@@ -13,8 +13,8 @@ use lib.ListN.{length, getD, drop, length-drop, drop-of-length-le}
 use lib.Seq.{drop-cons}
 use borrow.Author.Tests.{leb-true}
 use Rattle.theory.specs.Term.{Terms, count}
-use Rattle.formats.specs.Inner.Decode.{Letter, call, symbol, unknown, rests, grown, put, forest}
-use Rattle.formats.proofs.Forest.{count-rests, rests-rests}
+use Rattle.trees.specs.Inner.Decode.{Letter, call, symbol, unknown, rests, nodeIf, put, forest}
+use Rattle.trees.proofs.Forest.{count-rests, rests-rests}
 use Rattle.prefixes.specs.Inner.Patterns.{Ended}
 
 -- ---- one letter in front of some trees
@@ -31,7 +31,7 @@ module _ {A : Type 0} where
   letter-behind (call a) G n h = (omega arith, rw zero-add)
   letter-behind (symbol k m) G n h = by-rank (leb m (count G)) refl h
     where
-      by-rank : (b : Bool) → leb m (count G) ≡ b → suc n ≤ count (grown b k m G) → (m + n ≤ count G) × (rests (m + n) G ≡ rests (suc n) (grown b k m G))
+      by-rank : (b : Bool) → leb m (count G) ≡ b → suc n ≤ count (nodeIf b k m G) → (m + n ≤ count G) × (rests (m + n) G ≡ rests (suc n) (nodeIf b k m G))
       by-rank true e h = (omega (arith, leb-true m (count G) e, count-rests m G), sym (rests-rests m n G))
       by-rank false e h = absurd (omega arith)
   letter-behind unknown G n h = absurd (omega arith)
@@ -42,7 +42,7 @@ module _ {A : Type 0} where
   count-put (call a) G = omega arith
   count-put (symbol k n) G = by-rank (leb n (count G))
     where
-      by-rank : (b : Bool) → count (grown b k n G) ≤ suc (count G)
+      by-rank : (b : Bool) → count (nodeIf b k n G) ≤ suc (count G)
       by-rank true = omega (arith, count-rests n G)
       by-rank false = omega arith
   count-put unknown G = omega arith

@@ -10,7 +10,7 @@ use mathlib.Core.Path.{_≡_, refl, sym, ap, ap₂, _∙_}
 use mathlib.Core.List.{List, [], _∷_, _++_, append-assoc, append-nil}
 use lib.Dec.{ltb, eqb}
 use lib.ListN.{length, getD, take, drop, set, length-append, length-set, List·getD-eq-default}
-use lib.Seq.{slice, slice-empty, length-slice, length-take-le, getD-take, getD-drop, take-add, drop-at, take-take, take-suc-set, drop-drop, take-append-le, take-append-add, sets, sets-eq, length-sets, getD-set-same, getD-set-other}
+use lib.Seq.{slice, slice-empty, length-slice, length-take-le, getD-take, getD-drop, drop-at, take-take, take-suc-set, drop-drop, take-append-le, take-append-add, sets, sets-eq, length-sets, getD-set-same, getD-set-other}
 use borrow.Rule.Slice.PartMut.{putMid, postOf, same-len-mid, mid-len, take-put, drop-put}
 use borrow.Author.Tests.{lt-ltb, le-ltb, eqb-true}
 use Rattle.theory.specs.Inner.Graft.{graft}
@@ -20,17 +20,18 @@ use Rattle.theory.specs.Term.{Term, var, node, Terms, none, more, count, bind, 
 use Rattle.theory.proofs.Lcps.{lcp-left}
 use Rattle.theory.proofs.Prefixes.{prefixes-count}
 use Rattle.theory.proofs.Terms.{conflict, count-binds}
-use Rattle.formats.specs.Code.{Ranked, AllRanked, Call, Mark}
-use Rattle.formats.specs.Inner.Decode.{call, symbol, first, Over, AllOver, Whole}
+use Rattle.trees.specs.Code.{Ranked, AllRanked, Call, Mark}
+use Rattle.trees.specs.Inner.Decode.{call, symbol, first, Over, AllOver, Whole}
 use Rattle.formats.specs.Inner.Layout.{pairs, markAt, markOf}
 use Rattle.formats.specs.Inner.Marked.{part}
-use Rattle.formats.proofs.Codes.{Faithful, exactly, reads-back, code-whole, flat-bind}
-use Rattle.formats.proofs.Deciding.{decides-same}
+use Rattle.trees.proofs.Codes.{Faithful, exactly, reads-back, code-whole, preorder-bind}
+use Rattle.trees.proofs.Deciding.{decides-same}
 use Rattle.formats.proofs.Pairs.{getD-slice, pairs-at, pairs-length, part-cons}
 use Rattle.formats.proofs.Sheets.{whole-ranked}
 use Rattle.transducer.specs.Inner.Written.{spell}
 use Rattle.transducer.proofs.Meaning.{body-read}
 use Rattle.transducer.proofs.Walks.{spell-same}
+use Rattle.forms.proofs.Slices.{slice-from}
 use Rattle.prefixes.specs.Inner.Patterns.{top, topIf, topOf, patternCode, IsPattern, readPattern, headAt, grafted, Begins, Graftable, CutPattern}
 use Rattle.prefixes.specs.Inner.Heads.{Heads, headOf, bodyTerm, Cuttable, CutBy}
 use Rattle.prefixes.proofs.Ends.{letter-inside}
@@ -144,7 +145,7 @@ module _ {outs heads sizes : List ℕ} (T : Heads outs heads sizes) (bytes : Lis
       let R = body-read outs (length sizes) r (part bytes from to) W in
       spell-same (λ i q. headAt heads sizes q) (λ i q. patternCode (h q)) (length sizes) r (part bytes from to) (R .callable) (λ i q p l s. sym (pattern-read outs (headAt heads sizes q) (T .each q s) .1))
       ∙ sym (R .spelled (λ e. patternCode (h (e .1))))
-      ∙ sym (flat-bind (λ u. top ∷ []) (λ k. k) (λ e. h (e .1)) (bodyTerm outs sizes r bytes from to))
+      ∙ sym (preorder-bind (λ u. top ∷ []) (λ k. k) (λ e. h (e .1)) (bodyTerm outs sizes r bytes from to))
 
   pub graft-read : GraftRead outs heads sizes bytes from to r
   unfolding headOf
@@ -154,10 +155,6 @@ module _ {outs heads sizes : List ℕ} (T : Heads outs heads sizes) (bytes : Lis
       record { pattern = rw grafted-code (b .0); read = ap (readPattern outs) grafted-code ∙ b .1 }
 
 -- ---- a pattern of the table
--- the k elements from index f on
-pub slice-from : (l : List ℕ) (f k : ℕ) → f ≤ length l → slice f (f + k) l ≡ take k (drop f l)
-slice-from l f k h = ap (drop f) (take-add f k l) ∙ drop-at (take f l) (take k (drop f l)) f (length-take-le f l h)
-
 -- the n bytes that are lent for the pattern of state q, and the table with them put back as ys
 abbrev pub lentHead : List ℕ → ℕ → ℕ → List ℕ
 lentHead heads q n = take (64 * q + n - 64 * q) (drop (64 * q) heads)

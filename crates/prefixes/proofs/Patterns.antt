@@ -16,11 +16,12 @@ use Rattle.theory.specs.Term.{var, node, Terms, none, more, count}
 use Rattle.theory.specs.Lcp.{lcp, lcps, Patterns}
 use Rattle.theory.proofs.Lcps.{lcp-keeps, lcp-cuts}
 use Rattle.theory.proofs.Terms.{conflict}
-use Rattle.formats.specs.Code.{flat, flats}
-use Rattle.formats.specs.Inner.Decode.{lettersAll, firsts, rests, grown, put, forest}
-use Rattle.formats.specs.Refusal.{Decides}
-use Rattle.formats.proofs.Codes.{single}
-use Rattle.formats.proofs.Forest.{count-firsts, count-rests, all-drop}
+use Rattle.trees.specs.Code.{preorder, preorders}
+use Rattle.theory.specs.Inner.Forests.{lettersAll}
+use Rattle.trees.specs.Inner.Decode.{firsts, rests, nodeIf, put, forest}
+use Rattle.trees.specs.Refusal.{Decides}
+use Rattle.trees.proofs.Codes.{single}
+use Rattle.trees.proofs.Forest.{count-firsts, count-rests, all-drop}
 use Rattle.prefixes.specs.Inner.Patterns.{top, topIf, topOf, patternCode, IsPattern, readPattern, Ended, Alike, Run, CutPattern}
 use Rattle.prefixes.proofs.Ends.{taken, letter-put, Ranks}
 
@@ -39,7 +40,7 @@ byte : (outs : List ℕ) (x : ℕ) (G : Patterns) → 0 < count (put (topOf outs
 unfolding topOf put count
 byte outs x G h = by-tests (ltb x (length outs)) (eqb x top) refl refl h
   where
-    by-rank : (b : Bool) → leb (getD outs x 0) (count G) ≡ b → x < length outs → 0 < count (grown b x (getD outs x 0) G) → Byte outs x G (grown b x (getD outs x 0) G)
+    by-rank : (b : Bool) → leb (getD outs x 0) (count G) ≡ b → x < length outs → 0 < count (nodeIf b x (getD outs x 0) G) → Byte outs x G (nodeIf b x (getD outs x 0) G)
     by-rank true e l h = named l (leb-true _ _ e)
     by-rank false e l h = absurd (omega arith)
 
@@ -66,7 +67,7 @@ top-ranks outs = record { named = λ x h. simp (lt-ltb x (length outs) h); free 
 
 -- ---- what some patterns share, one after the other
 abbrev pub patternCodes : Patterns → List ℕ
-patternCodes ts = flats (λ u. top ∷ []) (λ k. k) ts
+patternCodes ts = preorders (λ u. top ∷ []) (λ k. k) ts
 
 -- the first m share what is first of what all share, and the rest shares the rest
 module _ {A B : Type 0} where
@@ -99,11 +100,11 @@ module _ {A : Type 0} where
   all-split k m F G e = same-split m F G (cc) (cc)
 
   -- the word of trees is that of the first m and that of the rest
-  pub flats-split : {Y : Type 0} (g : A → List Y) (y : ℕ → Y) (m : ℕ) (F : Terms A) → flats g y (firsts m F) ++ flats g y (rests m F) ≡ flats g y F
-  unfolding firsts rests flats
-  flats-split g y ℕ.zero F = refl
-  flats-split g y (suc m) none = refl
-  flats-split g y (suc m) (more t ts) = append-assoc (flat g y t) (flats g y (firsts m ts)) (flats g y (rests m ts)) ∙ ap (λ w. flat g y t ++ w) (flats-split g y m ts)
+  pub preorders-split : {Y : Type 0} (g : A → List Y) (y : ℕ → Y) (m : ℕ) (F : Terms A) → preorders g y (firsts m F) ++ preorders g y (rests m F) ≡ preorders g y F
+  unfolding firsts rests preorders
+  preorders-split g y ℕ.zero F = refl
+  preorders-split g y (suc m) none = refl
+  preorders-split g y (suc m) (more t ts) = append-assoc (preorder g y t) (preorders g y (firsts m ts)) (preorders g y (rests m ts)) ∙ ap (λ w. preorder g y t ++ w) (preorders-split g y m ts)
 
 -- two patterns with one symbol at the root share it, and what their children share
 lcps-node : (k m : ℕ) (F G : Patterns) → m ≤ count F → count F ≡ count G → lcps (more (node k (firsts m F)) (rests m F)) (more (node k (firsts m G)) (rests m G)) ≡ more (node k (firsts m (lcps F G))) (rests m (lcps F G))
@@ -118,12 +119,12 @@ record Turn (F G F′ G′ : Patterns) (v : ℕ) : Type 0 where
 
 -- one byte in both stays, and the patterns are all shared if those behind it are
 same-byte : {outs : List ℕ} {k : ℕ} {F′ G′ F G : Patterns} → Byte outs k F′ F → Byte outs k G′ G → count F ≡ count G → Turn F G F′ G′ k × ((lcps F G ≡ F) ↔ (lcps F′ G′ ≡ F′))
-unfolding count lcp flat
+unfolding count lcp preorder
 same-byte {outs} {k} {F′} {G′} (named l e) (named l′ e′) h =
     let m = getD outs k 0 in
     let c : count F′ ≡ count G′ = omega (arith, count-rests m F′, count-rests m G′) in
     let q = lcps-node k m F′ G′ e c in
-    (record { paired = c; spelled = ap patternCodes q ∙ ap (_∷_ k) (flats-split (λ u. top ∷ []) (λ k. k) m (lcps F′ G′)) }, (λ r. all-split k m (lcps F′ G′) F′ (sym q ∙ r), λ r. q ∙ ap (λ L. more (node k (firsts m L)) (rests m L)) r))
+    (record { paired = c; spelled = ap patternCodes q ∙ ap (_∷_ k) (preorders-split (λ u. top ∷ []) (λ k. k) m (lcps F′ G′)) }, (λ r. all-split k m (lcps F′ G′) F′ (sym q ∙ r), λ r. q ∙ ap (λ L. more (node k (firsts m L)) (rests m L)) r))
 same-byte (named l e) (free l′ e′) h = absurd (omega arith)
 same-byte (free l e) (named l′ e′) h = absurd (omega arith)
 same-byte {outs} {k} {F′} {G′} (free l e) (free l′ e′) h =
@@ -142,7 +143,7 @@ lcps-other (free b e) (free b′ e′) n = refl
 
 -- two bytes: ⊤ is written, and the two patterns are passed
 other-byte : {outs : List ℕ} {k l : ℕ} {F′ G′ F G : Patterns} → Byte outs k F′ F → Byte outs l G′ G → (k ≡ l → ⊥) → count F ≡ count G → Turn F G (rests 1 F) (rests 1 G) top
-unfolding flat
+unfolding preorder
 other-byte {F = F} {G} B C n h = record { paired = omega (arith, count-rests 1 F, count-rests 1 G); spelled = ap patternCodes (lcps-other B C n) }
 
 -- ---- whether anything is cut away
@@ -187,7 +188,7 @@ pub record Cutting (outs before y x : List ℕ) (i j w : ℕ) (cut : Bool) : Typ
 
 -- before the first byte
 pub cutting-start : (outs x y : List ℕ) → IsPattern outs x → IsPattern outs y → Cutting outs x y x 0 0 0 false
-unfolding readPattern lcp flat
+unfolding readPattern lcp preorder
 cutting-start outs x y X Y =
     let s = single (patternsAt outs x 0) (X .one) in
     let e : lcps (patternsAt outs x 0) (patternsAt outs y 0) ≡ more (lcp (readPattern outs x) (readPattern outs y)) none = ap₂ lcps s (single (patternsAt outs y 0) (Y .one)) in
@@ -210,7 +211,7 @@ all-there (more t ts) h = omega arith
 module _ {outs before y x : List ℕ} {i j w : ℕ} {cut : Bool} (M : Cutting outs before y x i j w cut) where
   -- at the end
   pub cutting-done : length x ≤ i → CutPattern outs before y x w cut
-  unfolding forest lcp flat
+  unfolding forest lcp preorder
   cutting-done h =
       let e : patternsAt outs x i ≡ none = ap (forest (topOf outs)) (drop-of-length-le x {i = i} h) in
       let q : lcps (patternsAt outs x i) (patternsAt outs y j) ≡ none = ap (λ F. lcps F (patternsAt outs y j)) e in

@@ -14,12 +14,12 @@ use Rattle.theory.specs.Prefix.{Prefix, any, keeps, no-more, also, Pattern, Ope
 use Rattle.theory.specs.Term.{Term, var, node, Terms, none, more, Tree, bind, count, sub, subs, root, symbolAt}
 use Rattle.theory.specs.Transducer.{Transducer, output, closed, run, pick}
 use Rattle.theory.proofs.Terms.{conflict, subs-zero}
-use Rattle.formats.specs.Alphabets.{inputs, outputs, Leaf}
-use Rattle.formats.specs.Code.{Ranked, flat, Call}
+use Rattle.trees.specs.Alphabets.{inputs, outputs, Leaf}
+use Rattle.trees.specs.Code.{Ranked, preorder, Call}
 use Rattle.formats.specs.Samples.{pairs, M, d, e, M-pref}
 use Rattle.formats.specs.Sheet.{Sheet, countBytes, markBytes, bodyBytes, each, terms}
 use Rattle.transducer.proofs.Samples.{below, leaf}
-use Rattle.prefixes.specs.Alphabet.{alphabet, childrenOf}
+use Rattle.forms.specs.Alphabet.{alphabet, childrenOf}
 
 -- ---- P holds of each address where the pattern has ⊤: so of whatever address is open
 abbrev mutual
@@ -61,7 +61,7 @@ line-ranked = below 2 _ (omega arith)
 
 -- M is its file
 pub M-sheet : Sheet (inputs pairs) (outputs pairs) M 1 M-machine
-unfolding M-machine line inputs outputs Ranked count flat countBytes markBytes bodyBytes each terms
+unfolding M-machine line inputs outputs Ranked count preorder countBytes markBytes bodyBytes each terms
 M-sheet = record {
   counts = 0 ∷ 1 ∷ 0 ∷ 5 ∷ 0 ∷ 7 ∷ [];
   bytes = 1 ∷ 0 ∷ 0 ∷ 0 ∷ 1 ∷ 0 ∷ 0 ∷ 0 ∷ 1 ∷ 0 ∷ 0 ∷ 1 ∷ 0 ∷ 0 ∷ 0 ∷ 0 ∷ 0 ∷ 1 ∷ 0 ∷ 1 ∷ 0 ∷ 0 ∷ 0 ∷ 1 ∷ 0 ∷ 1 ∷ [];

@@ -2,7 +2,6 @@
 -- Assumes nothing.
 use Prim.Native.Nat.{ℕ, _+_, _*_, _≤_, _<_}
 use native.Mathlib.Decide.{ℕ-discrete}
-use native.Mathlib.Nat.{mul-le-mul}
 use native.Mathlib.Omega.{arith}
 use mathlib.Core.Bool.{Bool, true, false}
 use mathlib.Core.List.{List}
@@ -26,19 +25,21 @@ use Rattle.theory.proofs.Prefixes.{prefix-trans}
 use Rattle.theory.proofs.PrefsExist.{total-falls}
 use Rattle.theory.proofs.Sizes.{lcp-same, lcp-smaller}
 use Rattle.theory.proofs.Terms.{conflict}
-use Rattle.formats.specs.Alphabets.{Leaf}
-use Rattle.formats.specs.Inner.Decode.{Whole}
-use Rattle.formats.specs.Inner.Layout.{markOf, body, bodyNumber, bodyCount, transducer}
+use Rattle.trees.specs.Alphabets.{Leaf}
+use Rattle.trees.specs.Inner.Decode.{Whole}
+use Rattle.formats.specs.Inner.Layout.{markOf, body, bodyNumber, transducer}
 use Rattle.formats.specs.Inner.Marked.{part}
-use Rattle.formats.specs.Refusal.{Decides}
+use Rattle.trees.specs.Refusal.{Decides}
 use Rattle.formats.proofs.Pairs.{number-less}
-use Rattle.transducer.specs.Linear.{oneIf}
-use Rattle.prefixes.specs.Alphabet.{alphabet, children-inside}
+use Rattle.theory.specs.Weight.{oneIf}
+use Rattle.forms.specs.Alphabet.{alphabet, children-inside}
 use Rattle.prefixes.specs.Inner.Patterns.{top}
-use Rattle.prefixes.specs.Inner.Heads.{Heads, headOf, Cuttable, CutBy, machine, Layout, Bodies, FixedAt, AllAbove, AllUnder, UnderLeaf, Cuts, CutRhs, CutState, Swept, Flaggable, Followed, Settled}
+use Rattle.prefixes.specs.Inner.Heads.{Heads, headOf, Cuttable, CutBy, Bodies, FixedAt, AllAbove, AllUnder, UnderLeaf, Cuts, CutRhs, CutState, Swept, Followed, Settled}
+use Rattle.forms.specs.Inner.Tables.{machine}
 use Rattle.prefixes.proofs.Grafts.{head-top}
-use Rattle.prefixes.proofs.Above.{prefix-self, prefix-bind, cut-above, above-end}
-pub use Rattle.prefixes.proofs.Above.{machine-wf}
+use Rattle.prefixes.proofs.Above.{prefix-self, cut-above, above-end}
+use Rattle.theory.proofs.NothingEarlier.{prefix-bind}
+use Rattle.forms.proofs.Files.{machine-wf}
 
 -- ---- one cut
 module _ {ins : List ℕ} {M : Transducer ℕ} {n : ℕ} (W : (l : Leaf ins) → Wf (alphabet ins l) M (λ q. q < n))
@@ -111,8 +112,8 @@ module _ {ins outs starts bytes heads sizes other : List ℕ} (B : Bodies ins ou
         table = B .table;
         few-symbols = B .layout .few-symbols;
         state = state;
-        ordered = omega (arith, B .layout .laid .ordered (bodyNumber ins q a) less);
-        inside = omega (arith, B .layout .laid .inside (bodyNumber ins q a + 1) (omega arith));
+        ordered = omega (arith, B .layout .bounds .ordered (bodyNumber ins q a) less);
+        inside = omega (arith, B .layout .bounds .inside (bodyNumber ins q a + 1) (omega arith));
         few = omega (arith, B .layout .few (bodyNumber ins q a) less);
         children = getD ins a 0;
         whole = body-whole;
@@ -193,12 +194,6 @@ module _ {ins outs starts bytes heads₀ sizes₀ other₀ : List ℕ} (B : Bodi
   pub state-end : length ins ≤ a → CutState ins outs starts bytes leaf q heads₀ sizes₀ heads sizes any
   state-end h = record { table = L .table; cuts = L .cuts; fixed = λ e b g. L .passed e b (omega arith) }
 
--- the number of a body, and of the next, are in the table of starts
-pub number-fits : {ins outs starts bytes : List ℕ} {n : ℕ} → Layout ins outs starts bytes n → {q a : ℕ} → q < n → a < length ins → (bodyNumber ins q a < 2049) × (bodyNumber ins q a + 1 < length starts)
-number-fits {ins} {n = n} L {q} {a} h g =
-    let l = number-less ins q n a h g in
-    (omega (arith, mul-le-mul (L .few-states) (L .few-inputs)), omega (arith, L .laid .long))
-
 -- ---- the loop over the states, from the last to the first: those from q on are passed
 pub record SweepLoop (ins outs starts bytes : List ℕ) (leaf : ℕ) (heads₀ sizes₀ other₀ heads sizes other : List ℕ) (any : Bool) (q : ℕ) : Type 0 where
   pub inside : q ≤ length sizes₀
@@ -247,15 +242,6 @@ module _ {ins outs starts bytes heads₀ sizes₀ other₀ : List ℕ} (B : Bodi
   sweep-end h = record { table = L .table; cuts = L .cuts; fixed = λ e p g. L .passed e p (omega arith) g }
 
 -- ---- cuts of the states whose callees changed
--- the numbers of the first body of a state, and of the first of the next state, are in the table of starts
-pub row-fits : {ins starts bytes : List ℕ} {n : ℕ} → Flaggable ins starts bytes n → {p : ℕ} → p < n → (1 + p * length ins + length ins < 2050) × (1 + p * length ins + length ins ≤ bodyCount ins n)
-row-fits {ins} {n = n} F {p} h =
-    let m : (p + 1) * length ins ≤ n * length ins = mul-le-mul (omega arith) (omega arith) in
-    (omega (arith, mul-le-mul (F .few-states) (F .few-inputs)), omega arith)
-
-pub can-flag : {ins outs starts bytes heads sizes other : List ℕ} → Bodies ins outs starts bytes heads sizes other → Flaggable ins starts bytes (length sizes)
-can-flag B = record { few-states = B .layout .few-states; few-inputs = B .layout .few-inputs; laid = B .layout .laid }
-
 -- what is left to cut of n states, and the sum of the words of flags, which is less than 2 ^ 66
 abbrev pub ahead : List ℕ → List ℕ → List ℕ → ℕ → ℕ → ℕ
 ahead outs heads sizes n flags = 73786976294838206464 * total (headOf outs heads sizes) n + flags

@@ -1,10 +1,8 @@
 -- The start of the table of patterns: the right-hand sides for a leaf have no calls, so their symbols are the bytes of a pattern; from there the cuts lead to the common prefixes.
 -- Assumes nothing.
 use Prim.Native.Nat.{ℕ, suc, _+_, _-_, _*_, _≤_, _<_}
-use native.Mathlib.Decide.{ℕ-discrete}
 use native.Mathlib.Omega.{arith}
 use mathlib.Core.List.{List, [], _∷_, _++_, map, append-assoc}
-use mathlib.Core.Logic.{by-cases}
 use mathlib.Core.Path.{_≡_, refl, sym, ap, _∙_}
 use lib.ListN.{length, getD, take, drop, length-map, length-set}
 use lib.Seq.{slice, slice-empty, length-slice, length-take-le, take-at, drop-at, take-take, take-append-le, sets, sets-eq, length-sets, getD-set-same, getD-set-other}
@@ -13,27 +11,24 @@ use Rattle.theory.specs.Inner.Graft.{graft}
 use Rattle.theory.specs.Term.{var, mapT}
 use Rattle.theory.proofs.Cut.{cut-start, forget-self}
 use Rattle.theory.proofs.Prefs.{common-above}
-use Rattle.formats.specs.Alphabets.{Leaf}
-use Rattle.formats.specs.Code.{Mark, flat}
-use Rattle.formats.specs.Inner.Decode.{forest, first, Whole, Over}
+use Rattle.trees.specs.Alphabets.{Leaf}
+use Rattle.trees.specs.Code.{Mark, preorder}
+use Rattle.trees.specs.Inner.Decode.{forest, first, Whole, Over}
 use Rattle.formats.specs.Inner.Layout.{pairs, markOf, body, bodyNumber, transducer}
 use Rattle.formats.specs.Inner.Marked.{part}
-use Rattle.formats.proofs.Codes.{flat-bind}
+use Rattle.trees.proofs.Codes.{preorder-bind}
 use Rattle.formats.proofs.Pairs.{number-less, pairs-length, part-cons}
 use Rattle.formats.proofs.Sheets.{whole-ranked}
 use Rattle.transducer.specs.Inner.Written.{spell, Callable}
 use Rattle.transducer.proofs.Meaning.{body-read}
-use Rattle.prefixes.specs.Alphabet.{alphabet}
+use Rattle.forms.specs.Alphabet.{alphabet}
 use Rattle.prefixes.specs.Inner.Patterns.{top, patternCode, IsPattern, readPattern, headAt}
-use Rattle.prefixes.specs.Inner.Heads.{headOf, machine, Layout, Bodies, AllAbove, UnderLeaf, Settled, names, Startable, Started, AllStartable, AllStarted, Prefixable, Prefixes}
-use Rattle.prefixes.proofs.Grafts.{slice-from, top-letter, over-graft, pattern-back}
-use Rattle.prefixes.proofs.Leaves.{pref-leaf}
-use Rattle.prefixes.proofs.Settling.{machine-wf, number-fits}
-
--- ---- the first leaf
--- if no leaf stands before a, and a is none, then no leaf stands before a + 1
-pub not-leaf : {ins : List ℕ} {a : ℕ} → ((l : Leaf ins) → a ≤ l .symbol) → (getD ins a 0 ≡ 0 → ⊥) → (l : Leaf ins) → a + 1 ≤ l .symbol
-not-leaf {ins} {a} before n l = by-cases (ℕ-discrete a (l .symbol)) (λ e. absurd (n (ap (λ k. getD ins k 0) e ∙ l .rank))) (λ d. omega (arith, before l))
+use Rattle.prefixes.specs.Inner.Heads.{headOf, Bodies, AllAbove, UnderLeaf, Settled, names, Startable, Started, AllStartable, AllStarted, Prefixable, Prefixes}
+use Rattle.forms.specs.Inner.Tables.{machine, Layout}
+use Rattle.forms.proofs.Slices.{slice-from}
+use Rattle.prefixes.proofs.Grafts.{top-letter, over-graft, pattern-back}
+use Rattle.forms.proofs.Leaves.{pref-leaf}
+use Rattle.forms.proofs.Files.{machine-wf, number-fits}
 
 -- ---- the names of the marks
 module _ (bytes : List ℕ) where
@@ -60,12 +55,12 @@ spell-names g n ((suc i, q) ∷ ms) k = absurd (omega (arith, k 0 (omega arith) 
 module _ (outs : List ℕ) (few : length outs ≤ 64) (n r : ℕ) (none : r ≡ 0) (ms : List Mark) (W : Whole (markOf outs n r) ms) where
   -- it has the names of its marks for its code
   names-code : map (λ m. m .1) ms ≡ patternCode (mapT (λ e. tt) (first (forest (markOf outs n r) ms)))
-  unfolding mapT flat
+  unfolding mapT preorder
   names-code =
       let R = body-read outs n r ms W in
       sym (spell-names (λ i q. top ∷ []) n ms (rw none at (R .callable)))
       ∙ sym (R .spelled (λ e. top ∷ []))
-      ∙ sym (flat-bind (λ u. top ∷ []) (λ k. k) (λ e. var tt) (first (forest (markOf outs n r) ms)))
+      ∙ sym (preorder-bind (λ u. top ∷ []) (λ k. k) (λ e. var tt) (first (forest (markOf outs n r) ms)))
 
   -- so they are a pattern, and read as the right-hand side
   pub names-read : IsPattern outs (map (λ m. m .1) ms) × (readPattern outs (map (λ m. m .1) ms) ≡ mapT (λ e. tt) (first (forest (markOf outs n r) ms)))
@@ -151,8 +146,8 @@ module _ {ins starts bytes : List ℕ} {leaf : ℕ} {heads₀ sizes₀ : List �
         let Y = A .layout in
         let less = number-less ins q (length sizes₀) leaf (omega (arith, L .same-sizes)) (A .there) in
         record {
-          ordered = omega (arith, Y .laid .ordered (bodyNumber ins q leaf) less);
-          inside = omega (arith, Y .laid .inside (bodyNumber ins q leaf + 1) (omega arith));
+          ordered = omega (arith, Y .bounds .ordered (bodyNumber ins q leaf) less);
+          inside = omega (arith, Y .bounds .inside (bodyNumber ins q leaf + 1) (omega arith));
           few = omega (arith, Y .few (bodyNumber ins q leaf) less);
           state = there;
           room = omega (arith, A .long, L .same-heads, L .same-sizes);

@@ -2,9 +2,10 @@
 ghost use Prim.Native.Nat.{_+_, _*_, _≤_, _<_};
 ghost use mathlib.Core.Path.{_≡_};
 ghost use lib.ListN.{length};
-ghost use Rattle.prefixes.specs.Inner.Heads.{Flaggable, weight};
-use formats::bytes::number;
-use formats::bytes::wide;
+ghost use Rattle.forms.specs.Inner.Tables.{Bounded};
+ghost use Rattle.prefixes.specs.Inner.Heads.{weight};
+use trees::bytes::number;
+use trees::bytes::wide;
 
 // Sets the flag `bit` of word `word` for each state that the marks number `from` up to `to` call.
 fn flag_calls(marks: &[u8], from: usize, to: usize, word: usize, bit: u64, callers: &mut [u64])
@@ -25,7 +26,7 @@ fn flag_calls(marks: &[u8], from: usize, to: usize, word: usize, bit: u64, calle
 
 // Flags the callers of all of n states; the right-hand sides of a state stand one after the other. State p has flag n - 1 - p.
 pub(crate) fn find_callers(ins: &[u8], starts: &[u16], marks: &[u8], n: usize, callers: &mut [u64])
-    requires { ⌜ Flaggable (now ins) (now starts) (now marks) n × (length (now callers) ≡ 256) ⌝ }
+    requires { ⌜ Bounded (now ins) (now starts) (now marks) n × (length (now callers) ≡ 256) ⌝ }
 {
     let mut p = 0;
     while p < n {

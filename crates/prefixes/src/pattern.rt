@@ -4,10 +4,10 @@ ghost use mathlib.Core.Bool.{true};
 ghost use mathlib.Core.Path.{_≡_};
 ghost use lib.ListN.{length, drop};
 ghost use Rattle.theory.specs.Term.{count};
-ghost use Rattle.formats.specs.Inner.Decode.{forest};
+ghost use Rattle.trees.specs.Inner.Decode.{forest};
 ghost use Rattle.prefixes.specs.Inner.Patterns.{topOf, IsPattern, Ended, Alike, Run, CutPattern, Begins, Graftable, grafted};
-use formats::bytes::wide;
 use formats::file::copy_at;
+use trees::bytes::wide;
 
 // How many bytes of the table of patterns each state has: that of state q stands from byte SLOT * q on.
 pub const SLOT: usize = 64;

@@ -1,8 +1,6 @@
 // The common prefixes of the states (01: heads): a table of patterns, cut until no right-hand side cuts any more.
-ghost use Prim.Native.Nat.{_≤_, _<_};
-ghost use mathlib.Core.Path.{_≡_};
-ghost use lib.ListN.{length, getD};
-ghost use Rattle.formats.specs.Alphabets.{Leaf};
+ghost use Prim.Native.Nat.{_<_};
+ghost use lib.ListN.{length};
 ghost use Rattle.prefixes.specs.Inner.Heads.{Cuttable, CutBy, Bodies, CutRhs, CutState, Swept, Followed, Settled, Startable, Started, AllStartable, AllStarted, Prefixable, Prefixes};
 use crate::callers::Flags;
 use crate::callers::find_callers;
@@ -13,8 +11,9 @@ use crate::callers::other_flags;
 use crate::pattern::SLOT;
 use crate::pattern::cut_pattern;
 use crate::pattern::graft;
-use formats::bytes::number;
-use formats::bytes::wide;
+use forms::leaf::leaf_symbol;
+use trees::bytes::number;
+use trees::bytes::wide;
 
 // Cuts the pattern of state q by the right-hand side of the marks number `from` up to `to`, and says whether that took anything away.
 pub(crate) fn cut_by(
@@ -174,18 +173,6 @@ pub(crate) fn settle(
         follow(ins, outs, starts, marks, heads, sizes, leaf, other);
         more = sweep(ins, outs, starts, marks, heads, sizes, leaf, other);
     }
-}
-
-// The first input symbol of rank 0.
-pub fn leaf_symbol(ins: &[u8]) -> usize
-    requires { ⌜ Leaf (now ins) ⌝ }
-    ensures { λ r. ⌜ (r < length (now (ins .entry))) × (getD (now (ins .entry)) r 0 ≡ 0) × ((l : Leaf (now (ins .entry))) → r ≤ l .symbol) ⌝ }
-{
-    let mut a = 0;
-    while ins[a] != 0 {
-        a += 1;
-    }
-    a
 }
 
 // Makes the marks number `from` up to `to`, which are symbols, the pattern of state q.

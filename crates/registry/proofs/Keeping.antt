@@ -12,16 +12,16 @@ use lib.ListN.{length, take, drop, getElem?, length-drop, take-append-drop}
 use lib.Seq.{sets, sets-eq, length-sets, take-at, drop-at, take-append-le, drop-append-le, take-append-seam, length-take-le, getD-set-same, getD-set-other}
 use Rattle.theory.specs.Registry.{Enter, found, added}
 use Rattle.theory.proofs.Lists.{get-lt}
-use Rattle.formats.specs.Refusal.{Holds}
-use Rattle.formats.proofs.Judging.{accepted-holds, refused-fails}
-use Rattle.registry.specs.Answers.{Enters, CleanFile, Added, Gives}
-use Rattle.registry.specs.Book.{noRecord, recordAt, body, Chained}
+use Rattle.trees.specs.Refusal.{Holds}
+use Rattle.trees.proofs.Judging.{accepted-holds, refused-fails}
+use Rattle.records.specs.Answers.{Enters, CleanFile, Added, Gives}
+use Rattle.records.specs.Book.{noRecord, recordAt, body, Chained}
+use Rattle.records.specs.declared.book.Entered.{Entered}
+use Rattle.records.specs.declared.book.Entered.the-variants.{Number, Refused}
+use Rattle.records.specs.declared.book.Head.{Head}
+use Rattle.records.specs.declared.book.Record.{Record}
+use Rattle.records.proofs.Chains.{body-end}
 use Rattle.registry.specs.Calls.{Book, EntersFile, answerOf, Stays}
-use Rattle.registry.specs.declared.book.Entered.{Entered}
-use Rattle.registry.specs.declared.book.Entered.the-variants.{Number, Refused}
-use Rattle.registry.specs.declared.book.Head.{Head}
-use Rattle.registry.specs.declared.book.Record.{Record}
-use Rattle.registry.proofs.Chains.{body-end}
 
 -- ---- bytes put into an area
 -- a part that ends at `at` or before depends on the bytes before `at` alone

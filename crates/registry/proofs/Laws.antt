@@ -12,7 +12,7 @@ use Rattle.theory.proofs.Registry.{numbers-exact}
 use Rattle.theory.proofs.Terms.{conflict}
 use Rattle.canonical.specs.Answers.{SewAlike}
 use Rattle.canonical.proofs.Laws.{clean-exact, sheets-alike}
-use Rattle.registry.specs.Answers.{CleanFile}
+use Rattle.records.specs.Answers.{CleanFile}
 use Rattle.registry.specs.Calls.{Book, MadeWith, EntersFile, Entries, acceptances, Orderly, Stays}
 use Rattle.registry.proofs.Keeping.{answered-by, bodyOf, stays-refl, stays-trans, unchanged-stays, accepted-there, accepted-counted, items, itemsOf, same-items, accepted-enters}
 use Rattle.registry.proofs.Standing.{made-head, entry-stays, stock-stays, still-chained}

@@ -10,22 +10,22 @@ use lib.ListN.{length, set, drop, replicate, length-append, length-replicate, le
 use lib.Seq.{sets, length-sets}
 use Rattle.theory.specs.Registry.{begun, entered}
 use Rattle.theory.proofs.Terms.{conflict}
-use Rattle.formats.specs.Alphabets.{Alphabets}
-use Rattle.formats.specs.Refusal.{accepted, done, Holds}
+use Rattle.trees.specs.Alphabets.{Alphabets}
+use Rattle.trees.specs.Refusal.{accepted, done, Holds}
 use Rattle.formats.specs.Sheet.{file, sheetCheck}
-use Rattle.formats.proofs.Judging.{pass, accept, accepted-holds, must-accept}
+use Rattle.trees.proofs.Judging.{pass, accept, accepted-holds, must-accept}
 use Rattle.formats.proofs.Sheets.{sheet-counted}
 use Rattle.earliest.specs.Answers.{EarliestFile, formCheck}
 use Rattle.canonical.specs.Answers.{NormalFile}
-use Rattle.registry.specs.Answers.{CleanFile, Lowest, NotHeld, Room, HasPlace, Known, Added, Gives, numberOf}
-use Rattle.registry.specs.Book.{noRecord, recordAt, body, Follow, Unused, Chained}
+use Rattle.records.specs.Answers.{CleanFile, Lowest, NotHeld, Room, HasPlace, Known, Added, Gives, numberOf}
+use Rattle.records.specs.Book.{noRecord, recordAt, body, Follow, Unused, Chained}
+use Rattle.records.specs.declared.book.Entered.{Entered}
+use Rattle.records.specs.declared.book.Entered.the-variants.{Number, Refused}
+use Rattle.records.specs.declared.book.Head.{Head}
+use Rattle.records.specs.declared.book.Record.{Record}
+use Rattle.records.proofs.Chains.{Passed, passed-none, passed-more, passed-same, all-passed, follow-passed}
+use Rattle.records.proofs.Entering.{clean-unique}
 use Rattle.registry.specs.Calls.{Book, MadeWith, EntersFile, Entries, answerOf, Stays}
-use Rattle.registry.specs.declared.book.Entered.{Entered}
-use Rattle.registry.specs.declared.book.Entered.the-variants.{Number, Refused}
-use Rattle.registry.specs.declared.book.Head.{Head}
-use Rattle.registry.specs.declared.book.Record.{Record}
-use Rattle.registry.proofs.Chains.{Passed, passed-none, passed-more, passed-same, all-passed, follow-passed}
-use Rattle.registry.proofs.Entering.{clean-unique}
 use Rattle.registry.proofs.Keeping.{Accepted, answered-by, bodyOf, unchanged-stays, accepted-stays, added-other, added-record, added-stays, put-there}
 
 -- ---- an accepted making

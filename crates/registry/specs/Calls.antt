@@ -6,13 +6,13 @@ use mathlib.Core.Option.{some, Option, none as nothing}
 use mathlib.Core.Path.{_≡_}
 use Rattle.theory.specs.Registry.{History}
 use Rattle.canonical.specs.Answers.{SewAlike}
-use Rattle.registry.specs.Answers.{Makes, CleanFile, Enters}
-use Rattle.registry.specs.Book.{body, Chained}
-use Rattle.registry.specs.declared.book.Head.{Head}
-use Rattle.registry.specs.declared.book.Record.{Record}
-use Rattle.registry.specs.declared.book.Entered.{Entered}
-use Rattle.registry.specs.declared.book.Entered.the-variants as entering
-use Rattle.registry.specs.declared.book.Made.the-variants as making
+use Rattle.records.specs.Answers.{Makes, CleanFile, Enters}
+use Rattle.records.specs.Book.{body, Chained}
+use Rattle.records.specs.declared.book.Head.{Head}
+use Rattle.records.specs.declared.book.Record.{Record}
+use Rattle.records.specs.declared.book.Entered.{Entered}
+use Rattle.records.specs.declared.book.Entered.the-variants as entering
+use Rattle.records.specs.declared.book.Made.the-variants as making
 
 -- head, records and area, as one call leaves them to the next
 pub record Book : Type 0 where

@@ -1,5 +1,2 @@
--- Book: what a registry is. Answers: what its entry points promise. Calls: lists of calls. Inner holds what only inner functions and their proofs speak of.
-pub mod Book
-pub mod Answers
+-- Calls: lists of calls of the entry points. What a registry is and what one call answers say `Book` and `Answers` of `records`.
 pub mod Calls
-pub mod Inner

@@ -2,24 +2,24 @@
 ghost use Prim.Native.Nat.{_≤_, _<_, min};
 ghost use mathlib.Core.Path.{_≡_};
 ghost use lib.ListN.{length};
-ghost use Rattle.registry.specs.Answers.{Makes, Enters, HandsBody};
-ghost use Rattle.registry.specs.Inner.Steps.{Placed, Finds};
-ghost use Rattle.registry.specs.Inner.Surveys.{Surveyed};
-ghost use Rattle.registry.specs.Inner.Writes.{freshRecords, written, added};
-use crate::book::Entered;
-use crate::book::Head;
-use crate::book::Made;
-use crate::book::Record;
-use crate::book::Survey;
-use crate::chain::begin;
-use crate::chain::look;
-use crate::entry::ask;
-use crate::entry::part;
-use crate::entry::place;
-use crate::making::fresh;
-use crate::making::held_body;
-use crate::making::start;
-use crate::search::first_of;
+ghost use Rattle.records.specs.Answers.{Makes, Enters, HandsBody};
+ghost use Rattle.records.specs.Inner.Steps.{Placed, Finds};
+ghost use Rattle.records.specs.Inner.Surveys.{Surveyed};
+ghost use Rattle.records.specs.Inner.Writes.{freshRecords, written, added};
+use records::book::Entered;
+use records::book::Head;
+use records::book::Made;
+use records::book::Record;
+use records::book::Survey;
+use records::chain::begin;
+use records::chain::look;
+use records::entry::ask;
+use records::entry::beginning;
+use records::entry::place;
+use records::making::fresh;
+use records::making::held_body;
+use records::making::start;
+use records::search::first_of;
 
 // How many of n records a registry has to do with.
 fn at_most_33(n: usize) -> usize
@@ -86,7 +86,7 @@ pub fn enter(head: &mut Head, records: &mut [Record], area: &mut [u8], sheet: &[
     let s = survey(records, h, 0);
     let mut file = [0u8; 20483];
     let a = ask(h, records.len(), s, area, sheet, &mut file);
-    let bytes = part(&file, a.size);
+    let bytes = beginning(&file, a.size);
     let n = find(records, a.held, area, bytes);
     let e = place(h, a, n, area, bytes);
     *head = e.head;

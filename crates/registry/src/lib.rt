@@ -1,7 +1,2 @@
-// The registry (01: book): normal forms by number.
-pub mod book;
-pub mod chain;
-pub mod entry;
+// The registry (01: book) over lent memory: normal forms by number.
 pub mod lent;
-pub mod making;
-pub mod search;

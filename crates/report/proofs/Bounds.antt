@@ -12,11 +12,11 @@ use Rattle.theory.specs.Term.{Tree, Symbol, var, node, Terms, none, more, count
 use Rattle.theory.specs.Transducer.{Transducer, output, translate, run, pick}
 use Rattle.theory.proofs.Runs.{output-node, call as called-tree}
 use Rattle.theory.proofs.Terms.{conflict}
-use Rattle.formats.specs.Code.{Ranked, AllRanked, Call, flat, flats, code}
+use Rattle.trees.specs.Code.{Ranked, AllRanked, Call, preorder, preorders, code}
 use Rattle.formats.specs.Sheet.{OverAlphabets}
 use Rattle.transducer.proofs.Outputs.{code-size}
-use Rattle.earliest.proofs.Ranks.{ranked-bind}
-use Rattle.report.specs.Text.{number, rest, separated, placeText}
+use Rattle.discovery.proofs.Ranks.{ranked-bind}
+use Rattle.report.specs.Text.{numberText, rest, separated, placeText}
 use Rattle.report.proofs.Decimals.{number-one, number-two}
 
 -- ---- lists of numbers below m
@@ -29,29 +29,29 @@ low-append m [] ys l k = k
 low-append m (x ∷ xs) ys l k = (l .0, low-append m xs ys (l .1) k)
 
 -- with a byte between them, if each has at most n digits
-module _ (s m n : ℕ) (digits : (x : ℕ) → x < m → length (number x) ≤ n) where
+module _ (s m n : ℕ) (digits : (x : ℕ) → x < m → length (numberText x) ≤ n) where
   rest-long : (xs : List ℕ) → Low m xs → length (rest s xs) ≤ (n + 1) * length xs
   unfolding rest
   rest-long [] l = omega arith
-  rest-long (x ∷ xs) l = omega (arith, length-append (s ∷ number x) (rest s xs), digits x (l .0), rest-long xs (l .1), mul-suc (n + 1) (length xs))
+  rest-long (x ∷ xs) l = omega (arith, length-append (s ∷ numberText x) (rest s xs), digits x (l .0), rest-long xs (l .1), mul-suc (n + 1) (length xs))
 
   separated-long : (xs : List ℕ) → Low m xs → 1 ≤ length xs → length (separated s xs) + 1 ≤ (n + 1) * length xs
   unfolding separated
   separated-long [] l h = absurd (omega arith)
-  separated-long (x ∷ xs) l h = omega (arith, length-append (number x) (rest s xs), digits x (l .0), rest-long xs (l .1), mul-suc (n + 1) (length xs))
+  separated-long (x ∷ xs) l h = omega (arith, length-append (numberText x) (rest s xs), digits x (l .0), rest-long xs (l .1), mul-suc (n + 1) (length xs))
 
 -- ---- the symbols of a tree over an alphabet
 module _ (ins : List ℕ) where
   mutual
-    unfolding Ranked flat
+    unfolding Ranked preorder
 
     pub code-low : (d : Tree) → Ranked (λ x. ⊥) ins d → Low (length ins) (code d)
     code-low (var x) r = absurd x
     code-low (node k ts) r = (r .0, codes-low ts (r .2))
 
-    codes-low : (ts : Terms ⊥) → AllRanked (λ x. ⊥) ins ts → Low (length ins) (flats (λ x. absurd x) (λ k. k) ts)
+    codes-low : (ts : Terms ⊥) → AllRanked (λ x. ⊥) ins ts → Low (length ins) (preorders (λ x. absurd x) (λ k. k) ts)
     codes-low none r = tt
-    codes-low (more t ts) r = low-append (length ins) (code t) (flats (λ x. absurd x) (λ k. k) ts) (code-low t (r .0)) (codes-low ts (r .1))
+    codes-low (more t ts) r = low-append (length ins) (code t) (preorders (λ x. absurd x) (λ k. k) ts) (code-low t (r .0)) (codes-low ts (r .1))
 
 -- ---- an output tree is over the output alphabet
 module _ {ins outs : List ℕ} {n : ℕ} {M : Transducer ℕ} (O : OverAlphabets ins outs n M) where

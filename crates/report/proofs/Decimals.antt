@@ -9,7 +9,7 @@ use mathlib.Core.Logic.{by-cases}
 use mathlib.Core.Path.{_≡_, refl, _∙_}
 use lib.ListN.{length, length-append}
 use borrow.Author.Tests.{lt-ltb, le-ltb}
-use Rattle.report.specs.Text.{decimal, number}
+use Rattle.report.specs.Text.{decimal, numberText}
 
 one-digit : (f n : ℕ) → n < 10 → decimal f n ≡ (48 + n) ∷ []
 unfolding decimal
@@ -47,20 +47,20 @@ short (suc f) zero n h = rw (one-digit (suc f) n h) (omega arith)
 short (suc f) (suc g) n h = by-cases (decLt n 10) (λ l. rw (one-digit (suc f) n l) (omega arith)) (λ l. rw (last-digit f n (omega arith)) (omega (arith, length-append (decimal f (n / 10)) ((48 + n % 10) ∷ []), short f g (n / 10) (tenth-below g h))))
 
 -- ---- a number below 10,000
-pub number-digit : (n : ℕ) → n < 10 → number n ≡ (48 + n) ∷ []
+pub number-digit : (n : ℕ) → n < 10 → numberText n ≡ (48 + n) ∷ []
 number-digit n h = one-digit 3 n h
 
-pub number-more : (n : ℕ) → n < 10000 → 10 ≤ n → number n ≡ number (n / 10) ++ ((48 + n % 10) ∷ [])
+pub number-more : (n : ℕ) → n < 10000 → 10 ≤ n → numberText n ≡ numberText (n / 10) ++ ((48 + n % 10) ∷ [])
 number-more n h g = last-digit 2 n g ∙ rw (enough 2 (n / 10) (tenth-below 2 h))
 
-pub number-four : (n : ℕ) → length (number n) ≤ 4
+pub number-four : (n : ℕ) → length (numberText n) ≤ 4
 number-four n = most 3 n
 
-pub number-three : (n : ℕ) → n < 1000 → length (number n) ≤ 3
+pub number-three : (n : ℕ) → n < 1000 → length (numberText n) ≤ 3
 number-three n h = short 3 2 n h
 
-pub number-two : (n : ℕ) → n < 100 → length (number n) ≤ 2
+pub number-two : (n : ℕ) → n < 100 → length (numberText n) ≤ 2
 number-two n h = short 3 1 n h
 
-pub number-one : (n : ℕ) → n < 10 → length (number n) ≤ 1
+pub number-one : (n : ℕ) → n < 10 → length (numberText n) ≤ 1
 number-one n h = short 3 0 n h

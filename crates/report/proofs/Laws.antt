@@ -6,13 +6,13 @@ use mathlib.Core.List.{List, _++_}
 use mathlib.Core.Logic.{_⊎_, inl, inr}
 use mathlib.Core.Path.{_≡_, ap}
 use lib.ListN.{length, take, length-append}
-use Rattle.formats.specs.Refusal.{Outcome, accepted, refused, Holds, Judged}
-use Rattle.formats.proofs.Judging.{accepted-holds}
+use Rattle.trees.specs.Refusal.{Outcome, accepted, refused, Holds, Judged}
+use Rattle.trees.proofs.Judging.{accepted-holds}
 use Rattle.formats.proofs.Laws.{written-take}
 use Rattle.canonical.specs.Answers.{SewAlike}
 use Rattle.comparison.specs.Answers.{pairCheck}
 use Rattle.report.specs.Answers.{textArea, Shows, Report, printed, Lines, Reports}
-use Rattle.report.specs.Text.{number, refusedWord, firstWord, secondWord, endOfLine, sizesLine, alikeLine}
+use Rattle.report.specs.Text.{numberText, refusedWord, firstWord, secondWord, endOfLine, sizesLine, alikeLine}
 use Rattle.report.specs.declared.report.Reported.{Reported}
 use Rattle.report.specs.declared.report.Reported.the-variants as reported
 use Rattle.report.proofs.Decimals.{number-four}
@@ -36,7 +36,7 @@ module _ {stock s s′ : List ℕ} where
     where
       go : (o : Outcome (List ℕ)) → Judged Unit (Report stock s s′) (pairCheck stock s s′) o → text ≡ printed o → length text ≤ textArea
       go (accepted t) J e = let w = accepted-holds J in omega (arith, ap length e, three-short (w .0) (w .1))
-      go (refused k) J e = omega (arith, ap length e, length-append (refusedWord ++ number k) endOfLine, length-append refusedWord (number k), number-four k)
+      go (refused k) J e = omega (arith, ap length e, length-append (refusedWord ++ numberText k) endOfLine, length-append refusedWord (numberText k), number-four k)
 
   module _ {area after : List ℕ} {r : Reported} {n : ℕ} (J : Reports stock s s′ area after r) (e : r ≡ reported.Bytes n) where
     -- so an area that is not refused has room for it

@@ -7,12 +7,12 @@ use mathlib.Core.List.{List, [], _∷_, _++_}
 use mathlib.Core.Path.{_≡_, refl, ap, sym, _∙_}
 use lib.ListN.{length, getD, drop, set, length-append, drop-of-length-le}
 use lib.Seq.{length-sets, drop-cons}
-use Rattle.formats.specs.Refusal as refusals
-use Rattle.formats.specs.declared.refusal.Refusal.{Refusal}
-use Rattle.formats.specs.declared.refusal.Refusal.the-variants.{ShortArea, BadAlphabets, BadTree, BadContents, BadBody, LongOutput, OverLimits, FullRegistry, BadRegistry}
+use Rattle.trees.specs.Refusal as refusals
+use Rattle.trees.specs.declared.refusal.Refusal.{Refusal}
+use Rattle.trees.specs.declared.refusal.Refusal.the-variants.{ShortArea, BadAlphabets, BadTree, BadContents, BadBody, LongOutput, OverLimits, FullRegistry, BadRegistry}
 use Rattle.formats.proofs.Writing.{Writing, sets-append, begin, room-word, word-more, finish}
 use Rattle.report.specs.Inner.Writing.{Wrote}
-use Rattle.report.specs.Text.{number, rest, separated, differWord, atWord, sizesLine, placeText, symbolText, differLine}
+use Rattle.report.specs.Text.{numberText, rest, separated, differWord, atWord, sizesLine, placeText, symbolText, differLine}
 
 -- one byte
 pub byte-at : (t : List ℕ) {at m to : ℕ} (x : ℕ) → m ≡ at → to ≡ at + 1 → Wrote t (set t m x) at to (x ∷ [])
@@ -46,15 +46,15 @@ module _ (s : ℕ) (items : List ℕ) where
       go [] e = refl
       go (x ∷ xs) e = absurd (omega arith)
 
-  separated-first : 0 < length items → separated s items ≡ number (getD items 0 0) ++ rest s (drop 1 items)
+  separated-first : 0 < length items → separated s items ≡ numberText (getD items 0 0) ++ rest s (drop 1 items)
   unfolding separated
   separated-first h = go items h
     where
-      go : (items : List ℕ) → 0 < length items → separated s items ≡ number (getD items 0 0) ++ rest s (drop 1 items)
+      go : (items : List ℕ) → 0 < length items → separated s items ≡ numberText (getD items 0 0) ++ rest s (drop 1 items)
       go [] h = absurd (omega arith)
       go (x ∷ xs) h = refl
 
-  rest-next : (k : ℕ) → k < length items → rest s (drop k items) ≡ (s ∷ number (getD items k 0)) ++ rest s (drop (k + 1) items)
+  rest-next : (k : ℕ) → k < length items → rest s (drop k items) ≡ (s ∷ numberText (getD items k 0)) ++ rest s (drop (k + 1) items)
   unfolding rest
   rest-next k h = rw (add-one, drop-cons items k 0 h)
 
@@ -68,27 +68,27 @@ module _ (s : ℕ) (items : List ℕ) where
   none-separated t at e = wrote-as (sym (separated-none e)) (record { wrote = refl; behind = omega arith })
 
   -- the first one is written
-  pub first-room : (t : List ℕ) (at : ℕ) → 0 < length items → at + length (separated s items) ≤ length t → at + length (number (getD items 0 0)) ≤ length t
-  first-room t at some h = omega (arith, ap length (separated-first some), length-append (number (getD items 0 0)) (rest s (drop 1 items)))
+  pub first-room : (t : List ℕ) (at : ℕ) → 0 < length items → at + length (separated s items) ≤ length t → at + length (numberText (getD items 0 0)) ≤ length t
+  first-room t at some h = omega (arith, ap length (separated-first some), length-append (numberText (getD items 0 0)) (rest s (drop 1 items)))
 
-  module _ {t u : List ℕ} {at m : ℕ} (some : 0 < length items) (W : Wrote t u at m (number (getD items 0 0))) where
+  module _ {t u : List ℕ} {at m : ℕ} (some : 0 < length items) (W : Wrote t u at m (numberText (getD items 0 0))) where
     pub first-separated : Separating u m 1 m u
     first-separated = record { inside = some; writing = begin (rest s (drop 1 items)) u m }
 
     rest-room : at + length (separated s items) ≤ length t → m + length (rest s (drop 1 items)) ≤ length u
-    rest-room h = omega (arith, ap length (separated-first some), length-append (number (getD items 0 0)) (rest s (drop 1 items)), W .behind, wrote-long W)
+    rest-room h = omega (arith, ap length (separated-first some), length-append (numberText (getD items 0 0)) (rest s (drop 1 items)), W .behind, wrote-long W)
 
     -- and the others
     module _ {k to : ℕ} {w : List ℕ} (S : Separating u m k to w) where
-      pub next-room : k < length items → at + length (separated s items) ≤ length t → to + 1 + length (number (getD items k 0)) ≤ length w
-      next-room there h = omega (arith, room-word (S .writing) (s ∷ number (getD items k 0)) (rest s (drop (k + 1) items)) (rest-next k there) (rest-room h))
+      pub next-room : k < length items → at + length (separated s items) ≤ length t → to + 1 + length (numberText (getD items k 0)) ≤ length w
+      next-room there h = omega (arith, room-word (S .writing) (s ∷ numberText (getD items k 0)) (rest s (drop (k + 1) items)) (rest-next k there) (rest-room h))
 
       pub all-separated : length items ≤ k → Wrote t w at to (separated s items)
       unfolding rest
       all-separated h = let f = finish (S .writing) (ap (rest s) (drop-of-length-le items {i = k} h)) in wrote-as (sym (separated-first some)) (then W (record { wrote = f .1; behind = f .0 }))
 
-  pub next-separated : {start t u : List ℕ} {from k to m : ℕ} → Separating start from k to t → k < length items → Wrote (set t to s) u (to + 1) m (number (getD items k 0)) → Separating start from (k + 1) m u
-  next-separated {t = t} {k = k} {to} S there W = let N = then (one-byte t to s) W in record { inside = omega arith; writing = word-more (S .writing) (s ∷ number (getD items k 0)) (rest s (drop (k + 1) items)) (rest-next k there) (N .behind) (N .wrote) }
+  pub next-separated : {start t u : List ℕ} {from k to m : ℕ} → Separating start from k to t → k < length items → Wrote (set t to s) u (to + 1) m (numberText (getD items k 0)) → Separating start from (k + 1) m u
+  next-separated {t = t} {k = k} {to} S there W = let N = then (one-byte t to s) W in record { inside = omega arith; writing = word-more (S .writing) (s ∷ numberText (getD items k 0)) (rest s (drop (k + 1) items)) (rest-next k there) (N .behind) (N .wrote) }
 
 -- ---- an address
 pub root-text : (v : List ℕ) → length v ≡ 0 → placeText v ≡ 45 ∷ []
@@ -103,28 +103,28 @@ below-text (x ∷ v) f = refl
 rest-as-long : (s t : ℕ) (xs : List ℕ) → length (rest s xs) ≡ length (rest t xs)
 unfolding rest
 rest-as-long s t [] = refl
-rest-as-long s t (x ∷ xs) = omega (arith, length-append (number x) (rest s xs), length-append (number x) (rest t xs), rest-as-long s t xs)
+rest-as-long s t (x ∷ xs) = omega (arith, length-append (numberText x) (rest s xs), length-append (numberText x) (rest t xs), rest-as-long s t xs)
 
 pub below-room : (at n : ℕ) (v : List ℕ) → (length v ≡ 0 → ⊥) → at + length (placeText v) ≤ n → (s : ℕ) → at + length (separated s v) ≤ n
 unfolding separated
 below-room at n [] e h s = absurd (e refl)
-below-room at n (x ∷ xs) e h s = omega (arith, ap length (below-text (x ∷ xs) e), length-append (number x) (rest s xs), length-append (number x) (rest 46 xs), rest-as-long s 46 xs)
+below-room at n (x ∷ xs) e h s = omega (arith, ap length (below-text (x ∷ xs) e), length-append (numberText x) (rest s xs), length-append (numberText x) (rest 46 xs), rest-as-long s 46 xs)
 
 -- ---- the line of a normal form
 module _ (word : List ℕ) (states marks : ℕ) where
   -- how long it is
-  pub sizes-long : length (sizesLine word states marks) ≡ length word + length (number states) + length (number marks) + 2
+  pub sizes-long : length (sizesLine word states marks) ≡ length word + length (numberText states) + length (numberText marks) + 2
   sizes-long =
-      let a = word ++ number states in
-      let b = a ++ (32 ∷ number marks) in
-      omega (arith, length-append word (number states), length-append a (32 ∷ number marks), length-append b (10 ∷ []))
+      let a = word ++ numberText states in
+      let b = a ++ (32 ∷ numberText marks) in
+      omega (arith, length-append word (numberText states), length-append a (32 ∷ numberText marks), length-append b (10 ∷ []))
 
   -- and how it is written
-  pub sizes-written : {t₀ t₁ t₂ t₃ t₄ t₅ : List ℕ} {p₀ p₁ p₂ p₃ p₄ p₅ : ℕ} → Wrote t₀ t₁ p₀ p₁ word → Wrote t₁ t₂ p₁ p₂ (number states) → Wrote t₂ t₃ p₂ p₃ (32 ∷ []) → Wrote t₃ t₄ p₃ p₄ (number marks) → Wrote t₄ t₅ p₄ p₅ (10 ∷ []) → Wrote t₀ t₅ p₀ p₅ (sizesLine word states marks)
+  pub sizes-written : {t₀ t₁ t₂ t₃ t₄ t₅ : List ℕ} {p₀ p₁ p₂ p₃ p₄ p₅ : ℕ} → Wrote t₀ t₁ p₀ p₁ word → Wrote t₁ t₂ p₁ p₂ (numberText states) → Wrote t₂ t₃ p₂ p₃ (32 ∷ []) → Wrote t₃ t₄ p₃ p₄ (numberText marks) → Wrote t₄ t₅ p₄ p₅ (10 ∷ []) → Wrote t₀ t₅ p₀ p₅ (sizesLine word states marks)
   sizes-written A B C D E = then (then (then A B) (then C D)) E
 
 -- ---- the line of a refusal: its number has one digit
-pub refusal-low : (r : Refusal) → refusals.number r < 10
+pub refusal-low : (r : Refusal) → refusals.refusalNumber r < 10
 refusal-low ShortArea = omega arith
 refusal-low BadAlphabets = omega arith
 refusal-low BadTree = omega arith

@@ -10,16 +10,16 @@ use lib.ListN.{length, take}
 use Rattle.theory.specs.Size.{size}
 use Rattle.theory.specs.Term.{Tree}
 use Rattle.theory.specs.Transducer.{Transducer, translate}
-use Rattle.formats.specs.Alphabets.{inputs, outputs}
-use Rattle.formats.specs.Refusal.{number, accepted, refused, done, Holds}
-use Rattle.formats.specs.Code.{code}
+use Rattle.trees.specs.Alphabets.{inputs, outputs}
+use Rattle.trees.specs.Refusal.{refusalNumber, accepted, refused, done, Holds}
+use Rattle.trees.specs.Code.{code}
 use Rattle.formats.specs.Sheet.{longest, Sheet}
-use Rattle.formats.specs.declared.refusal.Refusal.{Refusal}
-use Rattle.formats.proofs.Judging.{pass, accept, accepted-holds, refused-fails, refused-early}
+use Rattle.trees.specs.declared.refusal.Refusal.{Refusal}
+use Rattle.trees.proofs.Judging.{pass, accept, accepted-holds, refused-fails, refused-early}
 use Rattle.formats.proofs.Laws.{written-take}
 use Rattle.transducer.proofs.Outputs.{code-size}
-use Rattle.earliest.specs.declared.earliest.Formed.{Formed}
-use Rattle.earliest.specs.declared.earliest.Formed.the-variants as formed
+use Rattle.forms.specs.declared.write.Formed.{Formed}
+use Rattle.forms.specs.declared.write.Formed.the-variants as formed
 use Rattle.canonical.specs.Answers.{SewAlike, Cleans}
 use Rattle.witness.specs.Difference.{treeArea, addressArea, Difference}
 use Rattle.comparison.specs.Answers.{Differ, pairCheck, Compares}
@@ -163,5 +163,5 @@ module _ {stock s s′ tree tree′ address address′ : List ℕ} {r : Comparis
       pub differ-reported : {area u after : List ℕ} {m n : ℕ} → textArea ≤ length area → WroteBoth stock s s′ area u m → Wrote u after m n (differLine (take (nodes - 0) tree′) (take (numbers - 0) address′) b b′) → Reports stock s s′ area after (reported.Bytes n)
       differ-reported room B W = three-lines room differ-holds (inr (record { tree = answer .shown; place = answer .place; left = b; right = b′; differ = answer .differ; says = line-is })) B W
 
-  pub refusal-reported : {x : Refusal} {area after : List ℕ} {n : ℕ} → r ≡ compared.Refused x → treeArea ≤ length tree → addressArea ≤ length address → textArea ≤ length area → Wrote area after 0 n (refusedLine (number x)) → Reports stock s s′ area after (reported.Bytes n)
-  refusal-reported {x} e h h′ room W = printed-text room (record { outcome = refused (number x); judged = refused-early (pairCheck stock s s′) done tt (past (h, h′) (rw e at J)); says = refl }) W
+  pub refusal-reported : {x : Refusal} {area after : List ℕ} {n : ℕ} → r ≡ compared.Refused x → treeArea ≤ length tree → addressArea ≤ length address → textArea ≤ length area → Wrote area after 0 n (refusedLine (refusalNumber x)) → Reports stock s s′ area after (reported.Bytes n)
+  refusal-reported {x} e h h′ room W = printed-text room (record { outcome = refused (refusalNumber x); judged = refused-early (pairCheck stock s s′) done tt (past (h, h′) (rw e at J)); says = refl }) W

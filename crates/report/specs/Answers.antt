@@ -7,9 +7,9 @@ use lib.ListN.{length}
 use lib.Seq.{sets}
 use Rattle.theory.specs.Term.{Tree}
 use Rattle.theory.specs.Transducer.{Transducer}
-use Rattle.formats.specs.Alphabets.{inputs, outputs}
-use Rattle.formats.specs.Code.{code}
-use Rattle.formats.specs.Refusal.{Outcome, accepted, refused, number, Judged, check, done}
+use Rattle.trees.specs.Alphabets.{inputs, outputs}
+use Rattle.trees.specs.Code.{code}
+use Rattle.trees.specs.Refusal.{Outcome, accepted, refused, refusalNumber, Judged, check, done}
 use Rattle.formats.specs.Sheet.{Sheet}
 use Rattle.canonical.specs.Answers.{SewAlike, NormalFile}
 use Rattle.witness.specs.Difference.{Difference}
@@ -64,7 +64,7 @@ pub record Lines (stock s s′ text : List ℕ) : Type 0 where
 -- how many bytes were written, or the refusal of the area
 abbrev pub reportedAs : Reported → Outcome ℕ
 reportedAs (reported.Bytes n) = accepted n
-reportedAs (reported.Refused r) = refused (number r)
+reportedAs (reported.Refused r) = refused (refusalNumber r)
 
 -- the area begins with the text, and keeps what stands behind it
 pub record Prints (stock s s′ area area′ : List ℕ) (n : ℕ) : Type 0 where

@@ -14,17 +14,17 @@ decimal zero n = (48 + n) ∷ []
 decimal (suc f) n = digitsIf (ltb n 10) ((48 + n) ∷ []) (decimal f (n / 10) ++ ((48 + n % 10) ∷ []))
 
 -- a number below 10,000
-abbrev pub number : ℕ → List ℕ
-number n = decimal 3 n
+abbrev pub numberText : ℕ → List ℕ
+numberText n = decimal 3 n
 
 -- numbers in decimal with the byte s between them
 unfoldable pub rest : ℕ → List ℕ → List ℕ
 rest s [] = []
-rest s (x ∷ xs) = s ∷ number x ++ rest s xs
+rest s (x ∷ xs) = s ∷ numberText x ++ rest s xs
 
 unfoldable pub separated : ℕ → List ℕ → List ℕ
 separated s [] = []
-separated s (x ∷ xs) = number x ++ rest s xs
+separated s (x ∷ xs) = numberText x ++ rest s xs
 
 -- ---- words: "refused ", "first ", "second ", "alike", "differ ", " at "
 abbrev pub refusedWord : List ℕ
@@ -51,11 +51,11 @@ endOfLine = 10 ∷ []
 -- ---- lines
 -- "refused 2"
 abbrev pub refusedLine : ℕ → List ℕ
-refusedLine k = refusedWord ++ number k ++ endOfLine
+refusedLine k = refusedWord ++ numberText k ++ endOfLine
 
 -- "first 1 7": a word, the states and the marks (01: passes and marks of the clean sheet)
 abbrev pub sizesLine : List ℕ → ℕ → ℕ → List ℕ
-sizesLine word states marks = word ++ number states ++ (32 ∷ number marks) ++ endOfLine
+sizesLine word states marks = word ++ numberText states ++ (32 ∷ numberText marks) ++ endOfLine
 
 abbrev pub alikeLine : List ℕ
 alikeLine = alikeWord ++ endOfLine

@@ -1,7 +1,7 @@
 // What the program `sheets` prints.
 ghost use Prim.Native.Nat.{_+_, _≤_};
 ghost use lib.ListN.{length};
-ghost use Rattle.formats.specs.Refusal.{Holds};
+ghost use Rattle.trees.specs.Refusal.{Holds};
 ghost use Rattle.comparison.specs.Answers.{pairCheck};
 ghost use Rattle.report.specs.Answers.{Reports};
 ghost use Rattle.report.specs.Inner.Writing.{cleanCheck, WroteNormal, WroteBoth};
@@ -12,8 +12,8 @@ use crate::text::write_sizes;
 use canonical::normal::clean;
 use comparison::compare::Comparison;
 use comparison::compare::compare;
-use earliest::earliest::Formed;
-use formats::refusal::Refusal;
+use forms::write::Formed;
+use trees::refusal::Refusal;
 
 // How many bytes of text were written, or the refusal of the area.
 pub enum Reported {

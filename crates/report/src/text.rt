@@ -1,15 +1,14 @@
 // Pieces of text, written into an area from a position on; each function answers the position behind what it wrote.
 ghost use Prim.Native.Nat.{_+_, _≤_, _<_};
 ghost use mathlib.Core.List.{_∷_};
-ghost use mathlib.Core.Path.{_≡_};
 ghost use lib.ListN.{length};
-ghost use Rattle.formats.specs.Refusal as refusals;
-ghost use Rattle.report.specs.Text.{number, separated, placeText, symbolText, refusedLine, sizesLine, alikeLine, differLine};
+ghost use Rattle.trees.specs.Refusal as refusals;
+ghost use Rattle.report.specs.Text.{numberText, separated, placeText, symbolText, refusedLine, sizesLine, alikeLine, differLine};
 ghost use Rattle.report.specs.Inner.Writing.{Wrote};
-use formats::bytes::wide;
 use formats::file::copy_at;
-use formats::refusal::Refusal;
-use formats::refusal::number_of;
+use trees::bytes::wide;
+use trees::refusal::Refusal;
+use trees::refusal::number_of;
 
 // A word as it stands.
 pub(crate) fn write_word(text: &mut [u8], at: usize, word: &[u8]) -> usize
@@ -22,8 +21,8 @@ pub(crate) fn write_word(text: &mut [u8], at: usize, word: &[u8]) -> usize
 
 // A number below 10,000 in decimal.
 pub(crate) fn write_number(text: &mut [u8], at: usize, n: usize) -> usize
-    requires { ⌜ (n < 10000) × (at + length (number n) ≤ length (now text)) ⌝ }
-    ensures { λ r. ⌜ Wrote (now (text .entry)) (now (text .exit)) at r (number n) ⌝ }
+    requires { ⌜ (n < 10000) × (at + length (numberText n) ≤ length (now text)) ⌝ }
+    ensures { λ r. ⌜ Wrote (now (text .entry)) (now (text .exit)) at r (numberText n) ⌝ }
 {
     if n < 10 {
         text[at] = (48 + n) as u8;
@@ -78,7 +77,7 @@ pub(crate) fn write_symbol(text: &mut [u8], at: usize, k: usize) -> usize
 // The line of a refusal.
 pub(crate) fn write_refused(text: &mut [u8], r: Refusal) -> usize
     requires { ⌜ 10 ≤ length (now text) ⌝ }
-    ensures { λ n. ⌜ Wrote (now (text .entry)) (now (text .exit)) 0 n (refusedLine (refusals.number r)) ⌝ }
+    ensures { λ n. ⌜ Wrote (now (text .entry)) (now (text .exit)) 0 n (refusedLine (refusals.refusalNumber r)) ⌝ }
 {
     let a = write_word(text, 0, b"refused ");
     let b = write_number(text, a, number_of(r) as usize);

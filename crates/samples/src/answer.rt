@@ -1,9 +1,9 @@
 // What is printed: the parts of an answer.
-use earliest::earliest::Formed;
-use formats::bytes::wide;
-use formats::refusal::Refusal;
-use formats::refusal::number_of;
+use forms::write::Formed;
 use libc::STDOUT_FILENO;
+use trees::bytes::wide;
+use trees::refusal::Refusal;
+use trees::refusal::number_of;
 
 pub(crate) fn text(s: &[u8]) {
     io::write_all(STDOUT_FILENO, s);

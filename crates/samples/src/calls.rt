@@ -5,20 +5,20 @@ use comparison::compare::Comparison;
 use comparison::compare::compare;
 use comparison::shorter::shorter;
 use earliest::earliest::earliest_form;
-use formats::alphabet::AlphabetsRead;
-use formats::alphabet::read_alphabets;
 use formats::file::FileRead;
 use formats::file::FileWritten;
 use formats::file::read_transducer;
 use formats::file::write_transducer;
-use formats::tree::TreeRead;
-use formats::tree::read_tree;
-use transducer::address::Found;
-use transducer::address::symbol_at;
-use transducer::linear::LinearTest;
-use transducer::linear::is_linear;
+use queries::address::Found;
+use queries::address::symbol_at;
+use queries::linear::LinearTest;
+use queries::linear::is_linear;
 use transducer::translate::Translation;
 use transducer::translate::translate;
+use trees::alphabet::AlphabetsRead;
+use trees::alphabet::read_alphabets;
+use trees::tree::TreeRead;
+use trees::tree::read_tree;
 
 pub(crate) fn stock(stock: &[u8]) {
     match read_alphabets(stock) {

@@ -13,16 +13,16 @@ ghost use Prim.Native.Nat.{_≤_};
 use crate::answer;
 use crate::calls;
 use crate::reader::NO_NUMBER;
+use crate::reader::between;
 use crate::reader::count;
 use crate::reader::nth;
 use crate::reader::number;
-use crate::reader::part;
 use crate::reader::put_file;
 use check::same;
-use formats::bytes::wide;
 use formats::file::transducer_counts;
 use formats::file::transducer_marks;
 use std::num::wrapping_sub_usize;
+use trees::bytes::wide;
 
 // Whether this is the word of the call with this number.
 fn is_call(word: &[u8], k: usize) -> bool {
@@ -114,9 +114,9 @@ fn with_areas<'a>(k: usize, call: &[u8], a: &[u8], b: &'a [u8], c: &'a [u8]) {
 
 // The files end at these places of the store.
 fn answer_call(k: usize, call: &[u8], store: &[u8], kept: usize, ends: [usize; 4]) {
-    let a = part(store, kept, ends[0]);
-    let b = part(store, ends[0], ends[1]);
-    let c = part(store, ends[1], ends[2]);
+    let a = between(store, kept, ends[0]);
+    let b = between(store, ends[0], ends[1]);
+    let c = between(store, ends[1], ends[2]);
     match k {
         1 => calls::stock(a),
         2 => calls::design(a, b),
@@ -124,7 +124,7 @@ fn answer_call(k: usize, call: &[u8], store: &[u8], kept: usize, ends: [usize; 4
         4 => answer::handed(transducer_counts(a, b)),
         5 => answer::handed(transducer_marks(a, b)),
         6 => calls::single(a, b),
-        7 => calls::place(a, b, c, part(store, ends[2], ends[3])),
+        7 => calls::place(a, b, c, between(store, ends[2], ends[3])),
         _ => with_areas(k, call, a, b, c),
     }
 }

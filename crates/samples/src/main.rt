@@ -16,7 +16,7 @@ fn run(text: &[u8], store: &mut [u8; 65536]) {
     let mut at = 0;
     while at < text.len() {
         let end = reader::find(text, at, b'\n');
-        kept = line::line(reader::part(text, at, end), kept, store, &mut names);
+        kept = line::line(reader::between(text, at, end), kept, store, &mut names);
         if end >= text.len() {
             return;
         }

@@ -10,8 +10,8 @@
 // The bytes of the files stand in a store, one behind the other. `end` says how much of it is full: FULL, if it does not hold them
 // or something could not be read.
 ghost use Prim.Native.Nat.{_≤_};
-use formats::bytes::wide;
 use std::num::wrapping_sub_usize;
+use trees::bytes::wide;
 
 pub(crate) const FULL: usize = 65537;
 
@@ -33,7 +33,7 @@ pub(crate) fn find(s: &[u8], at: usize, b: u8) -> usize
 }
 
 // Nothing, where that is no part.
-pub(crate) fn part(s: &[u8], from: usize, to: usize) -> &[u8] {
+pub(crate) fn between(s: &[u8], from: usize, to: usize) -> &[u8] {
     if from <= to {
         if to <= s.len() {
             return &s[from..to];
@@ -54,7 +54,7 @@ pub(crate) fn nth(s: &[u8], k: usize, b: u8) -> &[u8] {
         from = to + 1;
         i += 1;
     }
-    part(s, from, find(s, from, b))
+    between(s, from, find(s, from, b))
 }
 
 // How often a byte stands there.
@@ -159,7 +159,7 @@ fn put_items(s: &[u8], start: usize, store: &mut [u8; 65536], names: &[usize; 52
     let mut at = 0;
     while at < s.len() {
         let to = find(s, at, b',');
-        end = put_item(part(s, at, to), end, store, names);
+        end = put_item(between(s, at, to), end, store, names);
         if to >= s.len() {
             return end;
         }
@@ -174,8 +174,8 @@ fn put_run(s: &[u8], start: usize, store: &mut [u8; 65536], names: &[usize; 52])
     if star >= s.len() {
         return put_items(s, start, store, names);
     }
-    let end = put_items(part(s, star + 1, s.len()), start, store, names);
-    repeat(store, start, end, number(part(s, 0, star)))
+    let end = put_items(between(s, star + 1, s.len()), start, store, names);
+    repeat(store, start, end, number(between(s, 0, star)))
 }
 
 // A file: runs with spaces between them.
@@ -189,7 +189,7 @@ pub(crate) fn put_file(
     let mut at = 0;
     while at < s.len() {
         let to = find(s, at, b' ');
-        end = put_run(part(s, at, to), end, store, names);
+        end = put_run(between(s, at, to), end, store, names);
         if to >= s.len() {
             return end;
         }

@@ -7,16 +7,16 @@ use mathlib.Core.Option.{Option, some}
 use mathlib.Core.Path.{_≡_, refl, sym, ap, ap₂, _∙_}
 use lib.ListN.{length, getD}
 use Rattle.theory.specs.Registry.{begun, entered}
-use Rattle.formats.specs.Refusal.{Holds}
+use Rattle.trees.specs.Refusal.{Holds}
 use Rattle.formats.specs.Samples.{S, T, T′, U, U-clean}
 use Rattle.transducer.proofs.Samples.{S-alphabets, T-sheet}
 use Rattle.earliest.specs.Answers.{EarliestFile}
 use Rattle.canonical.proofs.Laws.{clean-accepted}
 use Rattle.canonical.proofs.SampleTrimmed.{T′-trims, U-trims}
 use Rattle.canonical.proofs.Samples.{T-cleans, T′-cleans, U-cleans}
-use Rattle.registry.specs.Answers.{Lowest, NotHeld, Room, Known, Added}
-use Rattle.registry.specs.Book.{body, Chained}
-use Rattle.registry.specs.declared.book.Record.{Record}
+use Rattle.records.specs.Answers.{Lowest, NotHeld, Room, Known, Added}
+use Rattle.records.specs.Book.{body, Chained}
+use Rattle.records.specs.declared.book.Record.{Record}
 use Rattle.registry.specs.Calls.{Book, MadeWith, EntersFile, Entries}
 use Rattle.registry.proofs.Keeping.{bodyOf, added-there}
 use Rattle.registry.proofs.Standing.{made-head, stock-stays, CleansTo, cleans-to, still-chained, entered-known, entered-new, area-kept, makes, enters-known, enters-new}

@@ -7,17 +7,18 @@ use mathlib.Core.Path.{_≡_, refl, sym, ap, subst}
 use lib.ListN.{length}
 use Rattle.theory.specs.Size.{size}
 use Rattle.theory.specs.Term.{Tree}
-use Rattle.formats.specs.Alphabets.{Alphabets, alphabetCheck}
-use Rattle.formats.specs.Code.{code}
-use Rattle.formats.specs.Refusal.{done, Holds}
+use Rattle.trees.specs.Alphabets.{Alphabets, alphabetCheck}
+use Rattle.trees.specs.Code.{code}
+use Rattle.trees.specs.Refusal.{done, Holds}
 use Rattle.formats.specs.Samples.{S, T, T′, U, pairs, M, M-pref}
 use Rattle.formats.specs.Sheet.{file, sheetCheck}
 use Rattle.formats.proofs.Sheets.{sheet-counted}
-use Rattle.formats.specs.Tree.{treeCheck}
+use Rattle.trees.specs.Tree.{treeCheck}
 use Rattle.transducer.specs.Answers.{translated, roomCheck}
 use Rattle.transducer.specs.Output.{Output}
 use Rattle.transducer.proofs.Laws.{must-translate}
-use Rattle.transducer.proofs.Samples.{S-alphabets, T-machine, T-sheet, T-not-linear, leaf-design, chain-design, T-output, on-leaf, on-chain, room-chain}
+use Rattle.transducer.proofs.Samples.{S-alphabets, T-machine, T-sheet, leaf-design, chain-design, T-output, on-leaf, on-chain, room-chain}
+use Rattle.queries.proofs.Samples.{T-not-linear}
 use Rattle.prefixes.proofs.Samples.{M-machine, M-sheet, M-is-pref}
 use Rattle.earliest.specs.Answers.{EarliestFile}
 use Rattle.canonical.specs.Answers.{NormalFile}

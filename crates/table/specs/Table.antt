@@ -8,17 +8,17 @@ use Rattle.theory.specs.Pref.{IsPref}
 use Rattle.theory.specs.Prefix.{Pattern}
 use Rattle.theory.specs.Term.{Tree}
 use Rattle.theory.specs.Transducer.{Transducer}
-use Rattle.formats.specs.Alphabets.{Alphabets, Leaf, inputs, outputs, alphabetCheck}
-use Rattle.formats.specs.Code.{code}
-use Rattle.formats.specs.Refusal.{accepted, done, Holds}
+use Rattle.trees.specs.Alphabets.{Alphabets, Leaf, inputs, outputs, alphabetCheck}
+use Rattle.trees.specs.Code.{code}
+use Rattle.trees.specs.Refusal.{accepted, done, Holds}
 use Rattle.formats.specs.Samples.{S, T, T′, U, U-clean, leaf-file, pairs, M, M-pref, M-clean}
 use Rattle.formats.specs.Sheet.{Sheet, file, sheetCheck}
-use Rattle.formats.specs.Tree.{treeCheck}
+use Rattle.trees.specs.Tree.{treeCheck}
 use Rattle.transducer.specs.Answers.{translated, roomCheck, Translates}
 use Rattle.transducer.specs.declared.translate.Translation.{Translation}
-use Rattle.transducer.specs.Linear.{Linear}
+use Rattle.queries.specs.Linear.{Linear}
 use Rattle.transducer.specs.Output.{Output}
-use Rattle.prefixes.specs.Alphabet.{alphabet}
+use Rattle.forms.specs.Alphabet.{alphabet}
 use Rattle.earliest.specs.Answers.{EarliestFile, formCheck}
 use Rattle.canonical.specs.Answers.{NormalFile}
 use Rattle.witness.specs.Difference.{Difference}

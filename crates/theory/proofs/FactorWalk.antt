@@ -6,17 +6,13 @@ use mathlib.Core.Path.{_≡_, refl, sym, ap, ap₂, _∙_}
 use mathlib.Core.List.{List, [], _∷_, _++_, append-nil, append-assoc}
 use mathlib.Core.Option.{Option, some, none as nothing, Option·some-injective, bind as obind}
 use lib.ListN.{length, length-append}
+use Rattle.theory.specs.Inner.Forests.{letters, lettersAll, joined}
 use Rattle.theory.specs.OneState.{moved, copies, stepped}
 use Rattle.theory.specs.Term.{Term, Terms, var, node, none, more, bind, binds, mapT}
 use Rattle.theory.specs.Transducer.{Transducer}
 use Rattle.theory.specs.Vars.{AllVars, one, each, EachVars, done, both}
 use Rattle.theory.proofs.Factors.{copyOf, factor, factors, factor-copy, factor-node, factor-stray}
 use Rattle.theory.proofs.Terms.{conflict}
-
--- some trees and others behind them
-unfoldable pub joined : {A : Type 0} → Terms A → Terms A → Terms A
-joined none us = us
-joined (more t ts) us = more t (joined ts us)
 
 -- the letters of a term in preorder: a symbol k is written s k, and a call e is written c e
 unfoldable mutual
@@ -30,7 +26,7 @@ unfoldable mutual
 
 -- the factors of joined trees are the factors of the first and of the others, joined
 factors-joined : (A : Term (ℕ × ℕ)) (ts us : Terms (ℕ × ℕ)) → factors A (joined ts us) ≡ obind (factors A ts) (λ rs. obind (factors A us) (λ xs. some (joined rs xs)))
-unfolding factors joined obind
+unfolding factors obind
 factors-joined A none us = go (factors A us)
   where
     go : (o : Option (Terms (ℕ × ℕ))) → o ≡ obind o (λ xs. some xs)
@@ -47,7 +43,7 @@ factors-joined A (more t ts) us = ap (λ o. obind (factor A t) (λ r. obind o (�
 module _ {X : Type 0} (c : ℕ × ℕ → X) (s : ℕ → X) where
   -- letters of joined trees
   pub spelled-joined : (ts us : Terms (ℕ × ℕ)) → spelledIn c s (joined ts us) ≡ spelledIn c s ts ++ spelledIn c s us
-  unfolding spelledIn joined
+  unfolding spelledIn
   spelled-joined none us = refl
   spelled-joined (more t ts) us = ap (λ w. spelled c s t ++ w) (spelled-joined ts us) ∙ sym (append-assoc (spelled c s t) (spelledIn c s ts) (spelledIn c s us))
 
@@ -105,17 +101,6 @@ module _ {X : Type 0} (c : ℕ × ℕ → X) (s : ℕ → X) where
         go : (o : Option (Term (ℕ × ℕ))) → factor A t ≡ o → obind o (λ r. some (spelled c s r)) ≡ some (w ++ []) → (r : Term (ℕ × ℕ)) × (factor A t ≡ some r) × (spelled c s r ≡ w)
         go nothing z e = conflict (cc)
         go (some r) z e = (r, z, Option·some-injective _ _ e ∙ append-nil w)
-
--- ---- how many letters
--- the number of letters of a term, symbols and calls (02: marks)
-unfoldable mutual
-  pub letters : {A : Type 0} → Term A → ℕ
-  letters (var a) = 1
-  letters (node k ts) = suc (lettersAll ts)
-
-  pub lettersAll : {A : Type 0} → Terms A → ℕ
-  lettersAll none = 0
-  lettersAll (more t ts) = letters t + lettersAll ts
 
 module _ {X : Type 0} (c : ℕ × ℕ → X) (s : ℕ → X) where
   mutual

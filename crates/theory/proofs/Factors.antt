@@ -1,5 +1,5 @@
 -- Writing a term as copies of the initial term, moved to children, under other symbols: a function that finds it, which is sound and complete.
-use Prim.Native.Nat.{ℕ, suc, _<_, _≤_, _+_}
+use Prim.Native.Nat.{_+_, ℕ, suc, _<_, _≤_}
 use native.Mathlib.Omega.{arith}
 use mathlib.Core.Path.{_≡_, refl, sym, ap, ap₂, subst, _∙_}
 use mathlib.Core.Logic.{_≢_, _↔_}

@@ -2,22 +2,17 @@
 use Prim.Native.Nat.{ℕ, suc, _+_, _-_, _≤_, _<_}
 use native.Mathlib.Decide.{decLt}
 use native.Mathlib.Omega.{arith}
-use mathlib.Core.Path.{_≡_, refl, ap, sym, _∙_}
+use mathlib.Core.Path.{_≡_, refl, ap}
 use mathlib.Core.Logic.{_↔_, by-cases}
 use mathlib.Core.List.{List, [], _∷_, _++_}
 use lib.ListN.{length}
+use Rattle.theory.specs.Inner.Forests.{joined}
 use Rattle.theory.specs.Grammar.{Grammar}
-use Rattle.theory.specs.Matched.{At, here, below, Ats, first, later, Matched, demand, symbol, MatchedAll, matched-none, matched-more, Demand, this, inside, Demands, at-head, at-tail, Child, Children, no-child, one-child}
+use Rattle.theory.specs.Matched.{At, here, below, Ats, first, later, Matched, demand, symbol, MatchedAll, matched-none, matched-more, inside, Demands, at-head, at-tail, Child, Children, no-child, one-child}
 use Rattle.theory.specs.Multiplicity.{overChildren}
 use Rattle.theory.specs.Size.{size, sizes}
 use Rattle.theory.specs.Term.{Term, var, node, Terms, none, more, Tree, count}
-use Rattle.theory.proofs.Demands.{at-inside, ats-inside}
-use Rattle.theory.proofs.Terms.{conflict}
-
--- some trees and others behind them
-abbrev pub joined : {A : Type 0} → Terms A → Terms A → Terms A
-joined none us = us
-joined (more t ts) us = more t (joined ts us)
+use Rattle.theory.proofs.Demands.{at-inside}
 
 module _ {Q : Type 0} {D : ℕ × Q → ℕ → Tree → Type 0} where
   -- terms that match, and others behind them

@@ -18,7 +18,7 @@ use Rattle.theory.proofs.Discovery.{discovered-scanned}
 use Rattle.theory.proofs.Listings.{listed-sort, listed-rhs}
 use Rattle.theory.proofs.Lists.{get-lt}
 use Rattle.theory.proofs.Morphism.{renamed-id}
-use Rattle.theory.proofs.Scanning.{see, scan, scans, scan-rhs, scan-rhss, scan-states, only-if, Scanned}
+use Rattle.theory.proofs.Scanning.{scan, scans, scan-rhs, scan-rhss, scan-states, only-if, Scanned}
 use Rattle.theory.proofs.Scans.{Met, met-old, met-new, see-met, only-if-some}
 
 -- the k-th number from p on is p + k

@@ -2,7 +2,7 @@
 use Prim.Native.Nat.{ℕ, suc, _+_, _*_, _≤_, _<_}
 use native.Mathlib.Decide.{ℕ-discrete, decLt}
 use native.Mathlib.Omega.{arith}
-use mathlib.Core.Path.{_≡_, refl, ap, sym, _∙_}
+use mathlib.Core.Path.{_≡_, refl, ap}
 use mathlib.Core.Logic.{_⊎_, inl, inr, ⊎-elim, by-cases, ite, if-pos, if-neg}
 use mathlib.Core.List.{List}
 use mathlib.Core.Option.{Option, some, none as nothing}
@@ -26,7 +26,7 @@ use Rattle.theory.proofs.PreimageBound.{Small, linear-found, linear-non
 use Rattle.theory.proofs.Preimages.{justified-mark}
 use Rattle.theory.proofs.Reach.{reached-valid}
 use Rattle.theory.proofs.Terms.{conflict}
-use Rattle.theory.proofs.Weights.{one-if-eq, one-if-ne, one-if-le}
+use Rattle.theory.proofs.Weights.{one-if-eq, one-if-ne}
 
 module _ {D : ℕ × ℕ → ℕ → Type 0} (dec : (e : ℕ × ℕ) (p : ℕ) → Dec (D e p)) where
   matched-more-dec : {t : Term (ℕ × ℕ)} {ts : Terms (ℕ × ℕ)} {u : Tree} {us : Terms ⊥} {p : ℕ} → Dec (Matched (λ e p u. D e p) t p u) → Dec (MatchedAll (λ e p u. D e p) ts (p + size u) us) → Dec (MatchedAll (λ e p u. D e p) (more t ts) p (more u us))

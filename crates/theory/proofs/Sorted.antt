@@ -3,13 +3,13 @@ use Prim.Native.Nat.{ℕ, suc, _≤_}
 use native.Mathlib.Omega.{arith}
 use mathlib.Core.Path.{_≡_, refl, sym, ap, _∙_}
 use mathlib.Core.List.{List, [], _∷_}
-use mathlib.Core.Option.{some, Option·getD}
+use mathlib.Core.Option.{some}
 use lib.ListN.{length}
 use Rattle.theory.specs.Equivalent.{Equivalent}
 use Rattle.theory.specs.Grammar.{Grammar, Allowed, rule, AllAllowed, end, next}
 use Rattle.theory.specs.Sorted.{sortOf, sorted}
-use Rattle.theory.specs.Term.{Term, Terms, Tree, node, none, more, mapT, bind}
-use Rattle.theory.specs.Transducer.{Transducer, closed, pick, run, runs, output, translate}
+use Rattle.theory.specs.Term.{Term, Terms, Tree, mapT, bind}
+use Rattle.theory.specs.Transducer.{Transducer, closed, pick, runs, output, translate}
 use Rattle.theory.specs.Vars.{AllVars, one}
 use Rattle.theory.specs.Wf.{nth, Wf}
 use Rattle.theory.proofs.OpenRuns.{all-bind}

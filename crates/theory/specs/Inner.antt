@@ -11,3 +11,4 @@ pub mod CodesForm
 pub mod Keeps
 pub mod Closed
 pub mod Graft
+pub mod Forests

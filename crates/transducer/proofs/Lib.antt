@@ -1,10 +1,8 @@
--- Opening: an accepted file with its parts. Uses, Calls: the linear test. Walks, Meaning: what is written, byte by byte, is the code of the output.
+-- Opening: an accepted file with its parts. Walks, Meaning: what is written, byte by byte, is the code of the output.
 -- Subtrees: the table of where each subtree ends. Noting: the sizes of what states write, and where it stands. Filling: writing as far as there is room.
--- Outputs: the output is one tree. Translating, Following: what translation and the reader of one symbol ask and answer.
+-- Outputs: the output is one tree. Translating: what translation asks and answers.
 -- Laws: what the promises come to; read it first. Samples: the samples of document 01 that are proved.
 pub mod Opening
-pub mod Uses
-pub mod Calls
 pub mod Walks
 pub mod Subtrees
 pub mod Noting
@@ -12,6 +10,5 @@ pub mod Filling
 pub mod Meaning
 pub mod Outputs
 pub mod Translating
-pub mod Following
 pub mod Laws
 pub mod Samples

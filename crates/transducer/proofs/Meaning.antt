@@ -4,7 +4,7 @@ use Prim.Native.Nat.{ℕ, suc, _+_, _-_, _*_, _≤_, _<_}
 use native.Mathlib.Omega.{arith}
 use mathlib.Core.Bool.{Bool, true, false}
 use mathlib.Core.Path.{_≡_, refl, sym, ap, ap₂, _∙_}
-use mathlib.Core.List.{List, [], _∷_, _++_}
+use mathlib.Core.List.{_++_, List, [], _∷_}
 use lib.Dec.{ltb, leb}
 use lib.ListN.{length, getD}
 use lib.Seq.{slice, length-slice}
@@ -12,14 +12,15 @@ use borrow.Author.Tests.{ltb-true, leb-true}
 use Rattle.theory.specs.Term.{var, node, Terms, none, more, count, Tree}
 use Rattle.theory.specs.Transducer.{output, translate, run, pick}
 use Rattle.theory.proofs.Runs.{output-node, call as called-tree}
-use Rattle.formats.specs.Code.{flat, code, Mark}
-use Rattle.formats.specs.Inner.Decode.{call, symbol, forest, first, Whole, Over, AllOver}
-use Rattle.formats.specs.Inner.Layout.{symbolIf, callIf, symbolOf, markOf, trees, tree, pairs, offset, markAt, bodyNumber, bodyCount, body, transducer, Wholes, IsTree}
+use Rattle.trees.specs.Code.{preorder, code, Mark}
+use Rattle.trees.specs.Inner.Decode.{call, symbol, forest, first, Whole, Over, AllOver}
+use Rattle.trees.specs.Inner.Symbols.{symbolIf, symbolOf, trees, tree, IsTree}
+use Rattle.formats.specs.Inner.Layout.{callIf, markOf, pairs, offset, markAt, bodyNumber, bodyCount, body, transducer, Wholes}
 use Rattle.transducer.specs.Inner.Written.{spell, written, called, bodyAt, walked, Callable, Table}
-use Rattle.formats.proofs.Forest.{Known, say, says}
-use Rattle.formats.proofs.Codes.{flat-bind, single, whole-spelled, over-forest, over-first}
-use Rattle.formats.proofs.Letters.{symbol-inside, faithful-symbols}
-use Rattle.formats.proofs.Offsets.{offset-grows, offset-most}
+use Rattle.trees.proofs.Forest.{Known, say, says}
+use Rattle.trees.proofs.Codes.{preorder-bind, single, whole-spelled, over-forest, over-first}
+use Rattle.trees.proofs.Letters.{symbol-inside, faithful-symbols}
+use Rattle.formats.proofs.Offsets.{offset-ordered, offset-most}
 use Rattle.formats.proofs.Pairs.{number-less, pairs-length, getD-slice}
 use Rattle.transducer.proofs.Walks.{spell-same}
 
@@ -63,7 +64,7 @@ says-spell outs n r g ((suc i, q) ∷ ms) k =
 
 -- what a whole body gives, with g for its calls; and its calls can be made
 pub record BodyRead (outs : List ℕ) (n r : ℕ) (ms : List Mark) : Type 0 where
-  pub spelled : (g : ℕ × ℕ → List ℕ) → flat g (λ k. k) (first (forest (markOf outs n r) ms)) ≡ spell (λ i q. g (i, q)) ms
+  pub spelled : (g : ℕ × ℕ → List ℕ) → preorder g (λ k. k) (first (forest (markOf outs n r) ms)) ≡ spell (λ i q. g (i, q)) ms
   pub callable : (j : ℕ) → j < length ms → Callable n r (getD ms j (0, 0))
 
 pub body-read : (outs : List ℕ) (n r : ℕ) (ms : List Mark) → Whole (markOf outs n r) ms → BodyRead outs n r ms
@@ -73,7 +74,7 @@ body-read outs n r ms W = record {
 }
 
 -- ---- states and trees
-rhs-spelled : (ins outs : List ℕ) (n : ℕ) (counts bytes : List ℕ) (q a : ℕ) (g : ℕ × ℕ → List ℕ) → BodyRead outs n (getD ins a 0) (body (offset counts) bytes (bodyNumber ins q a)) → flat g (λ k. k) (transducer ins outs n (offset counts) bytes .rhs q a) ≡ spell (λ i q. g (i, q)) (body (offset counts) bytes (bodyNumber ins q a))
+rhs-spelled : (ins outs : List ℕ) (n : ℕ) (counts bytes : List ℕ) (q a : ℕ) (g : ℕ × ℕ → List ℕ) → BodyRead outs n (getD ins a 0) (body (offset counts) bytes (bodyNumber ins q a)) → preorder g (λ k. k) (transducer ins outs n (offset counts) bytes .rhs q a) ≡ spell (λ i q. g (i, q)) (body (offset counts) bytes (bodyNumber ins q a))
 unfolding transducer
 rhs-spelled ins outs n counts bytes q a g R = R .spelled g
 
@@ -89,7 +90,7 @@ module _ (ins outs : List ℕ) (n : ℕ) (counts bytes : List ℕ) (B : Bodies i
         let i = symbol-inside ins a a (count ds) (o .0) in
         let R = body-read outs n (getD ins a 0) (body (offset counts) bytes (bodyNumber ins q a)) (B .wholes .rhs q a h (i .1)) in
         ap code (output-node M q a ds)
-        ∙ flat-bind (λ x. absurd x) (λ k. k) (called-tree M ds) (M .rhs q a)
+        ∙ preorder-bind (λ x. absurd x) (λ k. k) (called-tree M ds) (M .rhs q a)
         ∙ rhs-spelled ins outs n counts bytes q a (λ e. code (called-tree M ds e)) R
         ∙ spell-same (λ i r. code (called-tree M ds (i, r))) (λ i r. called bodies ds i r) n (getD ins a 0) (body (offset counts) bytes (bodyNumber ins q a)) (R .callable)
         (λ i′ r p l m. output-called ds i′ r (o .1) p (omega arith) m)
@@ -106,7 +107,7 @@ module _ (ins outs : List ℕ) (n : ℕ) (counts bytes : List ℕ) (B : Bodies i
   translate-written d o =
       let M = transducer ins outs n (offset counts) bytes in
       let R = body-read outs n 1 (body (offset counts) bytes 0) (B .wholes .initial) in
-      flat-bind (λ x. absurd x) (λ k. k) (λ e. output M d (e .1)) (M .initial)
+      preorder-bind (λ x. absurd x) (λ k. k) (λ e. output M d (e .1)) (M .initial)
       ∙ R .spelled (λ e. code (output M d (e .1)))
       ∙ spell-same (λ i r. code (output M d r)) (λ i r. called bodies (more d none) i r) n 1 (body (offset counts) bytes 0) (R .callable) (λ i r p l m. on-one i r p l m)
     where
@@ -145,7 +146,7 @@ module _ (ins outs : List ℕ) (n : ℕ) (counts bytes starts : List ℕ) (B : B
     states = n;
     few-states = B .states;
     long = long;
-    ordered = λ j h. rw (right j (omega arith), right (j + 1) (omega arith)) (offset-grows counts j);
+    ordered = λ j h. rw (right j (omega arith), right (j + 1) (omega arith)) (offset-ordered counts j);
     few = λ j h. rw (right j (omega arith), right (j + 1) (omega arith)) (B .few j h);
     inside = λ j h. rw (right j h) (omega (arith, B .inside, offset-most counts j (bodyCount ins n) h));
     callable = λ q a j h k f t. callable-at q a j h k f t;

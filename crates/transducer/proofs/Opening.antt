@@ -6,16 +6,16 @@ use mathlib.Core.List.{List}
 use mathlib.Core.Path.{_≡_, ap₂, _∙_}
 use lib.ListN.{length, getD, take, drop}
 use Rattle.theory.specs.Transducer.{Transducer}
-use Rattle.formats.specs.Alphabets.{Alphabets, inputs, outputs, alphabetCheck}
+use Rattle.trees.specs.Alphabets.{Alphabets, inputs, outputs, alphabetCheck}
 use Rattle.formats.specs.Answers.{ReadsFile, HandsCounts, HandsMarks}
 use Rattle.formats.specs.Inner.Layout.{offset, bodyCount, Right}
-use Rattle.formats.specs.Refusal.{number, refused, Checks, done, Holds, Judged}
+use Rattle.trees.specs.Refusal.{refusalNumber, refused, Checks, done, Holds, Judged}
 use Rattle.formats.specs.Sheet.{file, Sheet, Encodes, sheetCheck}
 use Rattle.formats.specs.declared.file.FileRead.{FileRead}
 use Rattle.formats.specs.declared.file.FileRead.the-variants.{States, Refused}
-use Rattle.formats.specs.declared.refusal.Refusal.{Refusal}
+use Rattle.trees.specs.declared.refusal.Refusal.{Refusal}
 use Rattle.formats.proofs.Counts.{few-bodies}
-use Rattle.formats.proofs.Judging.{accepted-holds, refused-early}
+use Rattle.trees.proofs.Judging.{accepted-holds, refused-early}
 use Rattle.formats.proofs.Laws.{sheet-counts, sheet-marks}
 use Rattle.formats.proofs.Sheets.{counted-right, encodes-counted}
 use Rattle.formats.proofs.Verdicts.{counts-handed, marks-handed}
@@ -64,5 +64,5 @@ module _ {stock s : List ℕ} {n : ℕ} {ins counts bytes : List ℕ} (O : Opene
   starts-fit = let R = opened-right in (omega (arith, R .long), few-bodies R, omega (arith, R .sums .few))
 
 -- a file that was refused: so is all that is asked of it, whatever would have been asked behind
-pub not-opened : {B Kept : Type 0} {Good : B → Type 0} (stock s : List ℕ) (rest : Checks) {x : Refusal} {r : FileRead} → Kept → ReadsFile stock s r → r ≡ Refused x → Judged {A = B} Kept Good (alphabetCheck stock (sheetCheck stock s rest)) (refused (number x))
+pub not-opened : {B Kept : Type 0} {Good : B → Type 0} (stock s : List ℕ) (rest : Checks) {x : Refusal} {r : FileRead} → Kept → ReadsFile stock s r → r ≡ Refused x → Judged {A = B} Kept Good (alphabetCheck stock (sheetCheck stock s rest)) (refused (refusalNumber x))
 not-opened stock s rest kept J e = refused-early (alphabetCheck stock (sheetCheck stock s done)) rest kept (rw e at J)

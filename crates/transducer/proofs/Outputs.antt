@@ -1,6 +1,6 @@
 -- The output of a transducer on an input tree is one tree, whichever of the transducers that a file encodes is taken; and it is what is written.
 -- Assumes nothing.
-use Prim.Native.Nat.{ℕ, suc, _+_, _<_}
+use Prim.Native.Nat.{_+_, ℕ, suc, _<_}
 use mathlib.Core.List.{List}
 use mathlib.Core.Path.{_≡_, refl, sym, ap, ap₂, _∙_}
 use lib.ListN.{length, getD, length-append}
@@ -10,11 +10,11 @@ use Rattle.theory.specs.Transducer.{Transducer, output, translate, run, pick}
 use Rattle.theory.specs.Vars.{AllVars, one, each, EachVars, done, both}
 use Rattle.theory.proofs.Runs.{output-node, call as called-tree}
 use Rattle.theory.proofs.Vars.{bind-ext, all-map}
-use Rattle.formats.specs.Alphabets.{inputs, outputs}
-use Rattle.formats.specs.Code.{Ranked, AllRanked, Call, flat, flats, code}
+use Rattle.trees.specs.Alphabets.{inputs, outputs}
+use Rattle.trees.specs.Code.{Ranked, AllRanked, Call, preorder, preorders, code}
 use Rattle.formats.specs.Sheet.{Encodes, Sheet}
 use Rattle.formats.proofs.Sheets.{encodes-unique, sheet-unique}
-use Rattle.formats.proofs.Trees.{input-unique}
+use Rattle.trees.proofs.Trees.{input-unique}
 use Rattle.transducer.specs.Output.{Output}
 use Rattle.transducer.specs.Inner.Machine.{OutputBy}
 
@@ -79,12 +79,12 @@ module _ {stock sheet design : List ℕ} {n : ℕ} {M : Transducer ℕ} (S : She
 
 -- ---- as many bytes as nodes
 mutual
-  unfolding flat size
+  unfolding preorder size
 
   pub code-size : (t : Tree) → length (code t) ≡ size t
   code-size (var x) = absurd x
   code-size (node k ts) = ap suc (codes-size ts)
 
-  codes-size : (ts : Terms ⊥) → length (flats (λ x. absurd x) (λ k. k) ts) ≡ sizes ts
+  codes-size : (ts : Terms ⊥) → length (preorders (λ x. absurd x) (λ k. k) ts) ≡ sizes ts
   codes-size none = refl
-  codes-size (more t ts) = length-append (code t) (flats (λ x. absurd x) (λ k. k) ts) ∙ ap₂ _+_ (code-size t) (codes-size ts)
+  codes-size (more t ts) = length-append (code t) (preorders (λ x. absurd x) (λ k. k) ts) ∙ ap₂ _+_ (code-size t) (codes-size ts)

@@ -1,19 +1,18 @@
--- Samples of document 01: the alphabets S and the transducer T, its file, its outputs, and that it is not linear. What the entry points then answer is in Laws.
+-- Samples of document 01: the alphabets S and the transducer T, its file and its outputs. What translation then answers is in Laws.
 -- Assumes nothing.
 use Prim.Native.Nat.{ℕ, suc, _≤_, _<_}
 use native.Mathlib.Omega.{arith}
 use mathlib.Core.List.{List, [], _∷_}
 use mathlib.Core.Path.{_≡_, refl}
-use lib.ListN.{length, getD}
+use lib.ListN.{getD}
 use Rattle.theory.specs.Size.{size, levels}
 use Rattle.theory.specs.Term.{Term, var, node, none, more, Tree, bind, count}
 use Rattle.theory.specs.Transducer.{Transducer, translate, output, closed, run, pick}
-use Rattle.formats.specs.Alphabets.{Alphabets, stock, inputs, outputs}
-use Rattle.formats.specs.Code.{Ranked, flat, code, Call}
+use Rattle.trees.specs.Alphabets.{Alphabets, stock, inputs, outputs}
+use Rattle.trees.specs.Code.{Ranked, preorder, code, Call}
 use Rattle.formats.specs.Samples.{S, T}
 use Rattle.formats.specs.Sheet.{Sheet, countBytes, markBytes, bodyBytes, each, terms}
-use Rattle.formats.specs.Tree.{InputTree}
-use Rattle.transducer.specs.Linear.{Linear, calls}
+use Rattle.trees.specs.Tree.{InputTree}
 use Rattle.transducer.specs.Output.{Output}
 
 -- ---- P holds of 0, of 1, .. and of n - 1: so of each number below n
@@ -55,7 +54,7 @@ line-ranked = below 2 _ (omega arith)
 
 -- T is its file
 pub T-sheet : Sheet (inputs S) (outputs S) T 1 T-machine
-unfolding T-machine twice line inputs outputs Ranked count flat countBytes markBytes bodyBytes each terms
+unfolding T-machine twice line inputs outputs Ranked count preorder countBytes markBytes bodyBytes each terms
 T-sheet = record {
   counts = 0 ∷ 3 ∷ 0 ∷ 3 ∷ 0 ∷ 1 ∷ [];
   bytes = 0 ∷ 0 ∷ 1 ∷ 0 ∷ 1 ∷ 0 ∷ 0 ∷ 0 ∷ 1 ∷ 0 ∷ 1 ∷ 0 ∷ 0 ∷ 1 ∷ [];
@@ -68,11 +67,6 @@ T-sheet = record {
   };
 }
 
--- its initial term calls child 1 twice
-pub T-not-linear : Linear (length (inputs S)) 1 T-machine → ⊥
-unfolding T-machine twice calls
-T-not-linear L = omega (arith, L .initial 1)
-
 -- ---- its outputs
 -- e
 unfoldable pub leaf : Tree
@@ -83,22 +77,22 @@ unfoldable pub chain : Tree
 chain = node 0 (more leaf none)
 
 pub leaf-design : InputTree (inputs S) (1 ∷ []) leaf
-unfolding leaf inputs Ranked count flat size levels
-leaf-design = record { ranked = omega arith; coded = refl; small = omega arith; flat = omega arith }
+unfolding leaf inputs Ranked count preorder size levels
+leaf-design = record { ranked = omega arith; coded = refl; small = omega arith; few-levels = omega arith }
 
 pub chain-design : InputTree (inputs S) (0 ∷ 1 ∷ []) chain
-unfolding chain leaf inputs Ranked count flat size levels
-chain-design = record { ranked = omega arith; coded = refl; small = omega arith; flat = omega arith }
+unfolding chain leaf inputs Ranked count preorder size levels
+chain-design = record { ranked = omega arith; coded = refl; small = omega arith; few-levels = omega arith }
 
 pub T-output : {design : List ℕ} {d : Tree} → InputTree (inputs S) design d → Output S T design (translate T-machine d)
 T-output {d = d} D = record { states = 1; machine = T-machine; input = d; is-sheet = T-sheet; is-tree = D; given = refl }
 
 pub on-leaf : code (translate T-machine leaf) ≡ 0 ∷ 1 ∷ 1 ∷ []
-unfolding T-machine twice line leaf bind translate output closed run pick flat
+unfolding T-machine twice line leaf bind translate output closed run pick preorder
 on-leaf = refl
 
 pub on-chain : code (translate T-machine chain) ≡ 0 ∷ 0 ∷ 1 ∷ 1 ∷ 0 ∷ 1 ∷ 1 ∷ []
-unfolding T-machine twice line leaf chain bind translate output closed run pick flat
+unfolding T-machine twice line leaf chain bind translate output closed run pick preorder
 on-chain = refl
 
 pub room-chain : size (translate T-machine chain) ≤ 7

@@ -9,11 +9,11 @@ use lib.ListN.{length, getD, drop, set, length-set}
 use lib.Seq.{getD-set-same, getD-set-other}
 use Rattle.theory.specs.Size.{size, sizes}
 use Rattle.theory.specs.Term.{node}
-use Rattle.formats.specs.Inner.Decode.{firsts, first}
-use Rattle.formats.specs.Inner.Layout.{symbolOf, trees, tree}
-use Rattle.formats.specs.Inner.Measured.{endAt, Ends, WholeTree}
-use Rattle.formats.proofs.Extents.{letters-size}
-use Rattle.formats.proofs.Forest.{first-tree, count-rests}
+use Rattle.trees.specs.Inner.Decode.{firsts, first}
+use Rattle.trees.specs.Inner.Symbols.{symbolOf, trees, tree}
+use Rattle.trees.specs.Inner.Measured.{endAt, Ends, WholeTree}
+use Rattle.trees.proofs.Extents.{letters-size}
+use Rattle.trees.proofs.Forest.{first-tree, count-rests}
 use Rattle.transducer.specs.Inner.Written.{Input, hop}
 use Rattle.transducer.proofs.Walks.{NodeAt, node-at, Place, place-from, in-list}
 

@@ -11,21 +11,22 @@ use lib.Seq.{sets, slice, length-slice}
 use Rattle.theory.specs.Size.{size, levels}
 use Rattle.theory.specs.Term.{Tree}
 use Rattle.theory.specs.Transducer.{translate}
-use Rattle.formats.specs.Alphabets.{inputs, outputs}
-use Rattle.formats.specs.Code.{code}
-use Rattle.formats.specs.Inner.Layout.{trees, tree, IsTree, pairs, markAt, offset, body, bodyCount, transducer, Right, Starts, Wholes}
-use Rattle.formats.specs.Inner.Measured.{WholeTree, MeasuredAll}
-use Rattle.formats.specs.Refusal.{done as no-more, check, judged, Judged, Holds}
-use Rattle.formats.specs.Tree.{InputTree, treeCheck}
-use Rattle.formats.specs.declared.refusal.Refusal.the-variants.{BadTree, LongOutput}
-use Rattle.formats.specs.declared.tree.Extent.{Extent}
-use Rattle.formats.specs.declared.tree.Extent.the-variants as extent
-use Rattle.formats.proofs.Counts.{few-bodies, laid}
-use Rattle.formats.proofs.Judging.{refuse, pass, accept}
+use Rattle.trees.specs.Alphabets.{inputs, outputs}
+use Rattle.trees.specs.Code.{code}
+use Rattle.trees.specs.Inner.Symbols.{trees, tree, IsTree}
+use Rattle.formats.specs.Inner.Layout.{pairs, markAt, offset, body, bodyCount, transducer, Right, Starts, Wholes}
+use Rattle.trees.specs.Inner.Measured.{WholeTree, MeasuredAll}
+use Rattle.trees.specs.Refusal.{done as no-more, check, judged, Judged, Holds}
+use Rattle.trees.specs.Tree.{InputTree, treeCheck}
+use Rattle.trees.specs.declared.refusal.Refusal.the-variants.{BadTree, LongOutput}
+use Rattle.trees.specs.declared.tree.Extent.{Extent}
+use Rattle.trees.specs.declared.tree.Extent.the-variants as extent
+use Rattle.formats.proofs.Counts.{few-bodies, in-bounds}
+use Rattle.trees.proofs.Judging.{refuse, pass, accept}
 use Rattle.formats.proofs.Offsets.{offset-most, offset-next}
 use Rattle.formats.proofs.Pairs.{pairs-length, pairs-at, getD-slice}
 use Rattle.formats.proofs.Sheets.{counted-right, encodes-counted, encodes-wholes, wholes-encodes}
-use Rattle.formats.proofs.Trees.{whole-input, measured-none}
+use Rattle.trees.proofs.Trees.{whole-input, measured-none}
 use Rattle.transducer.specs.Answers.{translated, roomCheck, Translates}
 use Rattle.transducer.specs.Output.{Output}
 use Rattle.transducer.specs.Inner.Machine.{Machine, OutputBy, TranslatesBy}
@@ -55,7 +56,7 @@ module _ {ins outs : List ℕ} {n : ℕ} {counts bytes : List ℕ} (starts : Lis
   pub walkable : (s ends : List ℕ) (to left : ℕ) → to ≡ getD starts 1 0 → IsTree ins s → levels (tree ins s) ≤ left → Input ins s ends → length ends ≡ 4096 → Walkable ins starts bytes s ends 0 to 0 left
   unfolding body trees offset table hop
   walkable s ends to left e T f I h =
-      let L = laid starts R S long in
+      let L = in-bounds starts R S long in
       let y = S 1 (omega arith) in
       record {
         table = table ins outs n counts bytes starts bodies (L .long) S;
@@ -63,7 +64,7 @@ module _ {ins outs : List ℕ} {n : ℕ} {counts bytes : List ℕ} (starts : Lis
         ordered = omega arith;
         inside = omega (arith, L .inside 1 (omega arith));
         callable = λ j h k. rw (T .one) (callable-initial j (omega arith));
-        flat = λ j h k i.
+        few-levels = λ j h k i.
             let c = rw (pairs-at bytes j (omega (arith, L .inside 1 (omega arith)))) at (callable-initial j (omega arith)) in
             let z : getD bytes (2 * j) 0 - 1 ≡ 0 = omega (arith, c i .0) in
             rw z f;
@@ -73,7 +74,7 @@ module _ {ins outs : List ℕ} {n : ℕ} {counts bytes : List ℕ} (starts : Lis
 
   pub gives : (s : List ℕ) (to : ℕ) → to ≡ getD starts 1 0 → IsTree ins s → walked ins starts bytes s 0 0 to ≡ code (translate (transducer ins outs n (offset counts) bytes) (tree ins s))
   unfolding offset
-  gives s to e T = sym (translate-walked ins outs n counts bytes starts bodies (laid starts R S long .long) S s T ∙ ap₂ (walked ins starts bytes s 0) (S 0 (omega arith)) (sym e))
+  gives s to e T = sym (translate-walked ins outs n counts bytes starts bodies (in-bounds starts R S long .long) S s T ∙ ap₂ (walked ins starts bytes s 0) (S 0 (omega arith)) (sym e))
 
 -- ---- the parts of a file; ins are the ranks in the stock
 module _ {stock : List ℕ} {n : ℕ} {counts bytes : List ℕ} (X : Machine stock n counts bytes) where

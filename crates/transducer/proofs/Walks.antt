@@ -12,13 +12,15 @@ use lib.Seq.{drop-cons, slice-empty}
 use borrow.Author.Tests.{ltb-true, leb-true}
 use Rattle.theory.specs.Term.{node, Terms, none, more, count, Tree}
 use Rattle.theory.specs.Size.{size, sizes, levels, deepest}
-use Rattle.formats.specs.Code.{Mark}
-use Rattle.formats.specs.Inner.Decode.{letters, lettersAll, firsts, rests, grown, put, forest, first}
-use Rattle.formats.specs.Inner.Layout.{symbolOf, symbolIf, trees, tree, pairs, markAt, bodyNumber}
-use Rattle.formats.specs.Inner.Measured.{Ends}
+use Rattle.trees.specs.Code.{Mark}
+use Rattle.theory.specs.Inner.Forests.{letters, lettersAll}
+use Rattle.trees.specs.Inner.Decode.{firsts, rests, nodeIf, put, forest, first}
+use Rattle.trees.specs.Inner.Symbols.{symbolOf, symbolIf, trees, tree}
+use Rattle.formats.specs.Inner.Layout.{pairs, markAt, bodyNumber}
+use Rattle.trees.specs.Inner.Measured.{Ends}
 use Rattle.transducer.specs.Inner.Written.{spell, written, called, bodyAt, applied, walked, Callable, Table, Input, hop, Ready, Walkable}
-use Rattle.formats.proofs.Forest.{first-tree, letters-pos, count-rests, all-drop}
-use Rattle.formats.proofs.Extents.{letters-size}
+use Rattle.trees.proofs.Forest.{first-tree, letters-pos, count-rests, all-drop}
+use Rattle.trees.proofs.Extents.{letters-size}
 use Rattle.formats.proofs.Pairs.{pairs-length, pairs-at, part-cons, number-less, getD-slice}
 
 -- ---- every position of an input has a tree
@@ -32,7 +34,7 @@ node-read : (ins : List ℕ) (a : ℕ) (G : Terms ⊥) → 0 < lettersAll (put (
 unfolding put symbolOf lettersAll
 node-read ins a G h = go (ltb a (length ins)) refl h
   where
-    deep : (b : Bool) → leb (getD ins a 0) (count G) ≡ b → 0 < lettersAll (grown b a (getD ins a 0) G) → (getD ins a 0 ≤ count G) × (grown b a (getD ins a 0) G ≡ more (node a (firsts (getD ins a 0) G)) (rests (getD ins a 0) G))
+    deep : (b : Bool) → leb (getD ins a 0) (count G) ≡ b → 0 < lettersAll (nodeIf b a (getD ins a 0) G) → (getD ins a 0 ≤ count G) × (nodeIf b a (getD ins a 0) G ≡ more (node a (firsts (getD ins a 0) G)) (rests (getD ins a 0) G))
     deep true e h = (leb-true _ _ e, refl)
     deep false e h = absurd (omega arith)
 
@@ -216,7 +218,7 @@ module _ {ins starts bytes s ends : List ℕ} {q p left : ℕ} (R : Ready ins st
   body-fits = number-fits R refl
 
   pub some-left : 0 < left
-  some-left = omega (arith, R .flat, some-level ins s (R .input .whole) p (R .place))
+  some-left = omega (arith, R .few-levels, some-level ins s (R .input .whole) p (R .place))
 
   -- places where states and trees are noted
   pub few-noted : (q < 256) × (p < 4096)
@@ -241,10 +243,10 @@ module _ {ins starts bytes s ends : List ℕ} {q p left : ℕ} (R : Ready ins st
             ordered = rw (f′, g′) (T .ordered n less);
             inside = inside;
             callable = λ j h l i. let c = T .callable q a j (R .state) k (omega arith) (omega arith) i in (omega (arith, c .0, N .enough), c .1);
-            flat = λ j h l i.
+            few-levels = λ j h l i.
                 let c = rw (pairs-at bytes j (omega arith)) at (T .callable q a j (R .state) k (omega arith) (omega arith)) in
                 let d = child-flat ins s ends (R .input) p (getD bytes (2 * j) 0 - 1) (R .place) (omega (arith, c i .0)) in
-                omega (arith, d, R .flat);
+                omega (arith, d, R .few-levels);
             all-starts = R .all-starts;
             all-ends = R .all-ends;
           },
@@ -270,7 +272,7 @@ module _ {ins starts bytes s ends : List ℕ} {from to below left : ℕ} (W : Wa
   to-apply {i} {x} {p} e some f k =
       let c = call-in W j h g (λ z. some (e ∙ z)) in
       let z : p ≡ hop ends (getD bytes (2 * j) 0 - 1) below = k ∙ ap (λ n. hop ends (n - 1) below) e in
-      (record { table = W .table; input = W .input; state = rw f (c .state); place = rw z (c .inside); flat = rw z (W .flat j h g (pos-of (λ y. some (e ∙ y)))); all-starts = W .all-starts; all-ends = W .all-ends }, rw (z, f) (c .writes))
+      (record { table = W .table; input = W .input; state = rw f (c .state); place = rw z (c .inside); few-levels = rw z (W .few-levels j h g (pos-of (λ y. some (e ∙ y)))); all-starts = W .all-starts; all-ends = W .all-ends }, rw (z, f) (c .writes))
     where
       pos-of : (getD bytes (2 * j) 0 ≡ 0 → ⊥) → 0 < getD bytes (2 * j) 0
       pos-of h = omega (arith, h)

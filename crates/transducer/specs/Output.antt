@@ -4,9 +4,9 @@ use mathlib.Core.List.{List}
 use mathlib.Core.Path.{_≡_}
 use Rattle.theory.specs.Term.{Tree}
 use Rattle.theory.specs.Transducer.{Transducer, translate}
-use Rattle.formats.specs.Alphabets.{inputs, outputs}
+use Rattle.trees.specs.Alphabets.{inputs, outputs}
 use Rattle.formats.specs.Sheet.{Sheet}
-use Rattle.formats.specs.Tree.{InputTree}
+use Rattle.trees.specs.Tree.{InputTree}
 
 pub record Output (stock sheet design : List ℕ) (t : Tree) : Type 0 where
   pub states : ℕ

@@ -2,13 +2,13 @@
 ghost use mathlib.Core.Path.{_≡_};
 ghost use Prim.Native.Nat.{ℕ, _≤_, _<_};
 ghost use lib.ListN.{length};
-ghost use Rattle.formats.specs.Inner.Measured.{WholeTree};
+ghost use Rattle.trees.specs.Inner.Measured.{WholeTree};
 ghost use Rattle.transducer.specs.Inner.Written.{hop, Input};
-use formats::bytes::number;
-use formats::bytes::wide;
+use trees::bytes::number;
+use trees::bytes::wide;
 
 // The tree that stands n trees behind the one at `from`.
-pub(crate) fn skip(ends: &[u16], from: usize, n: usize) -> usize
+pub fn skip(ends: &[u16], from: usize, n: usize) -> usize
     requires { ⌜ ((k : ℕ) → k < n → hop (now ends) k from < length (now ends)) ⌝ }
     ensures { λ r. ⌜ r ≡ hop (now (ends .entry)) n from ⌝ }
 {
@@ -22,7 +22,7 @@ pub(crate) fn skip(ends: &[u16], from: usize, n: usize) -> usize
 }
 
 // Notes where each subtree of the input tree `s` ends: from the last node to the first, each behind its children.
-pub(crate) fn fill_ends(ins: &[u8], s: &[u8], ends: &mut [u16])
+pub fn fill_ends(ins: &[u8], s: &[u8], ends: &mut [u16])
     requires { ⌜ WholeTree (now ins) (now s) × (4096 ≤ length (now ends)) ⌝ }
     ensures { λ _. ⌜ Input (now (ins .entry)) (now (s .entry)) (now (ends .exit)) ⌝ }
 {

@@ -1,5 +1,3 @@
-// What is done with one transducer: the linear test, translation, and the symbol at an address of the output.
-pub mod address;
-mod children;
-pub mod linear;
+// Translation: what one transducer gives on an input tree; and where the subtrees of an input tree end.
+pub mod children;
 pub mod translate;

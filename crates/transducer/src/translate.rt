@@ -9,18 +9,18 @@ ghost use Rattle.transducer.specs.Inner.Machine.{Machine, TranslatesBy};
 ghost use Rattle.transducer.specs.Inner.Written.{applied, walked, Ready, Walkable, noteKey, Noted, Standing, Limits, Wrote, Emitted};
 use crate::children::fill_ends;
 use crate::children::skip;
-use formats::alphabet::input_ranks;
 use formats::bodies::fill_starts;
-use formats::bytes::larger;
-use formats::bytes::number;
-use formats::bytes::wide;
 use formats::file::FileRead;
 use formats::file::copy_at;
 use formats::file::counts_end;
 use formats::file::read_transducer;
-use formats::refusal::Refusal;
-use formats::tree::Extent;
-use formats::tree::measure_all;
+use trees::alphabet::input_ranks;
+use trees::bytes::larger;
+use trees::bytes::number;
+use trees::bytes::wide;
+use trees::refusal::Refusal;
+use trees::tree::Extent;
+use trees::tree::measure_all;
 
 // How many symbols were written, or the refusal.
 pub enum Translation {

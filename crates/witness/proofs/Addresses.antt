@@ -13,12 +13,14 @@ use lib.ListN.{length, getD, drop, take, set, List·getD-eq-default}
 use lib.Seq.{sets, set-comm, drop-drop, length-slice}
 use borrow.Author.Tests.{lt-ltb, le-ltb, ltb-false}
 use Rattle.theory.specs.Term.{Term, var, node, Terms, none, more, count}
-use Rattle.formats.specs.Code.{Mark}
-use Rattle.formats.specs.Inner.Decode.{letters, lettersAll, Letter, call, symbol, unknown, firsts, rests, grown, put, forest, first}
-use Rattle.formats.specs.Inner.Layout.{symbolOf, symbolIf, callIf, markOf, markAt, pairs}
+use Rattle.trees.specs.Code.{Mark}
+use Rattle.theory.specs.Inner.Forests.{letters, lettersAll}
+use Rattle.trees.specs.Inner.Decode.{Letter, call, symbol, unknown, firsts, rests, nodeIf, put, forest, first}
+use Rattle.trees.specs.Inner.Symbols.{symbolOf, symbolIf}
+use Rattle.formats.specs.Inner.Layout.{callIf, markOf, markAt, pairs}
 use Rattle.formats.specs.Inner.Marked.{part}
-use Rattle.formats.proofs.Codes.{single}
-use Rattle.formats.proofs.Forest.{letters-pos, all-drop}
+use Rattle.trees.proofs.Codes.{single}
+use Rattle.trees.proofs.Forest.{letters-pos, all-drop}
 use Rattle.formats.proofs.Pairs.{part-cons, pairs-at, pairs-length}
 use Rattle.prefixes.proofs.Ends.{taken}
 use Rattle.earliest.specs.Inner.Places.{place, placeAmong, behind}
@@ -116,7 +118,7 @@ module _ {A : Type 0} (G : Terms A) (p : ℕ) (low : p < lettersAll G) where
   up-parent (call a) h g = absurd (omega arith)
   up-parent (symbol k n) h g = by-rank (leb n (count G)) h
     where
-      by-rank : (b : Bool) → 0 < lettersAll (grown b k n G) → placeAmong (grown b k n G) (suc p) ≡ (0, suc (placeAmong G p .0) ∷ placeAmong G p .1)
+      by-rank : (b : Bool) → 0 < lettersAll (nodeIf b k n G) → placeAmong (nodeIf b k n G) (suc p) ≡ (0, suc (placeAmong G p .0) ∷ placeAmong G p .1)
       by-rank true h = let w = within n G p low g in in-first (node k (firsts n G)) (rests n G) (suc p) (omega (arith, w .low)) ∙ ap (λ (r : ℕ × List ℕ). (0, suc (r .0) ∷ r .1)) (w .same)
       by-rank false h = absurd (omega arith)
   up-parent unknown h g = absurd (omega arith)
@@ -130,7 +132,7 @@ module _ {A : Type 0} (G : Terms A) (p : ℕ) (low : p < lettersAll G) where
       in-behind (var a) G (suc p) (omega arith) ∙ ap (λ q. behind (placeAmong G q)) z ∙ ap (λ k. (suc k, placeAmong G p .1)) c
   up-past (symbol k n) h g = by-rank (leb n (count G)) h
     where
-      by-rank : (b : Bool) → 0 < lettersAll (grown b k n G) → placeAmong (grown b k n G) (suc p) ≡ (suc (placeAmong G p .0 - n), placeAmong G p .1)
+      by-rank : (b : Bool) → 0 < lettersAll (nodeIf b k n G) → placeAmong (nodeIf b k n G) (suc p) ≡ (suc (placeAmong G p .0 - n), placeAmong G p .1)
       by-rank true h =
           let w = beyond n G p low g in
           let z : suc p - suc (lettersAll (firsts n G)) ≡ p - lettersAll (firsts n G) = omega arith in

@@ -25,14 +25,14 @@ use Rattle.theory.proofs.Runs.{fill, call, output-node}
 use Rattle.theory.proofs.Slim.{leaf-slim}
 use Rattle.theory.proofs.Terms.{conflict, count-binds}
 use Rattle.theory.proofs.Vars.{all-one}
-use Rattle.formats.specs.Alphabets.{Leaf}
-use Rattle.formats.specs.Code.{Mark, Ranked, AllRanked}
+use Rattle.trees.specs.Alphabets.{Leaf}
+use Rattle.trees.specs.Code.{Mark, Ranked, AllRanked}
 use Rattle.formats.specs.Inner.Layout.{bodyNumber, transducer}
 use Rattle.formats.specs.Inner.Marked.{part}
 use Rattle.formats.proofs.Pairs.{number-less, pairs-at}
-use Rattle.prefixes.specs.Alphabet.{alphabet}
-use Rattle.prefixes.specs.Inner.Heads.{machine, Layout}
-use Rattle.prefixes.proofs.Settling.{machine-wf}
+use Rattle.forms.specs.Alphabet.{alphabet}
+use Rattle.forms.specs.Inner.Tables.{machine, Layout}
+use Rattle.forms.proofs.Files.{machine-wf}
 use Rattle.witness.specs.Inner.Bottoms.{Bodied, RootOnLeafAsked, PathFromFound, RootOnLeaf, BottomFound, no-path, second-path, first-path}
 use Rattle.witness.specs.Inner.Other.{firstMark}
 use Rattle.pairs.specs.Inner.Pairs.{pairByte, bodyOf}
@@ -214,7 +214,7 @@ bottom-few (first-path h A F) = F .path .few
 -- ---- the symbol that a call shows on a leaf
 module _ {ins starts bytes : List ℕ} {e c x : ℕ} (F : RootOnLeafAsked ins starts bytes e c x) (h : 0 < c) where
   pub leaf-body-number : bodyNumber ins x e < length starts
-  leaf-body-number = omega (arith, number-less ins x (F .states) e (F .state h) (F .leaf), F .layout .laid .long)
+  leaf-body-number = omega (arith, number-less ins x (F .states) e (F .state h) (F .leaf), F .layout .bounds .long)
 
   pub leaf-mark-inside : {at : ℕ} → at ≡ getD starts (bodyNumber ins x e) 0 → 2 * at + 1 < length bytes
   leaf-mark-inside f = omega (arith, mark-fits (F .layout) (F .state h) (F .leaf))

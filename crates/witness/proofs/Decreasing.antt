@@ -18,14 +18,14 @@ use Rattle.theory.proofs.Leaves.{call-put}
 use Rattle.theory.proofs.OtherRoot.{only-call, all-found}
 use Rattle.theory.proofs.Runs.{output-node}
 use Rattle.theory.proofs.Terms.{count-binds}
-use Rattle.formats.specs.Alphabets.{Leaf}
-use Rattle.formats.specs.Code.{Mark}
+use Rattle.trees.specs.Alphabets.{Leaf}
+use Rattle.trees.specs.Code.{Mark}
 use Rattle.formats.specs.Inner.Layout.{pairs}
 use Rattle.formats.specs.Inner.Marked.{part}
 use Rattle.formats.proofs.Pairs.{pairs-length}
-use Rattle.prefixes.specs.Alphabet.{alphabet}
-use Rattle.prefixes.specs.Inner.Heads.{machine, Layout}
-use Rattle.prefixes.proofs.Settling.{machine-wf}
+use Rattle.forms.specs.Alphabet.{alphabet}
+use Rattle.forms.specs.Inner.Tables.{machine, Layout}
+use Rattle.forms.proofs.Files.{machine-wf}
 use Rattle.witness.specs.Inner.Other.{firstMark, stepDistance, DistanceTable, FillsDistances, Settable, Steppable, PutsStep, PathAsked, PathTo, DecreasingPath}
 use Rattle.witness.specs.Inner.Shown.{stepsTree}
 use Rattle.witness.proofs.Firsts.{First, first-symbol, first-call, first-mark, Seen, seen-root, seen-call, seen, allowed-here, sound-founded}

@@ -16,11 +16,11 @@ use Rattle.theory.specs.Term.{Term}
 use Rattle.theory.proofs.Bounded.{sum-lt}
 use Rattle.theory.proofs.OtherRoot.{dist-bound}
 use Rattle.theory.proofs.Terms.{conflict}
-use Rattle.formats.specs.Code.{Mark}
+use Rattle.trees.specs.Code.{Mark}
 use Rattle.formats.specs.Inner.Layout.{bodyNumber}
 use Rattle.formats.proofs.Pairs.{pairs-at}
-use Rattle.transducer.specs.Linear.{oneIf}
-use Rattle.prefixes.proofs.Settling.{number-fits, machine-wf}
+use Rattle.theory.specs.Weight.{oneIf}
+use Rattle.forms.proofs.Files.{number-fits, machine-wf}
 use Rattle.witness.specs.Inner.Other.{otherDistance, callDistance, markDistance, firstMark, stepDistance, Founded, NoneAt, Finished, missing, DistanceTable, DistanceTableAt, FindsDistance, Settable, NewDistance, SetsDistance, Sweepable, SweepsDistances, Fillable, FillsDistances, FindsStep, PutsStep}
 use Rattle.witness.proofs.Firsts.{First, Seen, seen-root, seen-call, seen, first-symbol, first-call, mark-fits, first-mark, founded-sound, finished-complete}
 

@@ -14,15 +14,15 @@ use borrow.Author.Tests.{eqb-false, ne-eqb}
 use Rattle.theory.specs.Inner.OtherRoot.{RootOther, CallsOnly, Sound, Complete}
 use Rattle.theory.specs.Term.{Term, Terms, var, node, count, Symbol}
 use Rattle.theory.proofs.Terms.{conflict}
-use Rattle.formats.specs.Alphabets.{Leaf}
-use Rattle.formats.specs.Code.{Mark, flat, marks, Ranked, Call}
-use Rattle.formats.specs.Inner.Decode.{forest, first, Whole}
+use Rattle.trees.specs.Alphabets.{Leaf}
+use Rattle.trees.specs.Code.{Mark, preorder, marks, Ranked, Call}
+use Rattle.trees.specs.Inner.Decode.{forest, first, Whole}
 use Rattle.formats.specs.Inner.Marked.{part}
 use Rattle.formats.specs.Inner.Layout.{pairs, markAt, markOf, body, bodyNumber, transducer}
 use Rattle.formats.proofs.Pairs.{number-less, pairs-length, getD-slice}
 use Rattle.formats.proofs.Sheets.{whole-ranked}
-use Rattle.prefixes.specs.Alphabet.{alphabet, children-inside, children-of}
-use Rattle.prefixes.specs.Inner.Heads.{machine, Layout}
+use Rattle.forms.specs.Alphabet.{alphabet, children-inside, children-of}
+use Rattle.forms.specs.Inner.Tables.{machine, Layout}
 use Rattle.witness.specs.Inner.Other.{otherDistance, callDistance, markDistance, firstMark, stepDistance, Founded, Finished}
 
 -- a right-hand side and its first mark: its root symbol, or the call that it is
@@ -31,13 +31,13 @@ pub data First (outs : List ℕ) (n r : ℕ) : Term (ℕ × ℕ) → Mark → Ty
   first-call : {i p : ℕ} → Call n r (suc i, p) → First outs n r (var (suc i, p)) (suc i, p)
 
 first-of : (outs : List ℕ) (n r : ℕ) (t : Term (ℕ × ℕ)) → Ranked (Call n r) outs t → First outs n r t (getD (marks t) 0 (0, 0))
-unfolding Ranked flat
+unfolding Ranked preorder
 first-of outs n r (var (ℕ.zero, p)) c = absurd (omega (arith, c .from-one))
 first-of outs n r (var (suc i, p)) c = first-call c
 first-of outs n r (node x ts) c = first-symbol (c .0) (c .1)
 
 some-marks : (t : Term (ℕ × ℕ)) → 0 < length (marks t)
-unfolding flat
+unfolding preorder
 some-marks (var e) = omega arith
 some-marks (node x ts) = omega arith
 
@@ -59,7 +59,7 @@ module _ {ins outs starts bytes : List ℕ} {n : ℕ} (L : Layout ins outs start
   body-first =
       let j = bodyNumber ins q a in
       let less = number-less ins q n a state there in
-      part-first outs n (getD ins a 0) bytes (getD starts j 0) (getD starts (j + 1) 0) (L .laid .inside (j + 1) (omega arith)) (L .wholes .rhs q a state there)
+      part-first outs n (getD ins a 0) bytes (getD starts j 0) (getD starts (j + 1) 0) (L .bounds .inside (j + 1) (omega arith)) (L .wholes .rhs q a state there)
 
   -- the first mark stands in the file
   pub mark-fits : 2 * getD starts (bodyNumber ins q a) 0 + 1 < length bytes

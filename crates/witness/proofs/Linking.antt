@@ -14,11 +14,11 @@ use Rattle.theory.proofs.Along.{Along, Are, Clash}
 use Rattle.theory.proofs.Clash.{Shown}
 use Rattle.theory.proofs.Search.{Reach, reach-initial, reach-rhs, far}
 use Rattle.theory.proofs.Witness.{Chain, stop, go-on, Witness, witness, only-child, chain-address, chain-spot, chain-core, chain-trees, chain-last, chain-steps}
-use Rattle.formats.specs.Alphabets.{Leaf}
+use Rattle.trees.specs.Alphabets.{Leaf}
 use Rattle.formats.specs.Inner.Layout.{body, transducer}
-use Rattle.prefixes.specs.Alphabet.{alphabet, children-of}
-use Rattle.prefixes.specs.Inner.Heads.{machine, Layout}
-use Rattle.merging.specs.Inner.Classes.{at}
+use Rattle.forms.specs.Alphabet.{alphabet, children-of}
+use Rattle.forms.specs.Inner.Tables.{machine, Layout}
+use Rattle.classes.specs.Inner.Classes.{at}
 use Rattle.pairs.specs.Inner.Pairs.{Sides, Agree, CallAt, ClashesAt, pairLeft, pairRight, pairParent, pairSymbol, pairMark, pairChild, bodyOf, leftBody, rightBody, Linked}
 use Rattle.witness.specs.Inner.Paths.{termOf, leftTerm, rightTerm, sortsFor, pairPlace, treeFor, Path, path-end, path-on}
 use Rattle.earliest.specs.Inner.Places.{place}

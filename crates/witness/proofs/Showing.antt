@@ -23,17 +23,17 @@ use Rattle.theory.proofs.Slim.{slim-size}
 use Rattle.theory.proofs.Terms.{root-some}
 use Rattle.theory.proofs.Vars.{all-one}
 use Rattle.theory.proofs.Witness.{only-child, witness-differs, witness-levels, witness-slim}
-use Rattle.formats.specs.Alphabets.{Ranks, Leaf}
-use Rattle.formats.specs.Code.{Ranked, Call}
+use Rattle.trees.specs.Alphabets.{Ranks, Leaf}
+use Rattle.trees.specs.Code.{Ranked, Call}
 use Rattle.formats.specs.Inner.Marked.{part}
 use Rattle.formats.proofs.Sheets.{transducer-over}
 use Rattle.transducer.proofs.Outputs.{code-size}
-use Rattle.prefixes.specs.Alphabet.{alphabet, children-inside}
-use Rattle.prefixes.specs.Inner.Heads.{machine, Layout}
-use Rattle.prefixes.proofs.Grafts.{slice-from}
-use Rattle.prefixes.proofs.Settling.{machine-wf}
+use Rattle.forms.specs.Alphabet.{alphabet, children-inside}
+use Rattle.forms.specs.Inner.Tables.{machine, Layout}
+use Rattle.forms.proofs.Slices.{slice-from}
+use Rattle.forms.proofs.Files.{machine-wf}
 use Rattle.earliest.specs.Inner.Places.{place}
-use Rattle.merging.specs.Inner.Classes.{at}
+use Rattle.classes.specs.Inner.Classes.{at}
 use Rattle.canonical.proofs.Alike.{allowed-ranked}
 use Rattle.witness.specs.Difference.{addressArea, Difference}
 use Rattle.witness.specs.Inner.Bottoms.{Bodied, BottomFound, RootAsked, RootFound, Stands, Leading, Roomy, StatesBelow, LedTo, TracesBack, Traces}
@@ -195,13 +195,13 @@ module _ (S : Sides) (n n′ : ℕ) (outs : List ℕ) (l : Leaf (S .ins)) (L : L
           let x = along-sub clash-ended in
           let s = clash-separates (x .left) (x .right) (x .holds) in
           let ok : Allowed G 0 T = rw (W .tree) at (w .0) in
-          let flat : levels T ≤ 384 = omega (arith, ap levels (W .tree), ap levels (W .end), witness-levels (W .chain), W .steps, s .small .1) in
+          let preorder : levels T ≤ 384 = omega (arith, ap levels (W .tree), ap levels (W .end), witness-levels (W .chain), W .steps, s .small .1) in
           let thin : Slim T = rw (W .tree) at (witness-slim (W .chain) (rw (W .end) (s .small .0))) in
           let o = roots-symbols (path-gives b b′ r low clash-gives) in
           record {
             ranked = allowed-ranked l T ok;
             small = omega (arith, slim-size 4 (children-few R l) thin ok);
-            flat = flat;
+            few-levels = preorder;
             short = short;
             left = o .0;
             right = o .1;

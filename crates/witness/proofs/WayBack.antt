@@ -9,14 +9,14 @@ use mathlib.Core.Path.{_≡_, refl, ap, ap₂, _∙_}
 use lib.ListN.{length, getD, take, drop}
 use lib.Seq.{sets-eq, length-take-le, drop-at}
 use Rattle.theory.specs.Term.{Tree}
-use Rattle.formats.specs.Alphabets.{Ranks, Leaf}
+use Rattle.trees.specs.Alphabets.{Ranks, Leaf}
 use Rattle.formats.specs.Inner.Layout.{body, bodyCount, transducer}
 use Rattle.formats.specs.Inner.Marked.{part}
 use Rattle.formats.proofs.Pairs.{number-less, pairs-at}
-use Rattle.prefixes.specs.Alphabet.{alphabet}
-use Rattle.prefixes.specs.Inner.Heads.{machine, Layout}
+use Rattle.forms.specs.Alphabet.{alphabet}
+use Rattle.forms.specs.Inner.Tables.{machine, Layout}
 use Rattle.earliest.specs.Inner.Places.{place}
-use Rattle.merging.specs.Inner.Classes.{at}
+use Rattle.classes.specs.Inner.Classes.{at}
 use Rattle.witness.specs.Inner.Bottoms.{Bodied, BottomAsked, BottomFound, no-path, second-path, first-path, Upable, Upped, RootAsked, RootFound, Stands, Leading, Roomy, StatesBelow, Stand, StepsBack, TracesBack}
 use Rattle.pairs.specs.Inner.Pairs.{pairByte, pairLeft, pairParent, pairSymbol, pairMark, pairChild, bodyOf, leftBody}
 use Rattle.witness.specs.Inner.Paths.{termOf, leftTerm, pairPlace, treeFor, Path, path-end, path-on}
@@ -113,7 +113,7 @@ pub record BodyThere (ins outs starts bytes : List ℕ) (n q a j : ℕ) : Type 0
 
 module _ {ins outs starts bytes : List ℕ} {n q a j : ℕ} (L : Layout ins outs starts bytes n) (B : BodyThere ins outs starts bytes n q a j) where
   pub body-start : j < length starts
-  body-start = omega (arith, B .there, L .laid .long)
+  body-start = omega (arith, B .there, L .bounds .long)
 
   -- mark m of it
   module _ (m : ℕ) (inside : at starts j + m < at starts (j + 1)) where

@@ -9,13 +9,13 @@ use lib.ListN.{length, getD, take, drop, set, replicate, length-set, length-appe
 use lib.Seq.{sets, sets-eq, length-sets, slice, length-take-le, take-at, drop-at, take-set-le, drop-set-lt, drop-cons, getD-take}
 use Rattle.theory.specs.Inner.Leaves.{put, leafOf}
 use Rattle.theory.specs.Term.{Tree, Terms}
-use Rattle.formats.specs.Alphabets.{Leaf}
-use Rattle.formats.specs.Code.{code, flat, flats}
+use Rattle.trees.specs.Alphabets.{Leaf}
+use Rattle.trees.specs.Code.{code, preorder, preorders}
 use Rattle.formats.specs.Inner.Layout.{markAt, pairs}
 use Rattle.formats.proofs.Pairs.{pairs-length, pairs-at}
-use Rattle.prefixes.specs.Alphabet.{alphabet}
-use Rattle.prefixes.proofs.Grafts.{slice-from}
-use Rattle.merging.proofs.Patterns.{slice-join}
+use Rattle.forms.specs.Alphabet.{alphabet}
+use Rattle.forms.proofs.Slices.{slice-from}
+use Rattle.classes.proofs.Patterns.{slice-join}
 use Rattle.witness.specs.Inner.Shown.{stepsTree, Holds, SymbolWritten, Wrapped, Addable, Added, SymbolAsked, Wrappable, Step, StepsAsked, StepsWritten}
 
 -- ---- parts of what was written
@@ -53,18 +53,18 @@ slice-behind W s at from to h o i =
 
 -- ---- the code of leaves and of one tree among them
 abbrev codes : Terms ⊥ → List ℕ
-codes ts = flats (λ x. absurd x) (λ k. k) ts
+codes ts = preorders (λ x. absurd x) (λ k. k) ts
 
 module _ (ins : List ℕ) (l : Leaf ins) (d : Tree) where
   -- r leaves
   leaves-code : (r : ℕ) → codes (put (alphabet ins l) (replicate r 0) 0 d) ≡ replicate r (l .symbol)
-  unfolding put leafOf alphabet flat
+  unfolding put leafOf alphabet preorder
   leaves-code ℕ.zero = refl
   leaves-code (suc r) = ap (_∷_ (l .symbol)) (leaves-code r)
 
   -- i leaves before d, and the others behind it
   put-code : (r i : ℕ) → i < r → codes (put (alphabet ins l) (replicate r 0) (suc i) d) ≡ replicate i (l .symbol) ++ (code d ++ replicate (r - suc i) (l .symbol))
-  unfolding put leafOf alphabet flat
+  unfolding put leafOf alphabet preorder
   put-code ℕ.zero i h = absurd (omega arith)
   put-code (suc r) ℕ.zero h = let e : r ≡ suc r - 1 = omega arith in ap (_++_ (code d)) (leaves-code r ∙ ap (λ k. replicate k (l .symbol)) e)
   put-code (suc r) (suc i) h = let e : r - suc i ≡ suc r - suc (suc i) = omega arith in ap (_∷_ (l .symbol)) (put-code r i (omega arith) ∙ ap (λ k. replicate i (l .symbol) ++ (code d ++ replicate k (l .symbol))) e)
@@ -72,7 +72,7 @@ module _ (ins : List ℕ) (l : Leaf ins) (d : Tree) where
 -- ---- a symbol with leaves alone
 module _ {ins buffer : List ℕ} {e a at : ℕ} (P : SymbolAsked ins e a buffer at) where
   pub symbol-written : {after : List ℕ} {r to : ℕ} → r ≡ getD ins a 0 → after ≡ sets (set buffer at a) (at + 1) (replicate r e) → to ≡ at + 1 + r → SymbolWritten ins e a at after at to
-  unfolding flat
+  unfolding preorder
   symbol-written {after} {r} {to} f g h =
       let low = P .symbols .ranks .low a (P .symbols .there) in
       let n = length-replicate r e in
@@ -89,7 +89,7 @@ module _ {ins buffer : List ℕ} {e a at : ℕ} (P : SymbolAsked ins e a buffer 
 -- ---- a symbol above a tree
 module _ {ins buffer : List ℕ} {e a i lo hi : ℕ} (P : Wrappable ins e a i buffer lo hi) where
   pub wrapped : {first after : List ℕ} {b from to : ℕ} → b ≡ getD ins a 0 - i → from ≡ lo - i → first ≡ sets (set buffer from a) (from + 1) (replicate (i - 1) e) → after ≡ sets first hi (replicate b e) → to ≡ hi + b → Wrapped ins e a i buffer lo hi after from to
-  unfolding flat
+  unfolding preorder
   wrapped {first} {after} {b} {from} {to} f g p q h =
       let low = P .symbols .ranks .low a (P .symbols .there) in
       let c = P .child in
@@ -154,7 +154,7 @@ pub record StepsLoop (ins : List ℕ) (e : ℕ) (steps : List ℕ) (count : ℕ)
 
 -- a leaf alone
 leaf-there : {ins : List ℕ} {e : ℕ} (l : Leaf ins) → l .symbol ≡ e → (buffer : List ℕ) (at to : ℕ) → to ≡ at + 1 → to ≤ length buffer → slice at to (set buffer at e) ≡ code (stepsTree ins l [])
-unfolding stepsTree leafOf alphabet flat
+unfolding stepsTree leafOf alphabet preorder
 leaf-there {e = e} l z buffer at to f h = slice-sets (e ∷ []) buffer at to f h ∙ ap (λ x. x ∷ []) (sym z)
 
 module _ {ins steps buffer : List ℕ} {e count : ℕ} (P : StepsAsked ins e steps count buffer) where

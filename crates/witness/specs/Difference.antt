@@ -9,7 +9,7 @@ use lib.Seq.{sets}
 use Rattle.theory.specs.Size.{size, levels}
 use Rattle.theory.specs.Term.{Tree, symbolAt}
 use Rattle.theory.specs.Transducer.{Transducer, translate}
-use Rattle.formats.specs.Code.{Ranked, code}
+use Rattle.trees.specs.Code.{Ranked, code}
 
 -- the areas: of the tree, 1 + 4 · 383 nodes in 384 levels at most; of the address, 63 numbers for each of 256 right-hand sides at most
 abbrev pub treeArea : ℕ
@@ -25,7 +25,7 @@ addressArea = 16128
 pub record Difference (ins outs : List ℕ) (M M′ : Transducer ℕ) (d : Tree) (v : List ℕ) (b b′ : ℕ) : Type 0 where
   pub ranked : Ranked (λ x. ⊥) ins d
   pub small : size d ≤ treeArea
-  pub flat : levels d ≤ treeLevels
+  pub few-levels : levels d ≤ treeLevels
   pub short : length v ≤ addressArea
   pub left : symbolAt (translate M d) v ≡ some (b, getD outs b 0)
   pub right : symbolAt (translate M′ d) v ≡ some (b′, getD outs b′ 0)

@@ -3,8 +3,8 @@ ghost use Prim.Native.Nat.{_+_, _*_, _≤_, _<_};
 ghost use mathlib.Core.Path.{_≡_};
 ghost use lib.ListN.{length};
 ghost use Rattle.witness.specs.Inner.Other.{stepDistance, DistanceTableAt, FindsDistance, Settable, SetsDistance, Sweepable, SweepsDistances, Fillable, FillsDistances, Steppable, FindsStep, PutsStep, PathAsked, DecreasingPath};
-use formats::bytes::number;
-use formats::bytes::wide;
+use trees::bytes::number;
+use trees::bytes::wide;
 
 // How far the right-hand side of q for a is from a root symbol other than b: 1 if it has one, one more than the state called if it is a call alone, else 0.
 fn step_distance(

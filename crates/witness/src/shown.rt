@@ -5,13 +5,8 @@ ghost use lib.ListN.{length, replicate};
 ghost use lib.Seq.{sets};
 ghost use Rattle.formats.specs.Inner.Layout.{markAt};
 ghost use Rattle.witness.specs.Inner.Shown.{SymbolAsked, SymbolWritten, Wrappable, Wrapped, Addable, Added, StepsAsked, StepsWritten, rankOf, AddressAsked, AddressWritten};
-use formats::bytes::wide;
-
-// Where a tree stands in a buffer: its first byte, and the byte behind its last.
-pub struct Span {
-    pub from: usize,
-    pub to: usize,
-}
+use trees::bytes::Span;
+use trees::bytes::wide;
 
 // Writes n times the byte e, from position `at` on.
 fn fill(buffer: &mut [u8], at: usize, n: usize, e: u8)

@@ -2,20 +2,18 @@
 ghost use Prim.Native.Nat.{_+_, _-_, _≤_, _<_};
 ghost use mathlib.Core.Path.{_≡_};
 ghost use lib.ListN.{length};
-ghost use Rattle.prefixes.specs.Inner.Heads.{machine};
+ghost use Rattle.forms.specs.Inner.Tables.{machine};
 ghost use Rattle.witness.specs.Inner.Bottoms.{Bodied, PathFromAsked, PathFromFound, RootOnLeafAsked, RootOnLeaf, BottomAsked, BottomFound, Upable, Upped, RootAsked, RootFound, Leading, Roomy, StepsBack, TracesBack, Tracing, Traces};
 ghost use Rattle.pairs.specs.Inner.Pairs.{sides, pairByte, bodyOf, Clashes};
 ghost use Rattle.witness.specs.Inner.Forms.{Comparable, Shows};
 use crate::other::PathEnd;
 use crate::other::fill_distances;
 use crate::other::write_path;
-use crate::shown::Span;
 use crate::shown::add_step;
 use crate::shown::write_address;
 use crate::shown::write_steps;
-use formats::bytes::number;
-use formats::bytes::wide;
 use formats::file::copy_at;
+use forms::leaf::leaf_symbol;
 use pairs::pairs::CHILD;
 use pairs::pairs::LEFT;
 use pairs::pairs::MARK;
@@ -23,7 +21,9 @@ use pairs::pairs::PARENT;
 use pairs::pairs::RIGHT;
 use pairs::pairs::SYMBOL;
 use pairs::pairs::pair_byte;
-use prefixes::prefix::leaf_symbol;
+use trees::bytes::Span;
+use trees::bytes::number;
+use trees::bytes::wide;
 
 // Below a clash: the child that matters, 0 if none does, the number of steps of its tree, and the root symbols of the two outputs.
 pub struct Bottom {

@@ -6,14 +6,13 @@ use Rattle.theory.specs.Earliest.{Earliest}
 use Rattle.theory.specs.NormalForm.{NormalForm}
 use Rattle.theory.specs.Numbered.{Numbered}
 use Rattle.theory.specs.Transducer.{Transducer}
-use Rattle.formats.specs.Alphabets.{Leaf, Alphabets, inputs, outputs}
+use Rattle.trees.specs.Alphabets.{Leaf, Alphabets, inputs, outputs}
 use Rattle.formats.specs.Sheet.{Encodes}
-use Rattle.prefixes.specs.Alphabet.{alphabet}
-use Rattle.prefixes.specs.Inner.Heads.{machine, Layout}
+use Rattle.forms.specs.Alphabet.{alphabet}
+use Rattle.forms.specs.Inner.Tables.{machine, Layout, Packed}
 use Rattle.earliest.specs.Inner.Loaded.{EarliestOf}
-use Rattle.earliest.specs.Inner.Packed.{Packed}
-use Rattle.earliest.specs.declared.queue.FormSize.{FormSize}
-use Rattle.earliest.specs.declared.queue.FormSize.the-variants.{States, Over}
+use Rattle.forms.specs.declared.write.FormSize.{FormSize}
+use Rattle.forms.specs.declared.write.FormSize.the-variants.{States, Over}
 
 -- a transducer in a table
 pub record Reducible (ins outs starts bytes : List ℕ) (k : ℕ) : Type 0 where

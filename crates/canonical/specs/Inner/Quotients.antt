@@ -6,14 +6,13 @@ use lib.ListN.{length, getD, set}
 use lib.Seq.{sets}
 use Rattle.theory.specs.NormalForm.{Identical}
 use Rattle.theory.specs.Quotient.{Classes, quotient}
-use Rattle.formats.specs.Alphabets.{Leaf}
+use Rattle.trees.specs.Alphabets.{Leaf}
 use Rattle.formats.specs.Inner.Layout.{bodyNumber}
 use Rattle.formats.specs.Inner.Marked.{part}
 use Rattle.formats.specs.Sheet.{markBytes}
-use Rattle.prefixes.specs.Alphabet.{alphabet}
-use Rattle.prefixes.specs.Inner.Heads.{machine, Layout}
-use Rattle.earliest.specs.Inner.Packed.{Packed}
-use Rattle.merging.specs.Inner.Classes.{keyed, bodyMarks, at, Keyable}
+use Rattle.forms.specs.Alphabet.{alphabet}
+use Rattle.forms.specs.Inner.Tables.{machine, Layout, Packed}
+use Rattle.classes.specs.Inner.Classes.{keyed, bodyMarks, at, Keyable}
 
 -- what writing asks: a transducer with n states in `count` classes, which are numbered in the order of their least members, and room
 pub record Mergeable (ins outs starts bytes classes least : List ℕ) (n count : ℕ) (starts′ bytes′ : List ℕ) : Type 0 where

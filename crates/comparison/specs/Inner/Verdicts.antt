@@ -6,15 +6,15 @@ use mathlib.Core.Path.{_≡_}
 use Rattle.theory.specs.Equivalent.{Equivalent}
 use Rattle.theory.specs.Term.{Tree}
 use Rattle.theory.specs.Transducer.{Transducer}
-use Rattle.formats.specs.Alphabets.{Leaf, inputs, outputs}
-use Rattle.formats.specs.Refusal.{done, check, Judged}
+use Rattle.trees.specs.Alphabets.{Leaf, inputs, outputs}
+use Rattle.trees.specs.Refusal.{done, check, Judged}
 use Rattle.formats.specs.Sheet.{Encodes}
-use Rattle.formats.specs.declared.refusal.Refusal.{Refusal}
-use Rattle.prefixes.specs.Alphabet.{alphabet}
-use Rattle.prefixes.specs.Inner.Heads.{machine}
+use Rattle.trees.specs.declared.refusal.Refusal.{Refusal}
+use Rattle.forms.specs.Alphabet.{alphabet}
+use Rattle.forms.specs.Inner.Tables.{machine}
 use Rattle.transducer.specs.Inner.Machine.{Machine}
 use Rattle.earliest.specs.Inner.Loaded.{EarliestOf, FormOfParts}
-use Rattle.earliest.specs.declared.queue.FormSize.the-variants.{States}
+use Rattle.forms.specs.declared.write.FormSize.the-variants.{States}
 use Rattle.canonical.specs.Answers.{Alike}
 use Rattle.witness.specs.Difference.{Difference, Written}
 use Rattle.witness.specs.Inner.Forms.{Shows}

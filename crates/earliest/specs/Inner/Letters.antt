@@ -1,4 +1,4 @@
--- Right-hand sides with the patterns of the states put for their calls, as lists of numbers: a number below 64 is a symbol, 8192 · i + c is the call of state c on child i.
+-- Right-hand sides with the patterns of the states put for their calls, as lists of letters: a number below 64 is a symbol, 65,536 · i + c the call of state c on child i.
 -- State c of the earliest form is the ⊤ that stands at byte c of the table of patterns: at byte c % 64 of the pattern of state c / 64.
 use Prim.Native.Nat.{ℕ, suc, _+_, _*_, _/_, _%_, _≤_, _<_}
 use mathlib.Core.Bool.{Bool, true, false}
@@ -9,29 +9,22 @@ use lib.ListN.{length, getD, drop}
 use Rattle.theory.specs.Prefix.{Prefix}
 use Rattle.theory.specs.Term.{Term, var, node, Terms, none, more, count}
 use Rattle.theory.specs.Transducer.{Transducer}
-use Rattle.formats.specs.Code.{flat}
-use Rattle.formats.specs.Inner.Decode.{Letter, call, symbol, unknown, forest, first, Whole, joined}
+use Rattle.trees.specs.Inner.Decode.{Letter, call, symbol, unknown, forest, first, Whole}
+use Rattle.theory.specs.Inner.Forests.{joined}
 use Rattle.formats.specs.Inner.Layout.{markAt, bodyNumber}
 use Rattle.formats.specs.Inner.Marked.{part}
 use Rattle.transducer.specs.Inner.Written.{spell}
-use Rattle.prefixes.specs.Inner.Heads.{Heads, Layout, headOf}
+use Rattle.prefixes.specs.Inner.Heads.{Heads, headOf}
+use Rattle.forms.specs.Inner.Tables.{Layout}
 use Rattle.prefixes.specs.Inner.Patterns.{top, topOf, IsPattern, readPattern, headAt, Graftable}
 
 abbrev pub letterIf : Bool → Bool → List ℕ → ℕ → Letter (ℕ × ℕ)
 letterIf true b outs x = symbol x (getD outs x 0)
-letterIf false true outs x = call (x / 8192, x % 8192)
+letterIf false true outs x = call (x / 65536, x % 65536)
 letterIf false false outs x = unknown
 
 unfoldable pub letterOf : List ℕ → ℕ → Letter (ℕ × ℕ)
-letterOf outs x = letterIf (ltb x (length outs)) (leb 8192 x) outs x
-
--- the number of a call
-abbrev pub callLetter : ℕ × ℕ → ℕ
-callLetter e = 8192 * e .0 + e .1
-
--- the letters of a term
-abbrev pub spelt : Term (ℕ × ℕ) → List ℕ
-spelt t = flat (λ e. callLetter e ∷ []) (λ k. k) t
+letterOf outs x = letterIf (ltb x (length outs)) (leb 65536 x) outs x
 
 abbrev pub openIf : Bool → ℕ → ℕ → ℕ
 openIf true c x = c
@@ -44,7 +37,7 @@ labeled base (x ∷ s) = openIf (eqb x top) base x ∷ labeled (suc base) s
 
 -- the marks number `from` up to `to`, with the pattern of each state for its calls, its ⊤ being calls again
 abbrev pub expanded : List ℕ → List ℕ → List ℕ → ℕ → ℕ → List ℕ
-expanded heads sizes bytes from to = spell (λ i q. labeled (8192 * i + 64 * q) (headAt heads sizes q)) (part bytes from to)
+expanded heads sizes bytes from to = spell (λ i q. labeled (65536 * i + 64 * q) (headAt heads sizes q)) (part bytes from to)
 
 -- body j
 abbrev pub expandedBody : List ℕ → List ℕ → List ℕ → List ℕ → ℕ → List ℕ

@@ -4,16 +4,15 @@ use mathlib.Core.List.{List}
 use mathlib.Core.Path.{_≡_}
 use Rattle.theory.specs.Transducer.{Transducer}
 use Rattle.theory.specs.Trimmed.{Trimmed}
-use Rattle.formats.specs.Alphabets.{Leaf, Alphabets, inputs, outputs}
-use Rattle.formats.specs.Refusal.{done, check, Judged}
+use Rattle.trees.specs.Alphabets.{Leaf, Alphabets, inputs, outputs}
+use Rattle.trees.specs.Refusal.{done, check, Judged}
 use Rattle.formats.specs.Sheet.{Encodes}
-use Rattle.prefixes.specs.Alphabet.{alphabet}
-use Rattle.prefixes.specs.Inner.Heads.{machine, Layout}
-use Rattle.earliest.specs.Answers.{formOf, FileOf}
-use Rattle.earliest.specs.Inner.Packed.{Packed}
-use Rattle.earliest.specs.declared.queue.FormSize.{FormSize}
-use Rattle.earliest.specs.declared.queue.FormSize.the-variants.{States, Over}
-use Rattle.earliest.specs.declared.earliest.Formed.{Formed}
+use Rattle.forms.specs.Alphabet.{alphabet}
+use Rattle.forms.specs.Inner.Tables.{machine, Layout, Packed}
+use Rattle.forms.specs.Answers.{formOf, FileOf}
+use Rattle.forms.specs.declared.write.FormSize.{FormSize}
+use Rattle.forms.specs.declared.write.FormSize.the-variants.{States, Over}
+use Rattle.forms.specs.declared.write.Formed.{Formed}
 
 -- k, the counts and the marks are those of the earliest form of the transducer with n states and these counts and marks
 pub record EarliestOf (stock : List ℕ) (n : ℕ) (counts bytes : List ℕ) (k : ℕ) (counts′ bytes′ : List ℕ) : Type 0 where

@@ -4,7 +4,7 @@ use mathlib.Core.Bool.{Bool, true, false}
 use mathlib.Core.List.{List, [], _∷_}
 use lib.Dec.{ltb}
 use Rattle.theory.specs.Term.{Term, var, node, Terms, none, more}
-use Rattle.formats.specs.Inner.Decode.{letters}
+use Rattle.theory.specs.Inner.Forests.{letters}
 
 abbrev pub placeIf : Bool → ℕ × List ℕ → ℕ × List ℕ → ℕ × List ℕ
 placeIf true p r = p

@@ -1,6 +1,6 @@
 -- `caplune_clean` meets its contract. Assumes nothing.
 use mathlib.Core.Path.{refl, ap}
-use Rattle.earliest.specs.Answers.{formOf}
+use Rattle.forms.specs.Answers.{formOf}
 use Rattle.exports.proofs.Telling.{tells-accepted, tells-refused}
 use borrow.Author.Needs.{needs}
 use Rattle.exports.proofs.caplune_clean.Statement.{statement}

@@ -1,6 +1,6 @@
 -- `caplune_is_linear` meets its contract. Assumes nothing.
 use mathlib.Core.Path.{refl, ap}
-use Rattle.transducer.specs.Answers.{linearTest}
+use Rattle.queries.specs.Answers.{linearTest}
 use Rattle.exports.proofs.Telling.{tells-accepted, tells-refused}
 use borrow.Author.Needs.{needs}
 use Rattle.exports.proofs.caplune_is_linear.Statement.{statement}

@@ -1,6 +1,6 @@
 -- `caplune_read_alphabets` meets its contract. Assumes nothing.
 use mathlib.Core.Path.{refl, ap}
-use Rattle.formats.specs.Answers.{alphabetsRead}
+use Rattle.trees.specs.Answers.{alphabetsRead}
 use Rattle.exports.proofs.Telling.{tells-accepted, tells-refused}
 use borrow.Author.Needs.{needs}
 use Rattle.exports.proofs.caplune_read_alphabets.Statement.{statement}

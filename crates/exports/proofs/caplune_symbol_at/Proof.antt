@@ -1,6 +1,6 @@
 -- `caplune_symbol_at` meets its contract. Assumes nothing.
 use mathlib.Core.Path.{refl, ap}
-use Rattle.transducer.specs.Answers.{found}
+use Rattle.queries.specs.Answers.{found}
 use Rattle.exports.proofs.Telling.{tells-accepted, tells-refused}
 use borrow.Author.Needs.{needs}
 use Rattle.exports.proofs.caplune_symbol_at.Statement.{statement}

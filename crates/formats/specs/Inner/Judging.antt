@@ -5,9 +5,10 @@ use mathlib.Core.Path.{_≡_}
 use lib.ListN.{length}
 use lib.Seq.{sets}
 use Rattle.theory.specs.Transducer.{Transducer}
-use Rattle.formats.specs.Alphabets.{inputs, outputs}
-use Rattle.formats.specs.Answers.{Nothing, fileRead}
-use Rattle.formats.specs.Refusal.{done, Judged}
+use Rattle.trees.specs.Alphabets.{inputs, outputs}
+use Rattle.trees.specs.Answers.{Nothing}
+use Rattle.formats.specs.Answers.{fileRead}
+use Rattle.trees.specs.Refusal.{done, Judged}
 use Rattle.formats.specs.Sheet.{Encodes, Sheet, sheetCheck, partsCheck}
 use Rattle.formats.specs.declared.file.FileRead.{FileRead}
 

@@ -1,4 +1,4 @@
--- Where things stand in a file, byte by byte: trees at a position, bodies by the counts before them, the transducer that is read from them.
+-- Where things stand in the file of a transducer, byte by byte: bodies by the counts before them, the transducer that is read from them.
 use Prim.Native.Nat.{ℕ, suc, _+_, _*_, _<_, _≤_}
 use mathlib.Core.Bool.{Bool, true, false}
 use mathlib.Core.List.{List, [], _∷_}
@@ -6,39 +6,20 @@ use mathlib.Core.Path.{_≡_}
 use lib.Dec.{ltb, leb}
 use lib.ListN.{length, getD}
 use lib.Seq.{slice}
-use Rattle.theory.specs.Term.{Tree, Terms}
 use Rattle.theory.specs.Transducer.{Transducer}
-use Rattle.formats.specs.Code.{Mark}
-use Rattle.formats.specs.Inner.Decode.{Letter, symbol, call, unknown, forest, first, Whole}
-
-abbrev pub symbolIf : {A : Type 0} → Bool → ℕ → ℕ → Letter A
-symbolIf true k n = symbol k n
-symbolIf false k n = unknown
+use Rattle.trees.specs.Code.{Mark}
+use Rattle.trees.specs.Inner.Decode.{Letter, call, unknown, forest, first, Whole}
+use Rattle.trees.specs.Inner.Symbols.{symbolOf}
 
 abbrev pub callIf : Bool → Bool → Mark → Letter (ℕ × ℕ)
 callIf true true e = call e
 callIf true false e = unknown
 callIf false b e = unknown
 
--- a symbol of an alphabet, whose ranks are rs
-unfoldable pub symbolOf : {A : Type 0} → List ℕ → ℕ → Letter A
-symbolOf rs k = symbolIf (ltb k (length rs)) k (getD rs k 0)
-
 -- a mark of a right-hand side over r children, with n states and the output alphabet outs
 unfoldable pub markOf : List ℕ → ℕ → ℕ → Mark → Letter (ℕ × ℕ)
 markOf outs n r (ℕ.zero, b) = symbolOf outs b
 markOf outs n r (suc i, q) = callIf (leb (suc i) r) (ltb q n) (suc i, q)
-
--- the input trees that follow one another in s, and the first of them
-unfoldable pub trees : List ℕ → List ℕ → Terms ⊥
-trees ins s = forest (symbolOf ins) s
-
-unfoldable pub tree : List ℕ → List ℕ → Tree
-tree ins s = first (trees ins s)
-
--- s is the code of one input tree
-abbrev pub IsTree : List ℕ → List ℕ → Type 0
-IsTree ins s = Whole {A = ⊥} (symbolOf ins) s
 
 -- two bytes to a mark
 unfoldable pub pairs : List ℕ → List Mark
@@ -108,7 +89,7 @@ abbrev pub KeptBehind : List ℕ → List ℕ → ℕ → Type 0
 KeptBehind before after m = (j : ℕ) → m < j → getD after j 0 ≡ getD before j 0
 
 -- the bodies lie one after the other in the file, as the table of starts says
-pub record Laid (ins : List ℕ) (n : ℕ) (starts bytes : List ℕ) : Type 0 where
+pub record InBounds (ins : List ℕ) (n : ℕ) (starts bytes : List ℕ) : Type 0 where
   pub long : bodyCount ins n < length starts
   pub ordered : (j : ℕ) → j < bodyCount ins n → getD starts j 0 ≤ getD starts (j + 1) 0
   pub inside : (j : ℕ) → j ≤ bodyCount ins n → 2 * getD starts j 0 ≤ length bytes

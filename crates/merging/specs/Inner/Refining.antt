@@ -7,13 +7,14 @@ use mathlib.Core.Logic.{_⊎_}
 use mathlib.Core.Path.{_≡_}
 use lib.ListN.{length, set}
 use Rattle.theory.specs.Earliest.{Earliest}
-use Rattle.theory.specs.Inner.Exact.{Respects}
+use Rattle.theory.specs.Inner.Exact.{Respects, Exact}
+use Rattle.theory.specs.Quotient.{Classes}
 use Rattle.theory.specs.Wf.{Wf}
-use Rattle.formats.specs.Alphabets.{Leaf}
-use Rattle.formats.specs.Inner.Layout.{bodyCount, Laid}
-use Rattle.prefixes.specs.Alphabet.{alphabet}
-use Rattle.prefixes.specs.Inner.Heads.{machine, Layout}
-use Rattle.merging.specs.Inner.Classes.{SameStates, at, Classed}
+use Rattle.trees.specs.Alphabets.{Leaf}
+use Rattle.formats.specs.Inner.Layout.{bodyCount}
+use Rattle.forms.specs.Alphabet.{alphabet}
+use Rattle.forms.specs.Inner.Tables.{machine, Layout}
+use Rattle.classes.specs.Inner.Classes.{SameStates, at, Classed}
 
 -- state q is not pending
 abbrev pub Placed : List ℕ → ℕ → Type 0
@@ -71,7 +72,7 @@ pub record Round (ins starts bytes old new pending reps : List ℕ) (base count 
   pub every : (k : ℕ) → k < count → (s : ℕ) × Member new k s
   -- where no state stands for an old class, none is placed
   pub unnamed : (c : ℕ) → c < base → length old ≤ at reps c → NonePlaced new pending c
-  pub grown : base ≤ count
+  pub at-least : base ≤ count
   pub flags : length pending ≡ 128
   pub names : length reps ≡ 128
 
@@ -81,7 +82,7 @@ pub record Places (ins starts bytes old new pending : List ℕ) (base count p : 
   pub here : Placed pending′ p
   pub remain : (q : ℕ) → Placed pending q → Placed pending′ q
   pub others : (q : ℕ) → (q ≡ p → ⊥) → at new′ q ≡ at new q
-  pub grown : count ≤ count′
+  pub at-least : count ≤ count′
 
 -- the pending ones of the n states are among the first `len` of the list
 pub record Listed (pending list : List ℕ) (n len : ℕ) : Type 0 where
@@ -129,12 +130,6 @@ pub record StillFlagged (callers callers′ : List ℕ) : Type 0 where
 -- state p is flagged for the calls in the marks number `from` up to `to`
 pub record FlaggedCalls (bytes : List ℕ) (from to p : ℕ) (callers : List ℕ) : Type 0 where
   pub each : (j : ℕ) → from ≤ j → j < to → 0 < at bytes (2 * j) → at bytes (2 * j + 1) < 128 → Flagged callers (at bytes (2 * j + 1)) p
-
--- what the flags of callers ask: the bodies of at most 128 states lie where the table says
-pub record Flaggable (ins starts bytes : List ℕ) (n : ℕ) : Type 0 where
-  pub few-states : n ≤ 128
-  pub few-inputs : length ins ≤ 16
-  pub laid : Laid ins n starts bytes
 
 -- each of n states is flagged for the calls in its right-hand sides
 pub record Callers (ins starts bytes : List ℕ) (n : ℕ) (callers : List ℕ) : Type 0 where
@@ -217,3 +212,9 @@ pub record Startable (ins starts bytes old new : List ℕ) (count : ℕ) : Type 
 pub record Refines (ins starts bytes old old′ new′ : List ℕ) (any : Bool) : Type 0 where
   pub stable : Stable ins starts bytes (length old) old′
   pub kept : any ≡ false → (old′ ≡ old) × ((q : ℕ) → q < length old → at new′ q ≡ at old q)
+
+-- the classes are the classes of equivalent states, if the transducer is well-formed and earliest
+pub record Settles (ins starts bytes new least : List ℕ) (n count : ℕ) : Type 0 where
+  pub long : length new ≡ n
+  pub classes : Classes (λ q. at new q) (λ k. at least k) n count
+  pub exact : (outs : List ℕ) (l : Leaf ins) → Layout ins outs starts bytes n → Wf (alphabet ins l) (machine ins outs starts bytes n) (λ q. q < n) → Earliest (alphabet ins l) (machine ins outs starts bytes n) (λ q. q < n) → (p q : ℕ) → p < n → q < n → Exact (alphabet ins l) (machine ins outs starts bytes n) (λ q. at new q) p q

@@ -9,11 +9,11 @@ use lib.Dec.{ltb}
 use lib.ListN.{length, getD}
 use Rattle.theory.specs.Equivalent.{Equivalent}
 use Rattle.theory.specs.Wf.{Wf}
-use Rattle.formats.specs.Alphabets.{Leaf}
+use Rattle.trees.specs.Alphabets.{Leaf}
 use Rattle.formats.specs.Inner.Layout.{bodyNumber}
-use Rattle.prefixes.specs.Alphabet.{alphabet}
-use Rattle.prefixes.specs.Inner.Heads.{machine, Layout}
-use Rattle.merging.specs.Inner.Classes.{at}
+use Rattle.forms.specs.Alphabet.{alphabet}
+use Rattle.forms.specs.Inner.Tables.{machine, Layout}
+use Rattle.classes.specs.Inner.Classes.{at}
 use Rattle.pairs.specs.declared.pairs.Walked.{Walked}
 use Rattle.pairs.specs.declared.pairs.Stage.{Stage}
 use Rattle.pairs.specs.declared.pairs.Verdict.{Verdict}

@@ -13,12 +13,13 @@ use Rattle.theory.specs.Pref.{CommonPrefix, Prefs}
 use Rattle.theory.specs.Prefix.{Pattern, Prefix}
 use Rattle.theory.specs.Term.{Term, mapT}
 use Rattle.theory.specs.Transducer.{Transducer}
-use Rattle.formats.specs.Alphabets.{Leaf}
-use Rattle.formats.specs.Inner.Decode.{forest, first, Whole}
-use Rattle.formats.specs.Inner.Layout.{markOf, bodyCount, transducer, Laid, Wholes}
+use Rattle.trees.specs.Alphabets.{Leaf}
+use Rattle.trees.specs.Inner.Decode.{forest, first, Whole}
+use Rattle.formats.specs.Inner.Layout.{markOf}
 use Rattle.formats.specs.Inner.Marked.{part}
-use Rattle.formats.specs.Refusal.{Decides}
-use Rattle.prefixes.specs.Alphabet.{alphabet}
+use Rattle.trees.specs.Refusal.{Decides}
+use Rattle.forms.specs.Alphabet.{alphabet}
+use Rattle.forms.specs.Inner.Tables.{machine, Layout}
 use Rattle.prefixes.specs.Inner.Patterns.{IsPattern, readPattern, headAt}
 
 -- each state has a pattern of at most 64 bytes
@@ -54,20 +55,7 @@ pub record CutBy (outs bytes : List ℕ) (from to q : ℕ) (heads sizes heads′
   pub others : (p : ℕ) → p ≢ q → headOf outs heads′ sizes′ p ≡ headOf outs heads sizes p
   pub told : Decides (headOf outs heads′ sizes′ q ≡ headOf outs heads sizes q → ⊥) b
 
--- ---- the transducer with n states whose bodies start where the table of starts says
-abbrev pub machine : List ℕ → List ℕ → List ℕ → List ℕ → ℕ → Transducer ℕ
-machine ins outs starts bytes n = transducer ins outs n (λ j. getD starts j 0) bytes
-
--- its right-hand sides are whole and lie where the table says, at most 64 marks each
-pub record Layout (ins outs starts bytes : List ℕ) (n : ℕ) : Type 0 where
-  pub few-symbols : length outs ≤ 64
-  pub few-states : n ≤ 128
-  pub few-inputs : length ins ≤ 16
-  pub laid : Laid ins n starts bytes
-  pub few : (j : ℕ) → j < bodyCount ins n → getD starts (j + 1) 0 ≤ getD starts j 0 + 64
-  pub wholes : Wholes ins outs n (λ j. getD starts j 0) bytes
-
--- and each of its states has a pattern
+-- ---- the transducer of a table, each of whose states has a pattern
 pub record Bodies (ins outs starts bytes heads sizes other : List ℕ) : Type 0 where
   pub table : Heads outs heads sizes
   pub layout : Layout ins outs starts bytes (length sizes)
@@ -115,12 +103,6 @@ pub record Swept (ins outs starts bytes : List ℕ) (leaf : ℕ) (heads sizes he
   pub fixed : b ≡ false → (q : ℕ) → q < length sizes → FixedAt ins leaf (machine ins outs starts bytes (length sizes)) (headOf outs heads sizes) q
 
 -- ---- cuts of the states whose callees changed
--- what the flags of callers ask: the bodies of at most 128 states lie where the table says
-pub record Flaggable (ins starts bytes : List ℕ) (n : ℕ) : Type 0 where
-  pub few-states : n ≤ 128
-  pub few-inputs : length ins ≤ 16
-  pub laid : Laid ins n starts bytes
-
 -- the flags that are set, of this round and of the next: a sum of words
 abbrev pub weight : ℕ → ℕ → ℕ → ℕ → ℕ
 weight low high low2 high2 = low + high + low2 + high2

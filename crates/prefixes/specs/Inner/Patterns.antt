@@ -8,11 +8,11 @@ use lib.ListN.{length, getD, drop, take}
 use lib.Seq.{slice}
 use Rattle.theory.specs.Lcp.{lcp}
 use Rattle.theory.specs.Prefix.{Pattern}
-use Rattle.formats.specs.Code.{flat}
-use Rattle.formats.specs.Inner.Decode.{Letter, call, symbol, unknown, rests, forest, first, Whole}
+use Rattle.trees.specs.Code.{preorder}
+use Rattle.trees.specs.Inner.Decode.{Letter, call, symbol, unknown, rests, forest, first, Whole}
 use Rattle.formats.specs.Inner.Layout.{markAt}
 use Rattle.formats.specs.Inner.Marked.{part}
-use Rattle.formats.specs.Refusal.{Decides}
+use Rattle.trees.specs.Refusal.{Decides}
 use Rattle.transducer.specs.Inner.Written.{spell}
 
 -- the byte of ⊤
@@ -29,7 +29,7 @@ unfoldable pub topOf : List ℕ → ℕ → Letter (Unit {0})
 topOf outs x = topIf (ltb x (length outs)) (eqb x top) x (getD outs x 0)
 
 abbrev pub patternCode : Pattern → List ℕ
-patternCode p = flat (λ u. top ∷ []) (λ k. k) p
+patternCode p = preorder (λ u. top ∷ []) (λ k. k) p
 
 -- s is the code of a pattern, and which
 abbrev pub IsPattern : List ℕ → List ℕ → Type 0

@@ -4,8 +4,8 @@ use mathlib.Core.List.{List, _++_}
 use mathlib.Core.Path.{_≡_}
 use lib.ListN.{length}
 use lib.Seq.{sets}
-use Rattle.formats.specs.Alphabets.{alphabetCheck}
-use Rattle.formats.specs.Refusal.{Checks, done}
+use Rattle.trees.specs.Alphabets.{alphabetCheck}
+use Rattle.trees.specs.Refusal.{Checks, done}
 use Rattle.formats.specs.Sheet.{sheetCheck}
 use Rattle.earliest.specs.Answers.{formCheck}
 use Rattle.report.specs.Answers.{Sizes}

@@ -1,20 +1,18 @@
--- What is answered once the parts of a transducer's file are known to be right.
+-- What translation answers once the parts of a transducer's file are known to be right.
 use Prim.Native.Nat.{ℕ, _≤_}
 use mathlib.Core.List.{List}
 use mathlib.Core.Path.{_≡_}
 use lib.ListN.{length}
 use lib.Seq.{sets}
 use Rattle.theory.specs.Size.{size}
-use Rattle.theory.specs.Term.{Tree, symbolAt}
+use Rattle.theory.specs.Term.{Tree}
 use Rattle.theory.specs.Transducer.{Transducer, translate}
-use Rattle.formats.specs.Alphabets.{Alphabets, inputs, outputs}
-use Rattle.formats.specs.Answers.{Nothing}
-use Rattle.formats.specs.Code.{code}
-use Rattle.formats.specs.Refusal.{done, check, Judged}
+use Rattle.trees.specs.Alphabets.{Alphabets, inputs, outputs}
+use Rattle.trees.specs.Code.{code}
+use Rattle.trees.specs.Refusal.{done, check, Judged}
 use Rattle.formats.specs.Sheet.{Encodes}
-use Rattle.formats.specs.Tree.{InputTree, treeCheck}
-use Rattle.transducer.specs.Answers.{translated, found, named}
-use Rattle.transducer.specs.declared.address.Found.{Found}
+use Rattle.trees.specs.Tree.{InputTree, treeCheck}
+use Rattle.transducer.specs.Answers.{translated}
 use Rattle.transducer.specs.declared.translate.Translation.{Translation}
 
 -- the counts and the marks are those of a transducer with n states
@@ -36,7 +34,3 @@ TranslatesBy stock n counts bytes s before after r =
     Judged (after ≡ before) (λ k. (t : Tree) × (OutputBy stock n counts bytes s t × (k ≡ size t) × (after ≡ sets before 0 (code t))))
     (treeCheck stock s (check 6 ((t : Tree) × (OutputBy stock n counts bytes s t × (size t ≤ length before))) done))
     (translated r)
-
-abbrev pub FindsBy : List ℕ → ℕ → List ℕ → List ℕ → List ℕ → List ℕ → Found → Type 0
-FindsBy stock n counts bytes s address r =
-    Judged Nothing (λ o. (t : Tree) × (OutputBy stock n counts bytes s t × (o ≡ named (symbolAt t address)))) (treeCheck stock s done) (found r)

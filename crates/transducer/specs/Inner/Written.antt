@@ -6,10 +6,11 @@ use lib.ListN.{length, getD, take, drop}
 use lib.Seq.{slice, sets}
 use Rattle.theory.specs.Size.{levels}
 use Rattle.theory.specs.Term.{Tree, Terms, var, node, none, more, count}
-use Rattle.formats.specs.Code.{Mark}
-use Rattle.formats.specs.Inner.Decode.{lettersAll}
-use Rattle.formats.specs.Inner.Layout.{pairs, markAt, bodyNumber, bodyCount, trees, tree}
-use Rattle.formats.specs.Inner.Measured.{Ends}
+use Rattle.trees.specs.Code.{Mark}
+use Rattle.theory.specs.Inner.Forests.{lettersAll}
+use Rattle.formats.specs.Inner.Layout.{pairs, markAt, bodyNumber, bodyCount}
+use Rattle.trees.specs.Inner.Symbols.{trees, tree}
+use Rattle.trees.specs.Inner.Measured.{Ends}
 
 -- g i q is what the call (i, q) gives
 unfoldable pub spell : (ℕ → ℕ → List ℕ) → List Mark → List ℕ
@@ -77,7 +78,7 @@ pub record Ready (ins starts bytes s ends : List ℕ) (q p left : ℕ) : Type 0 
   pub input : Input ins s ends
   pub state : q < table .states
   pub place : p < length s
-  pub flat : levels (tree ins (drop p s)) ≤ left
+  pub few-levels : levels (tree ins (drop p s)) ≤ left
   pub all-starts : length starts ≡ 2050
   pub all-ends : length ends ≡ 4096
 
@@ -88,7 +89,7 @@ pub record Walkable (ins starts bytes s ends : List ℕ) (from to below left : �
   pub ordered : from ≤ to
   pub inside : 2 * to ≤ length bytes
   pub callable : (j : ℕ) → from ≤ j → j < to → Callable (table .states) (count (trees ins (drop below s))) (markAt bytes j)
-  pub flat : (j : ℕ) → from ≤ j → j < to → 0 < getD bytes (2 * j) 0 → levels (tree ins (drop (hop ends (getD bytes (2 * j) 0 - 1) below) s)) ≤ left
+  pub few-levels : (j : ℕ) → from ≤ j → j < to → 0 < getD bytes (2 * j) 0 → levels (tree ins (drop (hop ends (getD bytes (2 * j) 0 - 1) below) s)) ≤ left
   pub all-starts : length starts ≡ 2050
   pub all-ends : length ends ≡ 4096
 

@@ -6,10 +6,10 @@ use lib.ListN.{length, getD, drop}
 use Rattle.theory.specs.Earliest.{Earliest}
 use Rattle.theory.specs.Term.{Tree}
 use Rattle.theory.specs.Transducer.{Transducer}
-use Rattle.formats.specs.Alphabets.{Ranks, Leaf}
+use Rattle.trees.specs.Alphabets.{Ranks, Leaf}
 use Rattle.formats.specs.Inner.Marked.{part}
-use Rattle.prefixes.specs.Alphabet.{alphabet}
-use Rattle.prefixes.specs.Inner.Heads.{machine, Layout}
+use Rattle.forms.specs.Alphabet.{alphabet}
+use Rattle.forms.specs.Inner.Tables.{machine, Layout}
 use Rattle.witness.specs.Difference.{Difference}
 use Rattle.witness.specs.Inner.Other.{firstMark, DecreasingPath}
 use Rattle.pairs.specs.Inner.Pairs.{pairByte, pairLeft, pairParent, pairSymbol, pairMark, pairChild, leftBody}

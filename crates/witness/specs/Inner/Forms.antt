@@ -4,9 +4,9 @@ use mathlib.Core.List.{List}
 use Rattle.theory.specs.Earliest.{Earliest}
 use Rattle.theory.specs.Term.{Tree}
 use Rattle.theory.specs.Transducer.{Transducer}
-use Rattle.formats.specs.Alphabets.{Ranks, Leaf}
-use Rattle.prefixes.specs.Alphabet.{alphabet}
-use Rattle.prefixes.specs.Inner.Heads.{machine, Layout}
+use Rattle.trees.specs.Alphabets.{Ranks, Leaf}
+use Rattle.forms.specs.Alphabet.{alphabet}
+use Rattle.forms.specs.Inner.Tables.{machine, Layout}
 use Rattle.witness.specs.Difference.{Difference, Written}
 
 -- two earliest forms in tables, over alphabets within the limits

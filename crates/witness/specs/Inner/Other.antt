@@ -10,13 +10,13 @@ use Rattle.theory.specs.Inner.Nodes.{symbol}
 use Rattle.theory.specs.Inner.OtherRoot.{Sound, Complete, Falls}
 use Rattle.theory.specs.Sum.{sum}
 use Rattle.theory.specs.Transducer.{output}
-use Rattle.formats.specs.Alphabets.{Leaf}
-use Rattle.formats.specs.Code.{Mark}
+use Rattle.trees.specs.Alphabets.{Leaf}
+use Rattle.trees.specs.Code.{Mark}
 use Rattle.formats.specs.Inner.Layout.{markAt, bodyNumber}
 use Rattle.formats.specs.Inner.Marked.{part}
-use Rattle.transducer.specs.Linear.{oneIf}
-use Rattle.prefixes.specs.Alphabet.{alphabet}
-use Rattle.prefixes.specs.Inner.Heads.{machine, Layout}
+use Rattle.theory.specs.Weight.{oneIf}
+use Rattle.forms.specs.Alphabet.{alphabet}
+use Rattle.forms.specs.Inner.Tables.{machine, Layout}
 use Rattle.witness.specs.Inner.Shown.{stepsTree}
 
 abbrev pub otherDistance : Bool → ℕ

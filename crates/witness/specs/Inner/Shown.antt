@@ -6,12 +6,12 @@ use lib.ListN.{length, getD, take, replicate}
 use lib.Seq.{sets, slice}
 use Rattle.theory.specs.Inner.Leaves.{put, leafOf}
 use Rattle.theory.specs.Term.{Tree, node}
-use Rattle.formats.specs.Alphabets.{Ranks, Leaf}
-use Rattle.formats.specs.Code.{Mark, code}
-use Rattle.formats.specs.Inner.Decode.{forest, first, Whole}
+use Rattle.trees.specs.Alphabets.{Ranks, Leaf}
+use Rattle.trees.specs.Code.{Mark, code}
+use Rattle.trees.specs.Inner.Decode.{forest, first, Whole}
 use Rattle.formats.specs.Inner.Layout.{markOf, markAt, pairs}
 use Rattle.formats.specs.Inner.Marked.{part}
-use Rattle.prefixes.specs.Alphabet.{alphabet}
+use Rattle.forms.specs.Alphabet.{alphabet}
 use Rattle.earliest.specs.Inner.Places.{place}
 
 -- ---- trees

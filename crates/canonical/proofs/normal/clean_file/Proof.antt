@@ -1,6 +1,6 @@
 -- `clean_file` meets its contract: the normal form of the parts, and its file. Assumes nothing.
 use borrow.Author.Needs.{needs}
-use Rattle.earliest.proofs.Forming.{found-writable}
+use Rattle.forms.proofs.Filing.{found-writable}
 use Rattle.canonical.proofs.Cleaning.{clean-form}
 use Rattle.canonical.proofs.normal.clean_file.Statement.{statement}
 use Rattle.canonical.proofs.normal.clean_file.Tie as tie

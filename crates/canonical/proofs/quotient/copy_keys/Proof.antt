@@ -10,7 +10,7 @@ use denote.Ref.{now}
 use Rattle.formats.proofs.Writing.{Writing, begin, finish}
 use Rattle.formats.specs.Inner.Marked.{part}
 use Rattle.formats.specs.Sheet.{markBytes}
-use Rattle.merging.specs.Inner.Classes.{keyOf, keyed}
+use Rattle.classes.specs.Inner.Classes.{keyOf, keyed}
 use Rattle.canonical.proofs.Quotients.{keysLeft, key-by, key-there, key-more, keys-end}
 use Rattle.canonical.proofs.quotient.copy_keys.Statement.{statement}
 use Rattle.canonical.proofs.quotient.copy_keys.Tie as tie

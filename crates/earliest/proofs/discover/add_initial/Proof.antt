@@ -1,7 +1,9 @@
 -- `add_initial` meets its contract: the letters of the initial term are written and added as the first body. Assumes nothing.
 use native.Mathlib.Omega.{arith}
-use Rattle.earliest.proofs.Opening.{initial-expandable, initial-short, initial-written, adds-initial}
-use Rattle.earliest.proofs.Stages.{initial-sayable}
+use Rattle.earliest.proofs.Numbers.{by-numbers}
+use Rattle.earliest.proofs.Opening.{initial-expandable, initial-short, initial-written}
+use Rattle.discovery.proofs.Loops.{adds-initial}
+use Rattle.discovery.proofs.Stages.{initial-sayable}
 use borrow.Author.Needs.{needs}
 use Rattle.earliest.proofs.discover.add_initial.Statement.{statement}
 use Rattle.earliest.proofs.discover.add_initial.Tie as tie
@@ -35,7 +37,7 @@ add-body-requires c κs =
     let X = c .before .before .before .before .before .before .before .before .before .before .before .before .before .before .before .before .before .before .before .before .before .before .before .before .before .pre .0 .expanding in
     let M = c .before .before .before .before .before .before .before .before .before .before .before .before .before .before .before .before .before .before .before .before .before .before .before .before .before .pre .1 in
     let e = initial-written X (c .before .before .before .before .before .before .before .before .before .before .before .before .before .before .before .before .before .before .before .before .before .before .before .before .before .pre .0 .room) (c .before .before .before .before .before .before .before .before .before .before .before .before .number .ensures) (c .before .before .before .before .before .before .before .before .before .before .number2 .ensures) (c .before .before .before .before .before .before .before .before .expand .ensures) in
-    (M .queue, omega arith, rw e (initial-sayable X), omega (arith, M .long), omega (arith, M .start), M .room)
+    (M .queue, omega arith, rw (e, M .wide) (initial-sayable (by-numbers X)), omega (arith, M .long), omega (arith, M .start), M .room)
 
 same-length : tie.Need-same-length
 same-length c = search needs
@@ -55,7 +57,7 @@ same-length-5 c = search needs
 returns : tie.Need-returns
 returns c =
     let X = c .before .before .before .before .before .before .before .before .before .before .before .before .before .before .before .before .before .before .before .before .before .before .before .before .before .before .before .before .before .before .before .before .before .before .pre .0 .expanding in
-    adds-initial X (c .before .before .before .before .before .before .before .before .before .before .before .before .before .before .before .before .before .before .before .before .before .before .before .before .before .before .before .before .before .before .before .before .before .before .pre .0 .leaf) (c .before .before .before .before .before .before .before .before .before .before .before .before .before .before .before .before .before .before .before .before .before .before .before .before .before .before .before .before .before .before .before .before .before .before .pre .1) (c .before .before .before .before .before .before .before .before .add-body .ensures) (initial-written X (c .before .before .before .before .before .before .before .before .before .before .before .before .before .before .before .before .before .before .before .before .before .before .before .before .before .before .before .before .before .before .before .before .before .before .pre .0 .room) (c .before .before .before .before .before .before .before .before .before .before .before .before .before .before .before .before .before .before .before .before .before .number .ensures) (c .before .before .before .before .before .before .before .before .before .before .before .before .before .before .before .before .before .before .before .number2 .ensures) (c .before .before .before .before .before .before .before .before .before .before .before .before .before .before .before .before .before .expand .ensures))
+    adds-initial (by-numbers X) (c .before .before .before .before .before .before .before .before .before .before .before .before .before .before .before .before .before .before .before .before .before .before .before .before .before .before .before .before .before .before .before .before .before .before .pre .0 .leaf) (c .before .before .before .before .before .before .before .before .before .before .before .before .before .before .before .before .before .before .before .before .before .before .before .before .before .before .before .before .before .before .before .before .before .before .pre .1) (c .before .before .before .before .before .before .before .before .add-body .ensures) (initial-written X (c .before .before .before .before .before .before .before .before .before .before .before .before .before .before .before .before .before .before .before .before .before .before .before .before .before .before .before .before .before .before .before .before .before .before .pre .0 .room) (c .before .before .before .before .before .before .before .before .before .before .before .before .before .before .before .before .before .before .before .before .before .number .ensures) (c .before .before .before .before .before .before .before .before .before .before .before .before .before .before .before .before .before .before .before .number2 .ensures) (c .before .before .before .before .before .before .before .before .before .before .before .before .before .before .before .before .before .expand .ensures))
 
 pub add-initial-spec : {M : Type 1} → statement M
 add-initial-spec =

@@ -4,14 +4,15 @@ use native.Mathlib.Omega.{arith}
 use mathlib.Core.Path.{_≡_, refl, sym, _∙_}
 use borrow.Author.Needs.{needs}
 use lib.ListN.{length}
-use Rattle.earliest.specs.Inner.Discovering.{Found}
-use Rattle.earliest.proofs.Finished.{found-all}
-use Rattle.earliest.proofs.Loops.{states-over, states-added}
+use Rattle.discovery.specs.Inner.Discovering.{Found}
+use Rattle.discovery.proofs.Finished.{found-all}
+use Rattle.discovery.proofs.Loops.{none-all, adds-all}
+use Rattle.earliest.specs.Inner.Letters.{earliest}
 use Rattle.earliest.proofs.discover.add_states.Statement.{statement}
 use Rattle.earliest.proofs.discover.add_states.Tie as tie
 
 abbrev Inv-loop : tie.InvT-loop
-Inv-loop ins outs starts marks heads sizes letters₀ starts2₀ out₀ list₀ place₀ met n₀ p₀ letters starts2 out list place n p = (length letters ≡ length letters₀) × (length starts2 ≡ length starts2₀) × (length list ≡ length list₀) × Found ins outs starts marks heads sizes p starts2 out list place n
+Inv-loop ins outs starts marks heads sizes letters₀ starts2₀ out₀ list₀ place₀ met n₀ p₀ letters starts2 out list place n p = (length letters ≡ length letters₀) × (length starts2 ≡ length starts2₀) × (length list ≡ length list₀) × Found ins (earliest ins outs starts marks heads sizes) 8192 p starts2 out list place n
 
 abbrev μ-loop : tie.MeasureT-loop
 μ-loop ins outs starts marks heads sizes letters₀ starts2₀ out₀ list₀ place₀ met n₀ p₀ letters starts2 out list place n p = 128 - p
@@ -44,10 +45,10 @@ same-length-4 : tie.Need-same-length-4 Inv-loop μ-loop
 same-length-4 c = c .before .before .before .before .before .before .before .before .before .before .before .before .add-state .kept .1 .1 .1 .1 .1 .1 .1 .1 .1 .1 .0 ∙ c .before .before .before .before .before .before .before .before .before .before .before .before .before .before .before .before .before .before .before .loop .inv .2
 
 same-length-5 : tie.Need-same-length-5 Inv-loop μ-loop
-same-length-5 c = c .before .before .before .before .before .before .before .before .before .before .before .before .add-state .kept .1 .1 .1 .1 .1 .1 .1 .1 .1 .1 .1 .0 ∙ (c .before .before .before .before .before .before .before .before .before .before .before .before .before .before .before .before .before .before .before .loop .inv .3 .bodies .queue .wide ∙ sym (c .before .before .before .before .before .before .before .before .before .before .before .before .before .before .before .before .before .before .before .before .before .before .before .before .before .before .before .before .before .before .before .pre .1 .bodies .queue .wide))
+same-length-5 c = c .before .before .before .before .before .before .before .before .before .before .before .before .add-state .kept .1 .1 .1 .1 .1 .1 .1 .1 .1 .1 .1 .0 ∙ (c .before .before .before .before .before .before .before .before .before .before .before .before .before .before .before .before .before .before .before .loop .inv .3 .bodies .wide ∙ sym (c .before .before .before .before .before .before .before .before .before .before .before .before .before .before .before .before .before .before .before .before .before .before .before .before .before .before .before .before .before .before .before .pre .1 .bodies .wide))
 
 returns : tie.Need-returns Inv-loop μ-loop
-returns c = states-over (c .before .before .before .before .before .before .before .before .before .before .before .before .add-state .ensures .over (c .enum-told .given .1))
+returns c = none-all (c .before .before .before .before .before .before .before .before .before .before .before .before .add-state .ensures .over (c .enum-told .given .1))
 
 add-p : tie.Need-add-p Inv-loop μ-loop
 add-p c = omega (arith, c .before .before .before .before .before .before .before .before .before .before .before .before .before .before .before .before .before .before .before .loop-test .taken, c .before .before .before .before .before .before .before .before .before .before .before .before .before .before .before .before .before .before .before .before .loop .inv .3 .bodies .few)
@@ -74,10 +75,10 @@ same-length-9 : tie.Need-same-length-9 Inv-loop μ-loop
 same-length-9 c = c .before .loop .inv .2
 
 same-length-10 : tie.Need-same-length-10 Inv-loop μ-loop
-same-length-10 c = c .before .loop .inv .3 .bodies .queue .wide ∙ sym (c .before .before .before .before .before .before .before .before .before .before .before .before .before .pre .1 .bodies .queue .wide)
+same-length-10 c = c .before .loop .inv .3 .bodies .wide ∙ sym (c .before .before .before .before .before .before .before .before .before .before .before .before .before .pre .1 .bodies .wide)
 
 returns-2 : tie.Need-returns-2 Inv-loop μ-loop
-returns-2 c = states-added (found-all (c .before .before .before .before .before .before .before .before .before .before .before .before .before .pre .0 .leaf) (c .before .loop .inv .3) (omega (arith, c .loop-test .left)))
+returns-2 c = adds-all (found-all (c .before .before .before .before .before .before .before .before .before .before .before .before .before .pre .0 .leaf) (c .before .loop .inv .3) (omega (arith, c .loop-test .left)))
 
 pub add-states-spec : {M : Type 1} → statement M
 add-states-spec =

@@ -4,9 +4,9 @@ use native.Mathlib.Omega.{arith}
 use mathlib.Core.Path.{refl, _∙_}
 use lib.ListN.{length-set, length-replicate}
 use denote.Ref.{now}
-use Rattle.earliest.proofs.Loops.{form-discovered, form-over}
-use Rattle.earliest.proofs.Opening.{empty-start}
+use Rattle.discovery.proofs.Loops.{form-discovered, form-over, empty-start}
 use borrow.Author.Needs.{needs}
+use Rattle.earliest.proofs.Numbers.{by-numbers}
 use Rattle.earliest.proofs.discover.discover.Statement.{statement}
 use Rattle.earliest.proofs.discover.discover.Tie as tie
 
@@ -25,7 +25,7 @@ slice-aggregate-add-initial-3 c = search needs
 add-initial-requires : tie.Need-add-initial-requires
 add-initial-requires c κs =
     let b = c .before .before .before .before .before .before .before .before .before .before .before .before .before .pre in
-    (record { expanding = b .0; leaf = b .1; room = omega (arith, length-replicate {A = ℕ} 4096 0) }, empty-start (now (c .before .before .before .before .before .before .before .before .before .before .before .before .before .args .starts2)) (now (c .before .before .before .before .before .before .before .before .before .before .before .before .before .args .out)) 192 8192 refl refl (b .2) (b .3))
+    (record { expanding = b .0; leaf = b .1; room = omega (arith, length-replicate {A = ℕ} 4096 0) }, empty-start (now (c .before .before .before .before .before .before .before .before .before .before .before .before .before .args .starts2)) (now (c .before .before .before .before .before .before .before .before .before .before .before .before .before .args .out)) 192 8192 refl (b .2) (b .3))
 
 enum-known-met : tie.Need-enum-known-met
 enum-known-met c = search needs
@@ -55,7 +55,7 @@ same-length-2 : tie.Need-same-length-2
 same-length-2 c = search needs
 
 returns : tie.Need-returns
-returns c = form-discovered (c .before .before .before .before .before .before .before .before .before .before .before .before .before .before .before .before .before .before .before .before .before .before .before .before .before .before .before .before .before .before .before .before .before .before .before .before .before .pre .0) (c .before .before .before .before .before .before .before .before .before .before .before .before .before .before .before .before .before .before .before .before .before .before .before .before .before .before .before .before .before .before .before .before .before .before .before .before .before .pre .1) (c .before .before .before .before .before .before .before .add-states .ensures)
+returns c = form-discovered (by-numbers (c .before .before .before .before .before .before .before .before .before .before .before .before .before .before .before .before .before .before .before .before .before .before .before .before .before .before .before .before .before .before .before .before .before .before .before .before .before .pre .0)) (c .before .before .before .before .before .before .before .before .before .before .before .before .before .before .before .before .before .before .before .before .before .before .before .before .before .before .before .before .before .before .before .before .before .before .before .before .before .pre .1) (c .before .before .before .before .before .before .before .add-states .ensures)
 
 same-length-3 : tie.Need-same-length-3
 same-length-3 c = c .before .before .before .before .before .before .before .before .before .add-initial .kept .1 .1 .1 .1 .1 .1 .1 .0 ∙ length-set (now (c .before .before .before .before .before .before .before .before .before .before .before .before .before .before .before .before .before .before .before .before .before .before .before .args .starts2)) 0 0

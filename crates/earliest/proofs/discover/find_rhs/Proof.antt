@@ -1,7 +1,7 @@
 -- `find_rhs` meets its contract: the letters from where the ⊤ of the state stands in the expanded right-hand side up to the end of the tree there. Assumes nothing.
 use native.Mathlib.Omega.{arith}
 use borrow.Author.Needs.{needs}
-use Rattle.prefixes.proofs.Settling.{number-fits}
+use Rattle.forms.proofs.Files.{number-fits}
 use Rattle.earliest.proofs.Finding.{rhs-expandable, rhs-lent, rhs-locatable, finds-rhs}
 use Rattle.earliest.proofs.discover.find_rhs.Statement.{statement}
 use Rattle.earliest.proofs.discover.find_rhs.Tie as tie

@@ -3,8 +3,8 @@ use native.Mathlib.Omega.{arith}
 use mathlib.Core.Path.{refl}
 use borrow.Author.Needs.{needs}
 use denote.Ref.{now}
-use Rattle.formats.specs.Refusal.{done}
-use Rattle.formats.proofs.Judging.{refuse, pass}
+use Rattle.trees.specs.Refusal.{done}
+use Rattle.trees.proofs.Judging.{refuse, pass}
 use Rattle.formats.proofs.Verdicts.{accepted-alphabets, accepted-states, accepted-long}
 use Rattle.transducer.proofs.Opening.{opened-at, opened-machine, not-opened}
 use Rattle.earliest.specs.Answers.{formCheck}

@@ -1,6 +1,7 @@
 -- `form_file` meets its contract: the form of the parts, and its file. Assumes nothing.
 use borrow.Author.Needs.{needs}
-use Rattle.earliest.proofs.Forming.{found-writable, form-file}
+use Rattle.forms.proofs.Filing.{found-writable}
+use Rattle.earliest.proofs.Forming.{form-file}
 use Rattle.earliest.proofs.earliest.form_file.Statement.{statement}
 use Rattle.earliest.proofs.earliest.form_file.Tie as tie
 

@@ -67,7 +67,7 @@ called-room c =
     let i = c .before .before .before .wide .result in
     let q = c .before .wide2 .result in
     let r = room-word (l .inv .2) (labels (now (a .heads)) (now (a .sizes)) i q) (expanded (now (a .heads)) (now (a .sizes)) (now (a .marks)) (l .j + 1) (a .to)) (called-at c .next) (omega (arith, expanded-short (c .before .before .before .before .before .before .before .before .before .before .before .pre))) in
-    omega (arith, labeled-length (8192 * i + 64 * q) (headAt (now (a .heads)) (now (a .sizes)) q))
+    omega (arith, labeled-length (65536 * i + 64 * q) (headAt (now (a .heads)) (now (a .sizes)) q))
 
 cast-out : tie.Need-cast-out Inv-loop μ-loop
 cast-out c = omega (arith, c .before .wide2 .ensures, c .before .before .shared-slice-known5 .given (2 * c .before .before .before .before .before .before .loop .j + 1))
@@ -141,8 +141,8 @@ loop-again c =
           let C = called-head E (l .j) (l .inv .0) (c .before .before .before .before .before .loop-test .taken) (c .before .before .before .wide .ensures) (c .before .wide2 .ensures) (v .0 .left) in
           let e = head-lent (now (a .heads)) (now (a .sizes)) x (v .2 .ensures) (omega arith) in
           word-more (l .inv .2) (labels (now (a .heads)) (now (a .sizes)) i x) rest (C .next)
-          (v .9 ∙ omega (arith, C .long, v .2 .ensures, labeled-length (8192 * i + 64 * x) (headAt (now (a .heads)) (now (a .sizes)) x)))
-          (v .8 ∙ v .5 .ensures ∙ ap (λ s. sets (l .out) (l .w) (labeled (8192 * i + 64 * x) s)) e))
+          (v .9 ∙ omega (arith, C .long, v .2 .ensures, labeled-length (65536 * i + 64 * x) (headAt (now (a .heads)) (now (a .sizes)) x)))
+          (v .8 ∙ v .5 .ensures ∙ ap (λ s. sets (l .out) (l .w) (labeled (65536 * i + 64 * x) s)) e))
           (c .if1 .came),
     )
 

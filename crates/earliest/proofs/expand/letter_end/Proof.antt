@@ -20,14 +20,14 @@ abbrev μ-loop : tie.MeasureT-loop
 loop-holds : tie.Need-loop-holds Inv-loop μ-loop
 loop-holds c = all-owed _ (c .before .before .pre)
 
-mul-number : tie.Need-mul-number Inv-loop μ-loop
-mul-number c = omega (arith, owing-inside (c .before .loop .inv) (c .loop-test .taken))
+mul-letter : tie.Need-mul-letter Inv-loop μ-loop
+mul-letter c = omega (arith, owing-inside (c .before .loop .inv) (c .loop-test .taken))
 
-shared-slice-read-number : tie.Need-shared-slice-read-number Inv-loop μ-loop
-shared-slice-read-number c = owing-inside (c .before .before .loop .inv) (c .before .loop-test .taken)
+shared-slice-read-letter : tie.Need-shared-slice-read-letter Inv-loop μ-loop
+shared-slice-read-letter c = owing-inside (c .before .before .loop .inv) (c .before .loop-test .taken)
 
-number-requires : tie.Need-number-requires Inv-loop μ-loop
-number-requires c κs = search needs
+letter-requires : tie.Need-letter-requires Inv-loop μ-loop
+letter-requires c κs = search needs
 
 shared-slice-read-wide : tie.Need-shared-slice-read-wide Inv-loop μ-loop
 shared-slice-read-wide c = search needs
@@ -37,7 +37,7 @@ wide-requires c κs = search needs
 
 add-owed : tie.Need-add-owed Inv-loop μ-loop
 add-owed c =
-    let x = counted-named (letter-ranks _) (c .before .before .before .number .ensures) (c .before .before .if1 .taken) (c .wide .ensures) refl in
+    let x = counted-named (letter-ranks _) (c .before .before .before .letter .ensures) (c .before .before .if1 .taken) (c .wide .ensures) refl in
     omega (arith, owing-next (c .before .before .before .before .before .before .loop .inv) (c .before .before .before .before .before .loop-test .taken) x .1)
 
 sub-owed : tie.Need-sub-owed Inv-loop μ-loop
@@ -45,7 +45,7 @@ sub-owed c = ⊎-elim (λ w. omega (arith, w .3)) (λ w. omega (arith, w .1)) (c
 
 loop-again : tie.Need-loop-again Inv-loop μ-loop
 loop-again c =
-    let x = c .before .before .number .ensures in
+    let x = c .before .before .letter .ensures in
     owing-next
     (c .before .before .before .before .before .loop .inv)
     (c .before .before .before .before .loop-test .taken)
@@ -67,9 +67,9 @@ letter-end-spec =
     Inv-loop
     μ-loop
     loop-holds
-    mul-number
-    shared-slice-read-number
-    number-requires
+    mul-letter
+    shared-slice-read-letter
+    letter-requires
     shared-slice-read-wide
     wide-requires
     add-owed

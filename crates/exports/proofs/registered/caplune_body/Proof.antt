@@ -40,14 +40,14 @@ use denote.Triple.Statement.{Contract, Triple}
 use denote.Triple.Table.{entered, cited}
 use denote.Triple.Walked.{says, Stays, stay-none, stay-none-ref, stay-none-slice, gave-ref, walkOf, AllGo, goes-none, goes-none-ref, goes-none-slice, goes-gave-ref, Walks, ends-at, walked, walk-meets}
 use denote.Exit.{yes as kept}
-use Rattle.registry.specs.Answers.{HandsBody}
-use Rattle.registry.specs.Book.{recordAt}
-use Rattle.registry.specs.declared.book.Head.{Head}
-use Rattle.registry.specs.declared.book.Record.{Record}
-use Rattle.registry.proofs.book.Head as Hd
-use Rattle.registry.proofs.book.Head.Laws as Hd′
-use Rattle.registry.proofs.book.Record as R
-use Rattle.registry.proofs.book.Record.Laws as R′
+use Rattle.records.specs.Answers.{HandsBody}
+use Rattle.records.specs.Book.{recordAt}
+use Rattle.records.specs.declared.book.Head.{Head}
+use Rattle.records.specs.declared.book.Record.{Record}
+use Rattle.records.proofs.book.Head as Hd
+use Rattle.records.proofs.book.Head.Laws as Hd′
+use Rattle.records.proofs.book.Record as R
+use Rattle.records.proofs.book.Record.Laws as R′
 use Rattle.registry.proofs.lent.body as bodies
 use Rattle.registry.proofs.lent.body.Symbol as body-def
 use Rattle.registry.proofs.lent.body.Symbol.{name as #registry·lent·body}

@@ -38,15 +38,15 @@ use denote.Triple.Statement.{Contract, Triple}
 use denote.Triple.Table.{entered, cited}
 use denote.Triple.Walked.{says, Stays, gave-ref, gave-slice, stay-none-slice, walkOf, AllGo, goes-gave-ref, goes-gave-slice, goes-none-slice, Walks, ends-at, walked, walk-meets}
 use denote.Exit.{yes as kept}
-use Rattle.registry.specs.Answers.{Enters}
-use Rattle.registry.specs.declared.book.Entered.{Entered}
-use Rattle.registry.specs.declared.book.Head.{Head}
-use Rattle.registry.specs.declared.book.Record.{Record}
+use Rattle.records.specs.Answers.{Enters}
+use Rattle.records.specs.declared.book.Entered.{Entered}
+use Rattle.records.specs.declared.book.Head.{Head}
+use Rattle.records.specs.declared.book.Record.{Record}
 use Rattle.registry.proofs.Locals.{refH, sliceR, sliceB, sliceS, ptrH, ptrR, slR, ptrB, slB}
-use Rattle.registry.proofs.book.Entered as Et
-use Rattle.registry.proofs.book.Entered.Laws as Et′
-use Rattle.registry.proofs.book.Head as Hd
-use Rattle.registry.proofs.book.Record as R
+use Rattle.records.proofs.book.Entered as Et
+use Rattle.records.proofs.book.Entered.Laws as Et′
+use Rattle.records.proofs.book.Head as Hd
+use Rattle.records.proofs.book.Record as R
 use Rattle.registry.proofs.lent.enter as enters
 use Rattle.registry.proofs.lent.enter.Symbol as enter-def
 use Rattle.registry.proofs.lent.enter.Symbol.{name as #registry·lent·enter}

@@ -38,15 +38,15 @@ use denote.Triple.Statement.{Contract, Triple}
 use denote.Triple.Table.{entered, cited}
 use denote.Triple.Walked.{says, Stays, gave-ref, gave-slice, stay-none-slice, walkOf, AllGo, goes-gave-ref, goes-gave-slice, goes-none-slice, Walks, ends-at, walked, walk-meets}
 use denote.Exit.{yes as kept}
-use Rattle.registry.specs.Answers.{Makes}
-use Rattle.registry.specs.declared.book.Head.{Head}
-use Rattle.registry.specs.declared.book.Made.{Made}
-use Rattle.registry.specs.declared.book.Record.{Record}
+use Rattle.records.specs.Answers.{Makes}
+use Rattle.records.specs.declared.book.Head.{Head}
+use Rattle.records.specs.declared.book.Made.{Made}
+use Rattle.records.specs.declared.book.Record.{Record}
 use Rattle.registry.proofs.Locals.{refH, sliceR, sliceB, sliceS, ptrH, ptrR, slR, ptrB, slB}
-use Rattle.registry.proofs.book.Head as Hd
-use Rattle.registry.proofs.book.Made as Md
-use Rattle.registry.proofs.book.Made.Laws as Md′
-use Rattle.registry.proofs.book.Record as R
+use Rattle.records.proofs.book.Head as Hd
+use Rattle.records.proofs.book.Made as Md
+use Rattle.records.proofs.book.Made.Laws as Md′
+use Rattle.records.proofs.book.Record as R
 use Rattle.registry.proofs.lent.make as makes
 use Rattle.registry.proofs.lent.make.Symbol as make-def
 use Rattle.registry.proofs.lent.make.Symbol.{name as #registry·lent·make}

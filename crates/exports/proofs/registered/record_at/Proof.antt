@@ -42,10 +42,10 @@ use denote.Triple.Spec.{Meets, tripleOf}
 use denote.Triple.Table.{entered}
 use denote.Triple.Walked.{says, Stays, stay-none-slice, stay-none, walkOf, AllGo, goes-none-slice, goes-none, Walks, ends-at, walked, walk-meets}
 use denote.Exit.{yes as kept}
-use Rattle.registry.specs.Book.{noRecord, recordAt}
-use Rattle.registry.specs.declared.book.Record.{Record}
-use Rattle.registry.proofs.book.Record as R
-use Rattle.registry.proofs.book.Record.Laws as R′
+use Rattle.records.specs.Book.{noRecord, recordAt}
+use Rattle.records.specs.declared.book.Record.{Record}
+use Rattle.records.proofs.book.Record as R
+use Rattle.records.proofs.book.Record.Laws as R′
 use Rattle.exports.proofs.registered.record_at.Key.{name as #exports·registered·record-at}
 use Rattle.exports.proofs.registered.record_at as this
 use Rattle.exports.proofs.registered.record_at.Statement as stated

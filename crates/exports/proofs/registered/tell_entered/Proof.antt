@@ -1,6 +1,6 @@
 -- `tell_entered` meets its contract. Assumes nothing.
 use mathlib.Core.Path.{refl, ap}
-use Rattle.registry.specs.Answers.{numberOf}
+use Rattle.records.specs.Answers.{numberOf}
 use Rattle.exports.proofs.Telling.{tells-accepted, tells-refused}
 use borrow.Author.Needs.{needs}
 use Rattle.exports.proofs.registered.tell_entered.Statement.{statement}

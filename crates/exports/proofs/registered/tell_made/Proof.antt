@@ -1,6 +1,6 @@
 -- `tell_made` meets its contract. Assumes nothing.
 use mathlib.Core.Path.{refl, ap}
-use Rattle.registry.specs.Answers.{madeOf}
+use Rattle.records.specs.Answers.{madeOf}
 use Rattle.exports.proofs.Telling.{tells-accepted, tells-refused}
 use borrow.Author.Needs.{needs}
 use Rattle.exports.proofs.registered.tell_made.Statement.{statement}

@@ -5,16 +5,17 @@ use native.Mathlib.Omega.{arith}
 use borrow.Author.Needs.{needs}
 use lib.ListN.{take}
 use denote.Ref.{now}
-use Rattle.formats.specs.Inner.Decode.{forest}
+use Rattle.trees.specs.Inner.Decode.{forest}
 use Rattle.formats.specs.Inner.Layout.{markOf, pairs}
-use Rattle.formats.specs.Inner.Marked.{ended, part}
+use Rattle.trees.specs.Inner.Ended.{ended}
+use Rattle.formats.specs.Inner.Marked.{part}
 use Rattle.formats.proofs.Marks.{resume, past-end, far-child, no-state, a-call, no-symbol, a-symbol, no-more, bad-child, child}
 use borrow.Fn.Kinds.{In}
 use borrow.Fn.PlainCycle.{Measures, is, falls, and}
 use Rattle.formats.proofs.bodies.mark_end.Reads as mark-end
 use Rattle.formats.proofs.bodies.mark_end.Kinds as mark-end-kinds
 use Rattle.formats.proofs.bodies.+mark_end.Lts-mark_end as mark-end-lts
-use Rattle.formats.proofs.bytes.wide.Reads as wide-reads
+use Rattle.trees.proofs.bytes.wide.Reads as wide-reads
 use Rattle.formats.proofs.bodies.+mark_end.{statement}
 use Rattle.formats.proofs.bodies.+mark_end.Tie.{close}
 

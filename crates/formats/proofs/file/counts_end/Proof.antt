@@ -5,7 +5,7 @@ use native.Mathlib.Omega.{arith}
 use borrow.Author.Needs.{needs}
 use lib.ListN.{length}
 use denote.Ref.{now}
-use Rattle.formats.proofs.Stock.{few-inputs}
+use Rattle.trees.proofs.Stock.{few-inputs}
 use Rattle.formats.proofs.file.counts_end.Statement.{statement}
 use Rattle.formats.proofs.file.counts_end.Tie as tie
 

@@ -1,7 +1,7 @@
 -- `read_transducer` meets its contract. Assumes nothing.
 use borrow.Author.Needs.{needs}
-use Rattle.formats.proofs.Deciding.{refuted, held}
-use Rattle.formats.proofs.Judging.{refuse, pass}
+use Rattle.trees.proofs.Deciding.{refuted, held}
+use Rattle.trees.proofs.Judging.{refuse, pass}
 use Rattle.formats.proofs.file.read_transducer.Statement.{statement}
 use Rattle.formats.proofs.file.read_transducer.Tie as tie
 

@@ -3,8 +3,8 @@ use native.Mathlib.Omega.{arith}
 use mathlib.Core.Path.{refl}
 use borrow.Author.Needs.{needs}
 use denote.Ref.{now}
-use Rattle.formats.proofs.Deciding.{refuted, held}
-use Rattle.formats.proofs.Judging.{refuse, pass}
+use Rattle.trees.proofs.Deciding.{refuted, held}
+use Rattle.trees.proofs.Judging.{refuse, pass}
 use Rattle.formats.proofs.Verdicts.{file-fits, file-written, not-written}
 use Rattle.formats.proofs.file.write_transducer.Statement.{statement}
 use Rattle.formats.proofs.file.write_transducer.Tie as tie

@@ -1,6 +1,6 @@
 -- `find_callers` meets its contract. The invariant: the calls of the states passed are flagged. Assumes nothing.
 use Rattle.merging.proofs.Calling.{StatesLoop, no-states, next-state, all-states}
-use Rattle.merging.proofs.Patterns.{row-fits}
+use Rattle.forms.proofs.Files.{row-fits}
 use native.Mathlib.Omega.{arith}
 use Prim.Native.Nat.{_-_}
 use borrow.Author.Needs.{needs}
@@ -26,7 +26,7 @@ mul-number : tie.Need-mul-number Inv-loop μ-loop
 mul-number c = omega (arith, row-fits (c .before .before .before .before .before .pre .0) (c .loop-test .taken))
 
 shared-slice-read-number : tie.Need-shared-slice-read-number Inv-loop μ-loop
-shared-slice-read-number c = omega (arith, row-fits (c .before .before .before .before .before .before .pre .0) (c .before .loop-test .taken), c .before .before .before .before .before .before .pre .0 .laid .long)
+shared-slice-read-number c = omega (arith, row-fits (c .before .before .before .before .before .before .pre .0) (c .before .loop-test .taken), c .before .before .before .before .before .before .pre .0 .bounds .long)
 
 number-requires : tie.Need-number-requires Inv-loop μ-loop
 number-requires c κs = search needs
@@ -38,13 +38,13 @@ mul-number-2 : tie.Need-mul-number-2 Inv-loop μ-loop
 mul-number-2 c = omega (arith, row-fits (c .before .before .before .before .before .before .before .pre .0) (c .before .before .loop-test .taken))
 
 shared-slice-read-number-2 : tie.Need-shared-slice-read-number-2 Inv-loop μ-loop
-shared-slice-read-number-2 c = omega (arith, row-fits (c .before .before .before .before .before .before .before .before .pre .0) (c .before .before .before .loop-test .taken), c .before .before .before .before .before .before .before .before .pre .0 .laid .long)
+shared-slice-read-number-2 c = omega (arith, row-fits (c .before .before .before .before .before .before .before .before .pre .0) (c .before .before .before .loop-test .taken), c .before .before .before .before .before .before .before .before .pre .0 .bounds .long)
 
 number-requires-2 : tie.Need-number-requires-2 Inv-loop μ-loop
 number-requires-2 c κs = search needs
 
 flag-calls-requires : tie.Need-flag-calls-requires Inv-loop μ-loop
-flag-calls-requires c κs = (c .before .before .before .before .before .before .loop .inv .still .room, omega (arith, c .before .before .before .before .before .before .before .before .before .before .pre .0 .laid .inside _ (row-fits (c .before .before .before .before .before .before .before .before .before .before .pre .0) (c .before .before .before .before .before .loop-test .taken) .1), c .before .number2 .ensures), omega (arith, c .before .before .before .before .before .before .before .before .before .before .pre .0 .few-states, c .before .before .before .before .before .loop-test .taken))
+flag-calls-requires c κs = (c .before .before .before .before .before .before .loop .inv .still .room, omega (arith, c .before .before .before .before .before .before .before .before .before .before .pre .0 .bounds .inside _ (row-fits (c .before .before .before .before .before .before .before .before .before .before .pre .0) (c .before .before .before .before .before .loop-test .taken) .1), c .before .number2 .ensures), omega (arith, c .before .before .before .before .before .before .before .before .before .before .pre .0 .few-states, c .before .before .before .before .before .loop-test .taken))
 
 add-p : tie.Need-add-p Inv-loop μ-loop
 add-p c = omega arith

@@ -5,7 +5,7 @@ use mathlib.Core.Path.{_≡_}
 use mathlib.Core.Logic.{⊎-elim}
 use denote.Ref.{now}
 use borrow.Author.Count.{below-more}
-use Rattle.merging.specs.Inner.Classes.{at}
+use Rattle.classes.specs.Inner.Classes.{at}
 use Rattle.merging.specs.Inner.Refining.{Placed}
 use borrow.Author.Needs.{needs}
 use Rattle.merging.proofs.refining.find_placed.Statement.{statement}

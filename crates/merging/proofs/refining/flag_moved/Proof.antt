@@ -1,6 +1,6 @@
 -- `flag_moved` meets its contract. The invariant is `MovedLoop`. Assumes nothing.
 use Rattle.merging.proofs.Worklist.{MovedLoop, moved-start, moved-state, moved-next, moved-end}
-use Rattle.merging.specs.Inner.Classes.{at}
+use Rattle.classes.specs.Inner.Classes.{at}
 use denote.Ref.{now}
 use lib.ListN.{length, set, length-set}
 use mathlib.Core.Path.{_≡_}

@@ -1,6 +1,6 @@
 -- `refine_more` meets its contract. The invariant is `RefineLoop`; each round but the last makes more classes. Assumes nothing.
 use Rattle.merging.proofs.Stable.{RefineLoop, left, refined-stable, next-asks, next-refined, next-less}
-use Rattle.merging.proofs.Patterns.{can-flag}
+use Rattle.forms.proofs.Files.{layout-bounded}
 use denote.Ref.{now}
 use lib.ListN.{length, length-replicate}
 use mathlib.Core.Path.{refl, sym, _∙_}
@@ -16,7 +16,7 @@ abbrev μ-loop : tie.MeasureT-loop
 μ-loop ins starts marks old₀ new₀ pending₀ reps₀ list₀ moved₀ count m callers base₀ k₀ old new pending reps list moved base k = left (length old₀) base k
 
 find-callers-requires : tie.Need-find-callers-requires Inv-loop μ-loop
-find-callers-requires c κs = (can-flag (c .before .before .before .before .before .before .pre .classed), length-replicate {A = ℕ} 16640 0)
+find-callers-requires c κs = (layout-bounded (c .before .before .before .before .before .before .pre .classed .layout), length-replicate {A = ℕ} 16640 0)
 
 loop-holds : tie.Need-loop-holds Inv-loop μ-loop
 loop-holds c = record { room = c .find-callers .ensures .0; calls = c .find-callers .ensures .1; long = refl; refined = c .before .before .before .before .before .before .before .pre }

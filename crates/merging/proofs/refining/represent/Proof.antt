@@ -1,6 +1,6 @@
 -- `represent` meets its contract. Assumes nothing.
 use Rattle.merging.proofs.Rounds.{made-represents, placed-represents}
-use Rattle.merging.specs.Inner.Classes.{at}
+use Rattle.classes.specs.Inner.Classes.{at}
 use denote.Ref.{now}
 use lib.ListN.{set}
 use mathlib.Core.Path.{_≡_, sym, ap, _∙_}

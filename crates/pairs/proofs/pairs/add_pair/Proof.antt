@@ -1,6 +1,5 @@
 -- `add_pair` meets its contract: six bytes are written behind one another. Assumes nothing.
 use native.Mathlib.Omega.{arith}
-use lib.ListN.{length-set}
 use borrow.Author.Needs.{needs}
 use denote.Ref.{now}
 use Rattle.pairs.proofs.Joining.{added}

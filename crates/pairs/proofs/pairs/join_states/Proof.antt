@@ -2,7 +2,7 @@
 use mathlib.Core.Path.{sym, ap, _∙_}
 use borrow.Author.Needs.{needs}
 use denote.Ref.{now}
-use Rattle.merging.specs.Inner.Classes.{at}
+use Rattle.classes.specs.Inner.Classes.{at}
 use Rattle.pairs.proofs.Joining.{joins-old, joins-new}
 use Rattle.pairs.proofs.pairs.join_states.Statement.{statement}
 use Rattle.pairs.proofs.pairs.join_states.Tie as tie

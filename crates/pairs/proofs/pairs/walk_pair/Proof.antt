@@ -6,31 +6,31 @@ use Rattle.pairs.proofs.pairs.walk_pair.Statement.{statement}
 use Rattle.pairs.proofs.pairs.walk_pair.Tie as tie
 
 mul-number : tie.Need-mul-number
-mul-number c = omega (arith, walk-there (c .before .before .before .before .before .before .before .pre) .0, c .before .before .before .before .before .before .before .pre .searching .forms .left .laid .long)
+mul-number c = omega (arith, walk-there (c .before .before .before .before .before .before .before .pre) .0, c .before .before .before .before .before .before .before .pre .searching .forms .left .bounds .long)
 
 shared-slice-read-number : tie.Need-shared-slice-read-number
-shared-slice-read-number c = omega (arith, walk-there (c .before .before .before .before .before .before .before .before .pre) .0, c .before .before .before .before .before .before .before .before .pre .searching .forms .left .laid .long)
+shared-slice-read-number c = omega (arith, walk-there (c .before .before .before .before .before .before .before .before .pre) .0, c .before .before .before .before .before .before .before .before .pre .searching .forms .left .bounds .long)
 
 number-requires : tie.Need-number-requires
 number-requires c κs = search needs
 
 mul-number-2 : tie.Need-mul-number-2
-mul-number-2 c = omega (arith, walk-there (c .before .before .before .before .before .before .before .before .before .pre) .1, c .before .before .before .before .before .before .before .before .before .pre .searching .forms .right .laid .long)
+mul-number-2 c = omega (arith, walk-there (c .before .before .before .before .before .before .before .before .before .pre) .1, c .before .before .before .before .before .before .before .before .before .pre .searching .forms .right .bounds .long)
 
 shared-slice-read-number-2 : tie.Need-shared-slice-read-number-2
-shared-slice-read-number-2 c = omega (arith, walk-there (c .before .before .before .before .before .before .before .before .before .before .pre) .1, c .before .before .before .before .before .before .before .before .before .before .pre .searching .forms .right .laid .long)
+shared-slice-read-number-2 c = omega (arith, walk-there (c .before .before .before .before .before .before .before .before .before .before .pre) .1, c .before .before .before .before .before .before .before .before .before .before .pre .searching .forms .right .bounds .long)
 
 number-requires-2 : tie.Need-number-requires-2
 number-requires-2 c κs = search needs
 
 add-number : tie.Need-add-number
-add-number c = omega (arith, walk-there (c .before .before .before .before .before .before .before .before .before .before .before .pre) .0, c .before .before .before .before .before .before .before .before .before .before .before .pre .searching .forms .left .laid .long)
+add-number c = omega (arith, walk-there (c .before .before .before .before .before .before .before .before .before .before .before .pre) .0, c .before .before .before .before .before .before .before .before .before .before .before .pre .searching .forms .left .bounds .long)
 
 mul-number-3 : tie.Need-mul-number-3
-mul-number-3 c = omega (arith, walk-there (c .before .before .before .before .before .before .before .before .before .before .before .pre) .0, c .before .before .before .before .before .before .before .before .before .before .before .pre .searching .forms .left .laid .long)
+mul-number-3 c = omega (arith, walk-there (c .before .before .before .before .before .before .before .before .before .before .before .pre) .0, c .before .before .before .before .before .before .before .before .before .before .before .pre .searching .forms .left .bounds .long)
 
 shared-slice-read-number-3 : tie.Need-shared-slice-read-number-3
-shared-slice-read-number-3 c = omega (arith, walk-there (c .before .before .before .before .before .before .before .before .before .before .before .before .pre) .0, c .before .before .before .before .before .before .before .before .before .before .before .before .pre .searching .forms .left .laid .long)
+shared-slice-read-number-3 c = omega (arith, walk-there (c .before .before .before .before .before .before .before .before .before .before .before .before .pre) .0, c .before .before .before .before .before .before .before .before .before .before .before .before .pre .searching .forms .left .bounds .long)
 
 number-requires-3 : tie.Need-number-requires-3
 number-requires-3 c κs = search needs
@@ -39,13 +39,13 @@ sub-smaller : tie.Need-sub-smaller
 sub-smaller c = omega (arith, walk-ordered (c .before .before .before .before .before .before .before .before .before .before .before .before .before .pre) .0, c .number3 .ensures, c .before .before .before .before .number .ensures)
 
 add-number-2 : tie.Need-add-number-2
-add-number-2 c = omega (arith, walk-there (c .before .before .before .before .before .before .before .before .before .before .before .before .before .pre) .1, c .before .before .before .before .before .before .before .before .before .before .before .before .before .pre .searching .forms .right .laid .long)
+add-number-2 c = omega (arith, walk-there (c .before .before .before .before .before .before .before .before .before .before .before .before .before .pre) .1, c .before .before .before .before .before .before .before .before .before .before .before .before .before .pre .searching .forms .right .bounds .long)
 
 mul-number-4 : tie.Need-mul-number-4
-mul-number-4 c = omega (arith, walk-there (c .before .before .before .before .before .before .before .before .before .before .before .before .before .pre) .1, c .before .before .before .before .before .before .before .before .before .before .before .before .before .pre .searching .forms .right .laid .long)
+mul-number-4 c = omega (arith, walk-there (c .before .before .before .before .before .before .before .before .before .before .before .before .before .pre) .1, c .before .before .before .before .before .before .before .before .before .before .before .before .before .pre .searching .forms .right .bounds .long)
 
 shared-slice-read-number-4 : tie.Need-shared-slice-read-number-4
-shared-slice-read-number-4 c = omega (arith, walk-there (c .before .before .before .before .before .before .before .before .before .before .before .before .before .before .pre) .1, c .before .before .before .before .before .before .before .before .before .before .before .before .before .before .pre .searching .forms .right .laid .long)
+shared-slice-read-number-4 c = omega (arith, walk-there (c .before .before .before .before .before .before .before .before .before .before .before .before .before .before .pre) .1, c .before .before .before .before .before .before .before .before .before .before .before .before .before .before .pre .searching .forms .right .bounds .long)
 
 number-requires-4 : tie.Need-number-requires-4
 number-requires-4 c κs = search needs

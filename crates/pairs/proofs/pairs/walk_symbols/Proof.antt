@@ -44,22 +44,22 @@ loop-holds : tie.Need-loop-holds Inv-loop μ-loop
 loop-holds c = pair-start (c .before .before .before .before .before .before .before .before .before .before .before .args .p) (c .before .before .before .before .before .before .before .before .before .before .before .pre .0)
 
 mul-i : tie.Need-mul-i Inv-loop μ-loop
-mul-i c = omega (arith, pair-bodies (c .before .loop .inv) (c .before .before .before .before .before .before .before .before .before .before .before .before .before .pre .1) (c .loop-test .taken) (c .before .before .before .before .wide .ensures) (c .before .before .wide2 .ensures) .0, c .before .loop .inv .goes .searching .forms .left .laid .long)
+mul-i c = omega (arith, pair-bodies (c .before .loop .inv) (c .before .before .before .before .before .before .before .before .before .before .before .before .before .pre .1) (c .loop-test .taken) (c .before .before .before .before .wide .ensures) (c .before .before .wide2 .ensures) .0, c .before .loop .inv .goes .searching .forms .left .bounds .long)
 
 add-i : tie.Need-add-i Inv-loop μ-loop
-add-i c = omega (arith, pair-bodies (c .before .loop .inv) (c .before .before .before .before .before .before .before .before .before .before .before .before .before .pre .1) (c .loop-test .taken) (c .before .before .before .before .wide .ensures) (c .before .before .wide2 .ensures) .0, c .before .loop .inv .goes .searching .forms .left .laid .long)
+add-i c = omega (arith, pair-bodies (c .before .loop .inv) (c .before .before .before .before .before .before .before .before .before .before .before .before .before .pre .1) (c .loop-test .taken) (c .before .before .before .before .wide .ensures) (c .before .before .wide2 .ensures) .0, c .before .loop .inv .goes .searching .forms .left .bounds .long)
 
 add-i-2 : tie.Need-add-i-2 Inv-loop μ-loop
-add-i-2 c = omega (arith, pair-bodies (c .before .loop .inv) (c .before .before .before .before .before .before .before .before .before .before .before .before .before .pre .1) (c .loop-test .taken) (c .before .before .before .before .wide .ensures) (c .before .before .wide2 .ensures) .0, c .before .loop .inv .goes .searching .forms .left .laid .long)
+add-i-2 c = omega (arith, pair-bodies (c .before .loop .inv) (c .before .before .before .before .before .before .before .before .before .before .before .before .before .pre .1) (c .loop-test .taken) (c .before .before .before .before .wide .ensures) (c .before .before .wide2 .ensures) .0, c .before .loop .inv .goes .searching .forms .left .bounds .long)
 
 mul-j : tie.Need-mul-j Inv-loop μ-loop
-mul-j c = omega (arith, pair-bodies (c .before .loop .inv) (c .before .before .before .before .before .before .before .before .before .before .before .before .before .pre .1) (c .loop-test .taken) (c .before .before .before .before .wide .ensures) (c .before .before .wide2 .ensures) .1, c .before .loop .inv .goes .searching .forms .right .laid .long)
+mul-j c = omega (arith, pair-bodies (c .before .loop .inv) (c .before .before .before .before .before .before .before .before .before .before .before .before .before .pre .1) (c .loop-test .taken) (c .before .before .before .before .wide .ensures) (c .before .before .wide2 .ensures) .1, c .before .loop .inv .goes .searching .forms .right .bounds .long)
 
 add-j : tie.Need-add-j Inv-loop μ-loop
-add-j c = omega (arith, pair-bodies (c .before .loop .inv) (c .before .before .before .before .before .before .before .before .before .before .before .before .before .pre .1) (c .loop-test .taken) (c .before .before .before .before .wide .ensures) (c .before .before .wide2 .ensures) .1, c .before .loop .inv .goes .searching .forms .right .laid .long)
+add-j c = omega (arith, pair-bodies (c .before .loop .inv) (c .before .before .before .before .before .before .before .before .before .before .before .before .before .pre .1) (c .loop-test .taken) (c .before .before .before .before .wide .ensures) (c .before .before .wide2 .ensures) .1, c .before .loop .inv .goes .searching .forms .right .bounds .long)
 
 add-j-2 : tie.Need-add-j-2 Inv-loop μ-loop
-add-j-2 c = omega (arith, pair-bodies (c .before .loop .inv) (c .before .before .before .before .before .before .before .before .before .before .before .before .before .pre .1) (c .loop-test .taken) (c .before .before .before .before .wide .ensures) (c .before .before .wide2 .ensures) .1, c .before .loop .inv .goes .searching .forms .right .laid .long)
+add-j-2 c = omega (arith, pair-bodies (c .before .loop .inv) (c .before .before .before .before .before .before .before .before .before .before .before .before .before .pre .1) (c .loop-test .taken) (c .before .before .before .before .wide .ensures) (c .before .before .wide2 .ensures) .1, c .before .loop .inv .goes .searching .forms .right .bounds .long)
 
 add-walk-pair : tie.Need-add-walk-pair Inv-loop μ-loop
 add-walk-pair c = omega (arith, c .before .before .before .before .before .before .before .before .before .before .before .before .before .before .before .before .pre .0 .merging .few, c .before .before .before .before .before .before .before .before .before .before .before .before .before .before .before .before .pre .0 .merging .room, c .before .before .before .before .before .before .before .before .before .before .before .before .before .before .before .before .pre .1)

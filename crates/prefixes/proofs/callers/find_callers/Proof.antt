@@ -6,7 +6,7 @@ use lib.ListN.{length}
 use borrow.Author.Needs.{needs}
 use denote.Ref.{now}
 use Rattle.formats.specs.Inner.Layout.{bodyCount}
-use Rattle.prefixes.proofs.Settling.{row-fits}
+use Rattle.forms.proofs.Files.{row-fits}
 use Rattle.prefixes.proofs.callers.find_callers.Statement.{statement}
 use Rattle.prefixes.proofs.callers.find_callers.Tie as tie
 
@@ -33,7 +33,7 @@ mul-number : tie.Need-mul-number Inv-loop μ-loop
 mul-number c = omega (arith, fits c)
 
 shared-slice-read-number : tie.Need-shared-slice-read-number Inv-loop μ-loop
-shared-slice-read-number c = omega (arith, fits (c .before), c .before .before .before .before .before .before .before .pre .0 .laid .long)
+shared-slice-read-number c = omega (arith, fits (c .before), c .before .before .before .before .before .before .before .pre .0 .bounds .long)
 
 number-requires : tie.Need-number-requires Inv-loop μ-loop
 number-requires c κs = search needs
@@ -45,7 +45,7 @@ mul-number-2 : tie.Need-mul-number-2 Inv-loop μ-loop
 mul-number-2 c = omega (arith, fits (c .before .before))
 
 shared-slice-read-number-2 : tie.Need-shared-slice-read-number-2 Inv-loop μ-loop
-shared-slice-read-number-2 c = omega (arith, fits (c .before .before .before), c .before .before .before .before .before .before .before .before .before .pre .0 .laid .long)
+shared-slice-read-number-2 c = omega (arith, fits (c .before .before .before), c .before .before .before .before .before .before .before .before .before .pre .0 .bounds .long)
 
 number-requires-2 : tie.Need-number-requires-2 Inv-loop μ-loop
 number-requires-2 c κs = search needs
@@ -69,7 +69,7 @@ flag-calls-requires : tie.Need-flag-calls-requires Inv-loop μ-loop
 flag-calls-requires c κs =
     let w = fits (c .before .before .before .before .before) in
     let s = c .before .before .before .before .before .before .before .before .before .before .before in
-    (omega (arith, s .pre .0 .laid .inside (1 + c .before .before .before .before .before .before .loop .p * length (now (s .args .ins)) + length (now (s .args .ins))) (w .1), c .before .number2 .ensures), omega (arith, s .pre .0 .few-states), omega (arith, c .before .before .before .before .before .before .loop .inv, s .pre .1))
+    (omega (arith, s .pre .0 .bounds .inside (1 + c .before .before .before .before .before .before .loop .p * length (now (s .args .ins)) + length (now (s .args .ins))) (w .1), c .before .number2 .ensures), omega (arith, s .pre .0 .few-states), omega (arith, c .before .before .before .before .before .before .loop .inv, s .pre .1))
 
 add-p : tie.Need-add-p Inv-loop μ-loop
 add-p c = search needs

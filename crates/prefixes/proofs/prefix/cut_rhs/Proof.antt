@@ -1,7 +1,8 @@
 -- `cut_rhs` meets its contract: the right-hand side for the leaf is left out, and any other cuts. Assumes nothing.
 use native.Mathlib.Omega.{arith}
 use borrow.Author.Needs.{needs}
-use Rattle.prefixes.proofs.Settling.{can-cut, body-cut, leaf-out, number-fits}
+use Rattle.prefixes.proofs.Settling.{can-cut, body-cut, leaf-out}
+use Rattle.forms.proofs.Files.{number-fits}
 use Rattle.prefixes.proofs.prefix.cut_rhs.Statement.{statement}
 use Rattle.prefixes.proofs.prefix.cut_rhs.Tie as tie
 

@@ -6,7 +6,8 @@ use mathlib.Core.Path.{refl, ap}
 use lib.ListN.{length}
 use borrow.Author.Needs.{needs}
 use Rattle.prefixes.specs.Inner.Heads.{weight}
-use Rattle.prefixes.proofs.Settling.{can-flag, FollowLoop, ahead, follow-start, follow-bodies, follow-next, less-cut, less-none}
+use Rattle.forms.proofs.Files.{layout-bounded}
+use Rattle.prefixes.proofs.Settling.{FollowLoop, ahead, follow-start, follow-bodies, follow-next, less-cut, less-none}
 use Rattle.prefixes.proofs.prefix.follow.Statement.{statement}
 use Rattle.prefixes.proofs.prefix.follow.Tie as tie
 
@@ -22,7 +23,7 @@ slice-aggregate-find-callers : tie.Need-slice-aggregate-find-callers Inv-loop μ
 slice-aggregate-find-callers c = search needs
 
 find-callers-requires : tie.Need-find-callers-requires Inv-loop μ-loop
-find-callers-requires c κs = (can-flag (c .before .before .before .before .before .before .before .before .pre), refl)
+find-callers-requires c κs = (layout-bounded (c .before .before .before .before .before .before .before .before .pre .layout), refl)
 
 loop-holds : tie.Need-loop-holds Inv-loop μ-loop
 loop-holds c = follow-start (search needs) (c .before .before .before .before .before .before .before .before .before .before .pre .table)

@@ -3,7 +3,7 @@ use Prim.Native.Nat.{ℕ}
 use native.Mathlib.Omega.{arith}
 use mathlib.Core.Path.{refl}
 use lib.ListN.{length-replicate}
-use Rattle.formats.proofs.Judging.{refuse}
+use Rattle.trees.proofs.Judging.{refuse}
 use Rattle.report.proofs.Reporting.{alike-holds, alike-reported, differ-holds, differ-bounded, nodes-few, numbers-few, differ-short, differ-reported, refusal-reported}
 use borrow.Author.Needs.{needs}
 use Rattle.report.proofs.report.report.Statement.{statement}

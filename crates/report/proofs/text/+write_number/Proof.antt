@@ -9,7 +9,7 @@ use borrow.Fn.Kinds.{In}
 use borrow.Fn.PlainCycle.{Measures, is, falls, and}
 use denote.Ref.{now}
 use Rattle.report.specs.Inner.Writing.{Wrote}
-use Rattle.report.specs.Text.{number}
+use Rattle.report.specs.Text.{numberText}
 use Rattle.report.proofs.Decimals.{number-digit, number-more}
 use Rattle.report.proofs.Pieces.{one-byte, then, wrote-as, wrote-long}
 use Rattle.report.proofs.text.write_number.Reads as write-number
@@ -31,11 +31,11 @@ abbrev told : ℕ → write-number-lts.Claims
 told t = (write-number-below t, write-number.Post)
 
 -- the digits of the tenth, and the last digit
-module _ {t u : List ℕ} {at n to : ℕ} (low : n < 10000) (more : 10 ≤ n) (W : Wrote t u at to (number (n / 10))) where
-  room : at + length (number n) ≤ length t → to + 1 ≤ length u
-  room h = omega (arith, W .behind, wrote-long W, ap length (number-more n low more), length-append (number (n / 10)) ((48 + n % 10) ∷ []))
+module _ {t u : List ℕ} {at n to : ℕ} (low : n < 10000) (more : 10 ≤ n) (W : Wrote t u at to (numberText (n / 10))) where
+  room : at + length (numberText n) ≤ length t → to + 1 ≤ length u
+  room h = omega (arith, W .behind, wrote-long W, ap length (number-more n low more), length-append (numberText (n / 10)) ((48 + n % 10) ∷ []))
 
-  last : Wrote t (set u to (48 + n % 10)) at (to + 1) (number n)
+  last : Wrote t (set u to (48 + n % 10)) at (to + 1) (numberText n)
   last = wrote-as (sym (number-more n low more)) (then W (one-byte u to (48 + n % 10)))
 
 add-text : (t : ℕ) → write-number-lts.Need-add-text (told t) (write-number-at t) write-number.Post
@@ -62,7 +62,7 @@ write-number-requires t c κs =
     let p = c .before .before .before .pre in
     let n = a .n in
     let e = ap length (number-more n (p .1 .0) (c .before .if1 .left)) in
-    (omega (arith, p .0), (omega (arith, p .1 .0), omega (arith, p .1 .1, e, length-append (number (n / 10)) ((48 + n % 10) ∷ []))))
+    (omega (arith, p .0), (omega (arith, p .1 .0), omega (arith, p .1 .1, e, length-append (numberText (n / 10)) ((48 + n % 10) ∷ []))))
 
 add-text-2 : (t : ℕ) → write-number-lts.Need-add-text-2 (told t) (write-number-at t) write-number.Post
 add-text-2 t c = search needs

@@ -2,7 +2,7 @@
 use Prim.Native.Nat.{_<_}
 use native.Mathlib.Omega.{arith}
 use mathlib.Core.Path.{ap}
-use Rattle.report.specs.Text.{number}
+use Rattle.report.specs.Text.{numberText}
 use Rattle.report.proofs.Decimals.{number-one}
 use Rattle.report.proofs.Pieces.{then, wrote-as, refusal-low}
 use borrow.Author.Needs.{needs}
@@ -40,7 +40,7 @@ same-length : tie.Need-same-length
 same-length c = search needs
 
 returns : tie.Need-returns
-returns c = then (then (c .before .before .before .before .before .before .before .before .before .before .before .before .write-word .ensures) (wrote-as (ap number (c .before .before .before .before .before .before .before .before .number-of .ensures)) (c .before .before .before .before .before .before .before .write-number .ensures))) (c .before .before .write-word2 .ensures)
+returns c = then (then (c .before .before .before .before .before .before .before .before .before .before .before .before .write-word .ensures) (wrote-as (ap numberText (c .before .before .before .before .before .before .before .before .number-of .ensures)) (c .before .before .before .before .before .before .before .write-number .ensures))) (c .before .before .write-word2 .ensures)
 
 pub write-refused-spec : {M : Type 1} → statement M
 write-refused-spec =

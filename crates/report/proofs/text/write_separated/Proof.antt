@@ -5,7 +5,7 @@ use mathlib.Core.Path.{ap}
 use lib.ListN.{length, length-set}
 use borrow.Author.Needs.{needs}
 use denote.Ref.{now}
-use Rattle.report.specs.Text.{number}
+use Rattle.report.specs.Text.{numberText}
 use Rattle.report.proofs.Pieces.{wrote-as, wrote-long, Separating, none-separated, first-room, first-separated, next-room, all-separated, next-separated}
 use Rattle.report.proofs.text.write_separated.Statement.{statement}
 use Rattle.report.proofs.text.write_separated.Tie as tie
@@ -29,20 +29,20 @@ write-number-requires : tie.Need-write-number-requires Inv-loop μ-loop
 write-number-requires c κs =
     let a = c .before .before .before .before .before .before .args in
     let e = c .wide .ensures in
-    (omega (arith, e, c .before .shared-slice-known2 .given 0), omega (arith, ap (λ n. length (number n)) e, first-room (a .s) (now (a .items)) (now (a .text)) (a .at) (omega (arith, c .before .before .before .if1 .left)) (c .before .before .before .before .before .before .pre)))
+    (omega (arith, e, c .before .shared-slice-known2 .given 0), omega (arith, ap (λ n. length (numberText n)) e, first-room (a .s) (now (a .items)) (now (a .text)) (a .at) (omega (arith, c .before .before .before .if1 .left)) (c .before .before .before .before .before .before .pre)))
 
 loop-holds : tie.Need-loop-holds Inv-loop μ-loop
-loop-holds c = let a = c .before .before .before .before .before .before .before .before .before .args in first-separated (a .s) (now (a .items)) (omega (arith, c .before .before .before .before .before .before .if1 .left)) (wrote-as (ap number (c .before .before .before .wide .ensures)) (c .before .before .write-number .ensures))
+loop-holds c = let a = c .before .before .before .before .before .before .before .before .before .args in first-separated (a .s) (now (a .items)) (omega (arith, c .before .before .before .before .before .before .if1 .left)) (wrote-as (ap numberText (c .before .before .before .wide .ensures)) (c .before .before .write-number .ensures))
 
 slice-write-text : tie.Need-slice-write-text Inv-loop μ-loop
 slice-write-text c =
     let a = c .before .before .before .before .before .before .before .before .before .before .before .args in
-    omega (arith, next-room (a .s) (now (a .items)) (omega (arith, c .before .before .before .before .before .before .before .before .if1 .left)) (wrote-as (ap number (c .before .before .before .before .before .wide .ensures)) (c .before .before .before .before .write-number .ensures)) (c .before .loop .inv) (c .loop-test .taken) (c .before .before .before .before .before .before .before .before .before .before .before .pre))
+    omega (arith, next-room (a .s) (now (a .items)) (omega (arith, c .before .before .before .before .before .before .before .before .if1 .left)) (wrote-as (ap numberText (c .before .before .before .before .before .wide .ensures)) (c .before .before .before .before .write-number .ensures)) (c .before .loop .inv) (c .loop-test .taken) (c .before .before .before .before .before .before .before .before .before .before .before .pre))
 
 add-write-number : tie.Need-add-write-number Inv-loop μ-loop
 add-write-number c =
     let a = c .before .before .before .before .before .before .before .before .before .before .before .before .args in
-    omega (arith, next-room (a .s) (now (a .items)) (omega (arith, c .before .before .before .before .before .before .before .before .before .if1 .left)) (wrote-as (ap number (c .before .before .before .before .before .before .wide .ensures)) (c .before .before .before .before .before .write-number .ensures)) (c .before .before .loop .inv) (c .before .loop-test .taken) (c .before .before .before .before .before .before .before .before .before .before .before .before .pre))
+    omega (arith, next-room (a .s) (now (a .items)) (omega (arith, c .before .before .before .before .before .before .before .before .before .if1 .left)) (wrote-as (ap numberText (c .before .before .before .before .before .before .wide .ensures)) (c .before .before .before .before .before .write-number .ensures)) (c .before .before .loop .inv) (c .before .loop-test .taken) (c .before .before .before .before .before .before .before .before .before .before .before .before .pre))
 
 shared-slice-read-wide-2 : tie.Need-shared-slice-read-wide-2 Inv-loop μ-loop
 shared-slice-read-wide-2 c = search needs
@@ -55,8 +55,8 @@ write-number-requires-2 c κs =
     let a = c .before .before .before .before .before .before .before .before .before .before .before .before .before .before .args in
     let l = c .before .before .before .before .loop in
     let e = c .wide2 .ensures in
-    let r = next-room (a .s) (now (a .items)) (omega (arith, c .before .before .before .before .before .before .before .before .before .before .before .if1 .left)) (wrote-as (ap number (c .before .before .before .before .before .before .before .before .wide .ensures)) (c .before .before .before .before .before .before .before .write-number .ensures)) (l .inv) (c .before .before .before .loop-test .taken) (c .before .before .before .before .before .before .before .before .before .before .before .before .before .before .pre) in
-    (omega (arith, e, c .before .shared-slice-known3 .given (l .k)), omega (arith, ap (λ n. length (number n)) e, length-set (l .text) (l .to) (a .s), r))
+    let r = next-room (a .s) (now (a .items)) (omega (arith, c .before .before .before .before .before .before .before .before .before .before .before .if1 .left)) (wrote-as (ap numberText (c .before .before .before .before .before .before .before .before .wide .ensures)) (c .before .before .before .before .before .before .before .write-number .ensures)) (l .inv) (c .before .before .before .loop-test .taken) (c .before .before .before .before .before .before .before .before .before .before .before .before .before .before .pre) in
+    (omega (arith, e, c .before .shared-slice-known3 .given (l .k)), omega (arith, ap (λ n. length (numberText n)) e, length-set (l .text) (l .to) (a .s), r))
 
 add-k : tie.Need-add-k Inv-loop μ-loop
 add-k c = search needs
@@ -65,13 +65,13 @@ loop-less : tie.Need-loop-less Inv-loop μ-loop
 loop-less c = search needs
 
 loop-again : tie.Need-loop-again Inv-loop μ-loop
-loop-again c = let a = c .before .before .before .before .before .before .before .before .before .before .before .before .before .before .before .before .before .args in next-separated (a .s) (now (a .items)) (c .before .before .before .before .before .before .before .loop .inv) (c .before .before .before .before .before .before .loop-test .taken) (wrote-as (ap number (c .before .before .before .wide2 .ensures)) (c .before .before .write-number2 .ensures))
+loop-again c = let a = c .before .before .before .before .before .before .before .before .before .before .before .before .before .before .before .before .before .args in next-separated (a .s) (now (a .items)) (c .before .before .before .before .before .before .before .loop .inv) (c .before .before .before .before .before .before .loop-test .taken) (wrote-as (ap numberText (c .before .before .before .wide2 .ensures)) (c .before .before .write-number2 .ensures))
 
 same-length : tie.Need-same-length Inv-loop μ-loop
-same-length c = let a = c .before .before .before .before .before .before .before .before .before .before .before .args in wrote-long (all-separated (a .s) (now (a .items)) (omega (arith, c .before .before .before .before .before .before .before .before .if1 .left)) (wrote-as (ap number (c .before .before .before .before .before .wide .ensures)) (c .before .before .before .before .write-number .ensures)) (c .before .loop .inv) (c .loop-test .left))
+same-length c = let a = c .before .before .before .before .before .before .before .before .before .before .before .args in wrote-long (all-separated (a .s) (now (a .items)) (omega (arith, c .before .before .before .before .before .before .before .before .if1 .left)) (wrote-as (ap numberText (c .before .before .before .before .before .wide .ensures)) (c .before .before .before .before .write-number .ensures)) (c .before .loop .inv) (c .loop-test .left))
 
 returns-2 : tie.Need-returns-2 Inv-loop μ-loop
-returns-2 c = let a = c .before .before .before .before .before .before .before .before .before .before .before .args in all-separated (a .s) (now (a .items)) (omega (arith, c .before .before .before .before .before .before .before .before .if1 .left)) (wrote-as (ap number (c .before .before .before .before .before .wide .ensures)) (c .before .before .before .before .write-number .ensures)) (c .before .loop .inv) (c .loop-test .left)
+returns-2 c = let a = c .before .before .before .before .before .before .before .before .before .before .before .args in all-separated (a .s) (now (a .items)) (omega (arith, c .before .before .before .before .before .before .before .before .if1 .left)) (wrote-as (ap numberText (c .before .before .before .before .before .wide .ensures)) (c .before .before .before .before .write-number .ensures)) (c .before .loop .inv) (c .loop-test .left)
 
 pub write-separated-spec : {M : Type 1} → statement M
 write-separated-spec =

@@ -44,8 +44,8 @@ loop-again c = search needs
 find-requires-2 : tie.Need-find-requires-2 Inv-loop μ-loop
 find-requires-2 c κs = search needs
 
-part-requires : tie.Need-part-requires Inv-loop μ-loop
-part-requires c κs = search needs
+between-requires : tie.Need-between-requires Inv-loop μ-loop
+between-requires c κs = search needs
 
 returns-2 : tie.Need-returns-2 Inv-loop μ-loop
 returns-2 c = search needs
@@ -67,5 +67,5 @@ nth-spec =
     loop-less
     loop-again
     find-requires-2
-    part-requires
+    between-requires
     returns-2)

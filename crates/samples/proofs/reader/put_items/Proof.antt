@@ -18,8 +18,8 @@ loop-holds c = search needs
 find-requires : tie.Need-find-requires Inv-loop μ-loop
 find-requires c κs = search needs
 
-part-requires : tie.Need-part-requires Inv-loop μ-loop
-part-requires c κs = search needs
+between-requires : tie.Need-between-requires Inv-loop μ-loop
+between-requires c κs = search needs
 
 put-item-requires : tie.Need-put-item-requires Inv-loop μ-loop
 put-item-requires c κs = search needs
@@ -47,7 +47,7 @@ put-items-spec =
     μ-loop
     loop-holds
     find-requires
-    part-requires
+    between-requires
     put-item-requires
     returns
     add-at

@@ -1,5 +1,5 @@
 -- `apply` and `walk` meet their contracts. What falls from call to call is levels left times marks. The loop's invariant: writing what is left from here ends as writing all from the start, if there is room, and what is noted to stand stands. Assumes nothing.
-use Prim.Native.Nat.{_+_, _-_, _*_, _≤_, ℕ, _<_}
+use Prim.Native.Nat.{_<_, _+_, _-_, _*_, _≤_, ℕ}
 use mathlib.Core.List.{[], _∷_}
 use mathlib.Core.Path.{refl, sym, _∙_}
 use native.Mathlib.Omega.{arith}
@@ -18,8 +18,8 @@ use Rattle.transducer.proofs.translate.+apply+walk.Lts-apply as apply-l
 use Rattle.transducer.proofs.translate.walk.Reads as walk
 use Rattle.transducer.proofs.translate.walk.Kinds as walk-kinds
 use Rattle.transducer.proofs.translate.+apply+walk.Lts-walk as walk-lts
-use Rattle.formats.proofs.bytes.number.Reads as number-reads
-use Rattle.formats.proofs.bytes.wide.Reads as wide-reads
+use Rattle.trees.proofs.bytes.number.Reads as number-reads
+use Rattle.trees.proofs.bytes.wide.Reads as wide-reads
 use Rattle.transducer.proofs.translate.added.Reads as added-reads
 use Rattle.transducer.proofs.translate.body_at.Reads as body-at-reads
 use Rattle.transducer.proofs.translate.copy_within.Reads as copy-within-reads

@@ -3,8 +3,8 @@ use native.Mathlib.Omega.{arith}
 use mathlib.Core.Path.{refl}
 use borrow.Author.Needs.{needs}
 use denote.Ref.{now}
-use Rattle.formats.specs.Refusal.{done as no-more}
-use Rattle.formats.specs.Tree.{treeCheck}
+use Rattle.trees.specs.Refusal.{done as no-more}
+use Rattle.trees.specs.Tree.{treeCheck}
 use Rattle.formats.proofs.Verdicts.{accepted-alphabets, accepted-states, accepted-long}
 use Rattle.transducer.specs.Answers.{roomCheck}
 use Rattle.transducer.proofs.Opening.{opened-at, opened-machine, not-opened}

@@ -1,5 +1,4 @@
 -- `body_of` meets its contract. Assumes nothing.
-use Prim.Native.Nat.{_-_}
 use native.Mathlib.Omega.{arith}
 use denote.Ref.{now}
 use Rattle.witness.proofs.Bottoms.{body-top, body-pair, body-small}

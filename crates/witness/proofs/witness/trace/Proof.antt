@@ -2,7 +2,7 @@
 use native.Mathlib.Omega.{arith}
 use mathlib.Core.Path.{ap, _∙_}
 use denote.Ref.{now}
-use Rattle.merging.specs.Inner.Classes.{at}
+use Rattle.classes.specs.Inner.Classes.{at}
 use Rattle.witness.proofs.Showing.{show-bodied-left, show-bodied-right, show-left, show-right, show-fits, show-root, show-address-asked, show-leading, show-roomy, traced}
 use borrow.Author.Needs.{needs}
 use Rattle.witness.proofs.witness.trace.Statement.{statement}

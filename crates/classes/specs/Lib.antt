@@ -1,0 +1,2 @@
+-- Classes of states: Inner holds what only inner functions and their proofs speak of.
+pub mod Inner

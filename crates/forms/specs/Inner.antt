@@ -1,0 +1,3 @@
+-- What only inner functions and their proofs speak of.
+pub mod Tables
+pub mod Writing

@@ -1,0 +1,105 @@
+-- What the entry points of a registry answer. In each, h, rs and area are the head, the records and the area as lent, and h′, rs′ and area′ as left.
+use Prim.Native.Nat.{ℕ, _+_, _≤_, _<_}
+use mathlib.Core.List.{List, [], _∷_, _++_}
+use mathlib.Core.Logic.{_⊎_}
+use mathlib.Core.Path.{_≡_}
+use lib.ListN.{length, set, drop, replicate}
+use lib.Seq.{sets}
+use Rattle.trees.specs.Alphabets.{alphabetCheck}
+use Rattle.trees.specs.Refusal.{refusalNumber, Outcome, accepted, refused, done, check, Judged}
+use Rattle.formats.specs.Sheet.{file, sheetCheck}
+use Rattle.earliest.specs.Answers.{formCheck}
+use Rattle.canonical.specs.Answers.{NormalFile}
+use Rattle.records.specs.Book.{noRecord, body, Chained}
+use Rattle.records.specs.declared.book.Head.{Head}
+use Rattle.records.specs.declared.book.Record.{Record}
+use Rattle.records.specs.declared.book.Entered.{Entered}
+use Rattle.records.specs.declared.book.Entered.the-variants as entering
+use Rattle.records.specs.declared.book.Made.{Made}
+use Rattle.records.specs.declared.book.Made.the-variants as making
+
+-- a refusal leaves head, records and area as they were
+abbrev pub Kept : Head → List Record → List ℕ → Head → List Record → List ℕ → Type 0
+Kept h rs area h′ rs′ area′ = (h′ ≡ h) × (rs′ ≡ rs) × (area′ ≡ area)
+
+-- ---- making: a registry with these alphabets and nothing else in it
+abbrev pub madeOf : Made → Outcome (Unit {0})
+madeOf making.Empty = accepted tt
+madeOf (making.Refused r) = refused (refusalNumber r)
+
+-- the head is new, the first 33 records are those of the alphabets and unused ones, and the area begins with the alphabets; the rest of both stays
+pub record Begun (stock : List ℕ) (rs : List Record) (area : List ℕ) (h′ : Head) (rs′ : List Record) (area′ : List ℕ) : Type 0 where
+  pub head : h′ ≡ record { held = 0; used = length stock; answered = 0 }
+  pub records : rs′ ≡ record { start = 0; size = length stock } ∷ (replicate 32 noRecord ++ drop 33 rs)
+  pub bodies : area′ ≡ sets area 0 stock
+
+abbrev pub Makes : List ℕ → Head → List Record → List ℕ → Head → List Record → List ℕ → Made → Type 0
+Makes stock h rs area h′ rs′ area′ r =
+    Judged (Kept h rs area h′ rs′ area′) (λ v. Begun stock rs area h′ rs′ area′)
+    (check 9 (33 ≤ length rs) (alphabetCheck stock (check 8 (length stock ≤ length area) done)))
+    (madeOf r)
+
+-- ---- entry: the number of a transducer's normal form
+abbrev pub numberOf : Entered → Outcome ℕ
+numberOf (entering.Number n) = accepted n
+numberOf (entering.Refused r) = refused (refusalNumber r)
+
+-- x is the file of the normal form (01: clean sheet) of the transducer of the file s
+pub record CleanFile (stock s x : List ℕ) : Type 0 where
+  pub states : ℕ
+  pub counts : List ℕ
+  pub bytes : List ℕ
+  pub normal : NormalFile stock s states counts bytes
+  pub coded : x ≡ file states counts bytes
+
+-- x is held, and n is its lowest number; body 0 has none
+pub record Lowest (held : ℕ) (rs : List Record) (area x : List ℕ) (n : ℕ) : Type 0 where
+  pub low : 1 ≤ n
+  pub high : n ≤ held
+  pub there : body rs area n ≡ x
+  pub first : (m : ℕ) → 1 ≤ m → m < n → body rs area m ≡ x → ⊥
+
+-- x is not held
+pub record NotHeld (held : ℕ) (rs : List Record) (area x : List ℕ) : Type 0 where
+  pub none : (m : ℕ) → 1 ≤ m → m ≤ held → body rs area m ≡ x → ⊥
+
+-- there is room for x behind what is held
+pub record Room (h : Head) (area x : List ℕ) : Type 0 where
+  pub few : h .held < 32
+  pub fits : h .used + length x ≤ length area
+
+-- x is held: its lowest number n is answered, which is counted, and nothing else changes
+pub record Known (h : Head) (rs : List Record) (area x : List ℕ) (n : ℕ) (h′ : Head) (rs′ : List Record) (area′ : List ℕ) : Type 0 where
+  pub lowest : Lowest (h .held) rs area x n
+  pub head : h′ ≡ record { held = h .held; used = h .used; answered = h .answered + 1 }
+  pub records : rs′ ≡ rs
+  pub bodies : area′ ≡ area
+
+-- x is not held: it is put behind what is held, gets the next number n, and that is counted; the other records and bytes stay
+pub record Added (h : Head) (rs : List Record) (area x : List ℕ) (n : ℕ) (h′ : Head) (rs′ : List Record) (area′ : List ℕ) : Type 0 where
+  pub new : NotHeld (h .held) rs area x
+  pub room : Room h area x
+  pub next : n ≡ h .held + 1
+  pub head : h′ ≡ record { held = h .held + 1; used = h .used + length x; answered = h .answered + 1 }
+  pub records : rs′ ≡ set rs n (record { start = h .used; size = length x })
+  pub bodies : area′ ≡ sets area (h .used) x
+
+-- refusal 8: x is not held, and there is no room for it
+abbrev pub HasPlace : Head → List Record → List ℕ → List ℕ → Type 0
+HasPlace h rs area x = ((n : ℕ) × Lowest (h .held) rs area x n) ⊎ Room h area x
+
+abbrev pub Gives : Head → List Record → List ℕ → List ℕ → ℕ → Head → List Record → List ℕ → Type 0
+Gives h rs area x n h′ rs′ area′ = Known h rs area x n h′ rs′ area′ ⊎ Added h rs area x n h′ rs′ area′
+
+-- the file s is cleaned under the alphabets of the registry, and its normal form is given a number
+abbrev pub Enters : List ℕ → Head → List Record → List ℕ → Head → List Record → List ℕ → Entered → Type 0
+Enters s h rs area h′ rs′ area′ r =
+    Judged (Kept h rs area h′ rs′ area′) (λ n. (x : List ℕ) × (CleanFile (body rs area 0) s x × Gives h rs area x n h′ rs′ area′))
+    (check 9 (Chained h rs area) (sheetCheck (body rs area 0) s (formCheck (body rs area 0) s (check 8 ((x : List ℕ) × (CleanFile (body rs area 0) s x × HasPlace h rs area x)) done))))
+    (numberOf r)
+
+-- ---- a body by number: empty for 0, for a number that is not held, and on refusal 9
+abbrev pub HandsBody : Head → List Record → List ℕ → ℕ → List ℕ → Type 0
+HandsBody h rs area n part =
+    ((Chained h rs area × (1 ≤ n) × (n ≤ h .held)) × (part ≡ body rs area n))
+    ⊎ (((Chained h rs area × (1 ≤ n) × (n ≤ h .held)) → ⊥) × (part ≡ []))

@@ -1,0 +1,106 @@
+-- What the steps of an entry and of making answer.
+use Prim.Native.Nat.{ℕ, _+_, _≤_, _<_}
+use mathlib.Core.List.{List}
+use mathlib.Core.Logic.{_⊎_}
+use mathlib.Core.Path.{_≡_}
+use lib.ListN.{length}
+use lib.Seq.{sets}
+use Rattle.trees.specs.Refusal.{done, check, Holds, Judged}
+use Rattle.formats.specs.Sheet.{sheetCheck}
+use Rattle.trees.specs.declared.refusal.Refusal.{Refusal}
+use Rattle.earliest.specs.Answers.{formCheck}
+use Rattle.records.specs.Answers.{Kept, CleanFile, Lowest, NotHeld, HasPlace, Gives, Enters, numberOf}
+use Rattle.records.specs.Book.{noRecord, recordAt, body, Chained}
+use Rattle.records.specs.Inner.Writes.{added}
+use Rattle.records.specs.declared.book.Asked.{Asked}
+use Rattle.records.specs.declared.book.Entered.{Entered}
+use Rattle.records.specs.declared.book.Entered.the-variants as entering
+use Rattle.records.specs.declared.book.Entry.{Entry}
+use Rattle.records.specs.declared.book.Head.{Head}
+use Rattle.records.specs.declared.book.Made.{Made}
+use Rattle.records.specs.declared.book.Made.the-variants as making
+use Rattle.records.specs.declared.book.Record.{Record}
+use Rattle.records.specs.declared.book.Started.{Started}
+use Rattle.records.specs.declared.book.Verdict.{Verdict}
+use Rattle.records.specs.declared.book.Verdict.the-variants as deciding
+
+-- ---- the search
+-- the records from 1 to `held` are there, and their bodies end within the area
+pub record Placed (held : ℕ) (rs : List Record) (area : List ℕ) : Type 0 where
+  pub few : held ≤ 32
+  pub there : (i : ℕ) → 1 ≤ i → i ≤ held → i < length rs
+  pub ends : (i : ℕ) → 1 ≤ i → i ≤ held → recordAt rs i .start + recordAt rs i .size ≤ length area
+
+-- n is the lowest number, from 1 to `held`, with these bytes, or 0 where there is none
+abbrev pub Finds : ℕ → List Record → List ℕ → List ℕ → ℕ → Type 0
+Finds held rs area x n = ((n ≡ 0) × NotHeld held rs area x) ⊎ Lowest held rs area x n
+
+-- ---- before the search: a registry and a clean file, or the refusal
+abbrev pub clean : Verdict
+clean = deciding.Clean
+
+abbrev pub refusedAsk : Refusal → Asked
+refusedAsk r = record { verdict = deciding.Refused r; held = 0; size = 0 }
+
+-- x is the clean file of s under the alphabets of a registry
+pub record Cleaned (s : List ℕ) (h : Head) (rs : List Record) (area x : List ℕ) (a : Asked) : Type 0 where
+  pub verdict : a .verdict ≡ clean
+  pub held : a .held ≡ h .held
+  pub chained : Chained h rs area
+  pub checks : Holds (sheetCheck (body rs area 0) s (formCheck (body rs area 0) s done))
+  pub file : CleanFile (body rs area 0) s x
+
+pub record TurnedDown (s : List ℕ) (h : Head) (rs : List Record) (area : List ℕ) (a : Asked) : Type 0 where
+  pub refusal : Refusal
+  pub ask : a ≡ refusedAsk refusal
+  pub enters : Enters s h rs area h rs area (entering.Refused refusal)
+
+abbrev pub Asks : List ℕ → Head → List Record → List ℕ → List ℕ → Asked → Type 0
+Asks s h rs area x a = Cleaned s h rs area x a ⊎ TurnedDown s h rs area a
+
+-- ---- after the search
+-- what giving a number asks of the head and the area
+pub record Ready (h : Head) (area : List ℕ) : Type 0 where
+  pub few : h .held ≤ 32
+  pub inside : h .used ≤ length area
+  pub countable : h .answered < 18446744073709551615
+
+-- the bytes x are given a number, or there is no room for them
+abbrev pub StepsWith : List ℕ → Head → List Record → List ℕ → Entry → List ℕ → Type 0
+StepsWith x h rs area r area′ =
+    Judged (Kept h rs area (r .head) (added rs (r .number) (r .new)) area′) (λ n. Gives h rs area x n (r .head) (added rs (r .number) (r .new)) area′)
+    (check 8 (HasPlace h rs area x) done)
+    (numberOf (r .answer))
+
+-- the commit: x is put behind what is held, with the next number
+pub record Adds (h : Head) (area x : List ℕ) (r : Entry) (area′ : List ℕ) : Type 0 where
+  pub head : r .head ≡ record { held = h .held + 1; used = h .used + length x; answered = h .answered + 1 }
+  pub number : r .number ≡ h .held + 1
+  pub new : r .new ≡ record { start = h .used; size = length x }
+  pub bodies : area′ ≡ sets area (h .used) x
+  pub answer : r .answer ≡ entering.Number (h .held + 1)
+
+-- the answer n is counted, and nothing else changes
+pub record Counts (h : Head) (n : ℕ) (r : Entry) : Type 0 where
+  pub head : r .head ≡ record { held = h .held; used = h .used; answered = h .answered + 1 }
+  pub number : r .number ≡ 0
+  pub answer : r .answer ≡ entering.Number n
+
+-- a refusal as an answer, which changes nothing
+abbrev pub refusedBy : Refusal → Entered
+refusedBy r = entering.Refused r
+
+abbrev pub unchanged : Head → Entered → Entry
+unchanged h a = record { head = h; number = 0; new = noRecord; answer = a }
+
+-- an entry of the file s, with what is left of the records
+pub record Places (s : List ℕ) (h : Head) (rs : List Record) (area : List ℕ) (r : Entry) (area′ : List ℕ) : Type 0 where
+  pub enters : Enters s h rs area (r .head) (added rs (r .number) (r .new)) area′ (r .answer)
+  pub inside : 0 < r .number → r .number < length rs
+
+-- ---- making
+abbrev pub refusedMade : Refusal → Made
+refusedMade r = making.Refused r
+
+abbrev pub notStarted : Head → Made → Started
+notStarted h a = record { head = h; fresh = 0; answer = a }

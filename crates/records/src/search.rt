@@ -1,0 +1,51 @@
+// The search for some bytes among the bodies.
+ghost use Prim.Native.Nat.{_+_, _-_, _≤_};
+ghost use mathlib.Core.List.{List};
+ghost use mathlib.Core.Path.{_≡_};
+ghost use lib.ListN.{length, take, drop};
+ghost use Rattle.trees.specs.Refusal.{Decides};
+ghost use Rattle.records.specs.Book.{recordAt};
+ghost use Rattle.records.specs.Inner.Steps.{Finds};
+ghost use Rattle.records.specs.declared.book.Record.{Record as Records};
+use crate::book::Record;
+
+// Whether two runs of bytes are equal.
+fn same_bytes(a: &[u8], b: &[u8]) -> bool
+    ensures { λ r. ⌜ Decides (now (a .entry) ≡ now (b .entry)) r ⌝ }
+{
+    if a.len() != b.len() {
+        return false;
+    }
+    let mut i = 0;
+    while i < a.len() {
+        if a[i] != b[i] {
+            return false;
+        }
+        i += 1;
+    }
+    true
+}
+
+// The body that a record tells, as a part of the area.
+pub(crate) fn body_of(r: Record, area: &[u8]) -> &[u8]
+    requires { ⌜ r .start + r .size ≤ length (now area) ⌝ }
+    ensures { λ p. ⌜ now p ≡ take (r .size) (drop (r .start) (now (area .entry))) ⌝ }
+{
+    let from = r.start;
+    let end = from + r.size;
+    &area[from..end]
+}
+
+// The number n found among the bodies before i, and i where there was none and body i, that of r, is these bytes; 0 for none.
+pub fn first_of(n: usize, i: usize, r: Record, area: &[u8], bytes: &[u8]) -> usize
+    requires { ⌜ (1 ≤ i) × (r .start + r .size ≤ length (now area)) ⌝ }
+    ensures { λ m. ⌜ ((rs : List Records) → r ≡ recordAt rs i → Finds (i - 1) rs (now (area .entry)) (now (bytes .entry)) n → Finds i rs (now (area .entry)) (now (bytes .entry)) m) ⌝ }
+{
+    if n != 0 {
+        return n;
+    }
+    if same_bytes(body_of(r, area), bytes) {
+        return i;
+    }
+    0
+}

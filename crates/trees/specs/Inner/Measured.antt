@@ -1,0 +1,40 @@
+-- What measuring a tree answers: where it ends and how many levels it has.
+use Prim.Native.Nat.{ℕ, _+_, _≤_, _<_}
+use mathlib.Core.Bool.{Bool, true, false}
+use mathlib.Core.List.{List}
+use mathlib.Core.Path.{_≡_}
+use lib.Dec.{leb}
+use lib.ListN.{length, getD, drop}
+use Rattle.theory.specs.Term.{Terms, none, more}
+use Rattle.theory.specs.Size.{size, levels}
+use Rattle.trees.specs.Inner.Symbols.{tree, IsTree}
+use Rattle.trees.specs.declared.tree.Extent.{Extent}
+use Rattle.trees.specs.declared.tree.Extent.the-variants.{Tree, Bad}
+
+abbrev pub treeIf : Bool → Extent → Extent
+treeIf true r = r
+treeIf false r = Bad
+
+-- of the trees from position at on, the first, if it has at most `room` levels
+unfoldable pub measured : ℕ → ℕ → Terms ⊥ → Extent
+measured room at none = Bad
+measured room at (more t ts) = treeIf (leb (levels t) room) (Tree (at + size t) (levels t))
+
+-- where the tree at position k ends
+abbrev pub endAt : List ℕ → List ℕ → ℕ → ℕ
+endAt ins s k = k + size (tree ins (drop k s))
+
+-- the table holds these ends, from position a up to e
+abbrev pub Ends : List ℕ → List ℕ → List ℕ → ℕ → ℕ → Type 0
+Ends ins s ends a e = (k : ℕ) → a ≤ k → k < e → getD ends k 0 ≡ endAt ins s k
+
+-- s is one input tree within the limits
+pub record WholeTree (ins s : List ℕ) : Type 0 where
+  pub one : IsTree ins s
+  pub small : length s ≤ 4096
+  pub few-levels : levels (tree ins s) ≤ 512
+
+-- what measuring all of s answers
+pub record MeasuredAll (ins s : List ℕ) (r : Extent) : Type 0 where
+  pub whole : (e l : ℕ) → r ≡ Tree e l → WholeTree ins s × (e ≡ size (tree ins s)) × (l ≡ levels (tree ins s))
+  pub bad : r ≡ Bad → WholeTree ins s → ⊥

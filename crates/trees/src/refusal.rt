@@ -1,0 +1,32 @@
+// Why an input is refused: document 01's table. `number` of specs/Refusal.antt gives the paper's number of each.
+ghost use mathlib.Core.Path.{_≡_};
+ghost use Rattle.trees.specs.Refusal.{refusalNumber};
+
+pub enum Refusal {
+    ShortArea,
+    BadAlphabets,
+    BadTree,
+    BadContents,
+    BadBody,
+    LongOutput,
+    OverLimits,
+    FullRegistry,
+    BadRegistry,
+}
+
+// The number of a refusal in that table.
+pub fn number_of(r: Refusal) -> u32
+    ensures { λ n. ⌜ n ≡ refusalNumber r ⌝ }
+{
+    match r {
+        Refusal::ShortArea => 1,
+        Refusal::BadAlphabets => 2,
+        Refusal::BadTree => 3,
+        Refusal::BadContents => 4,
+        Refusal::BadBody => 5,
+        Refusal::LongOutput => 6,
+        Refusal::OverLimits => 7,
+        Refusal::FullRegistry => 8,
+        Refusal::BadRegistry => 9,
+    }
+}
