@@ -1,4 +1,4 @@
-// The input trees of one node.
+// The first leaf of an input alphabet.
 ghost use Prim.Native.Nat.{_≤_, _<_};
 ghost use mathlib.Core.Path.{_≡_};
 ghost use lib.ListN.{length, getD};

@@ -1,2 +1,2 @@
--- Calls: lists of calls of the entry points. What a registry is and what one call answers say `Book` and `Answers` of `records`.
+-- Calls: lists of calls of the entry points. `Book` and `Answers` of `records` say what a registry is and what one call answers.
 pub mod Calls
