@@ -1,5 +1,6 @@
 -- `judge_parts` meets its contract. Assumes nothing.
 use Prim.Native.Nat.{ℕ}
+use native.Mathlib.Nat.{mul-le-mul}
 use native.Mathlib.Omega.{arith}
 use mathlib.Core.Path.{_∙_}
 use lib.ListN.{length-replicate}
@@ -16,16 +17,16 @@ input-ranks-requires : tie.Need-input-ranks-requires
 input-ranks-requires c κs = search needs
 
 returns : tie.Need-returns
-returns c = many-states (c .before .before .before .before .before .pre) (c .before .input-ranks .ensures) (c .if1 .taken)
+returns c = many-states (c .before .before .before .before .before .pre) (c .before .input-ranks .ensures) (omega (arith, c .if1 .taken))
 
 mul-bodies : tie.Need-mul-bodies
-mul-bodies c = omega (arith, few-bodies (c .before .before .before .before .before .pre) (c .before .input-ranks .ensures) (c .if1 .left))
+mul-bodies c = omega (arith, mul-le-mul (c .if1 .left) (few-symbols (c .before .before .before .before .before .pre) (c .before .input-ranks .ensures)))
 
 add-bodies : tie.Need-add-bodies
-add-bodies c = omega (arith, few-bodies (c .before .before .before .before .before .pre) (c .before .input-ranks .ensures) (c .if1 .left))
+add-bodies c = omega (arith, mul-le-mul (c .if1 .left) (few-symbols (c .before .before .before .before .before .pre) (c .before .input-ranks .ensures)))
 
 mul-if2 : tie.Need-mul-if2
-mul-if2 c = omega (arith, few-bodies (c .before .before .before .before .before .pre) (c .before .input-ranks .ensures) (c .if1 .left))
+mul-if2 c = omega (arith, mul-le-mul (c .if1 .left) (few-symbols (c .before .before .before .before .before .pre) (c .before .input-ranks .ensures)))
 
 returns-2 : tie.Need-returns-2
 returns-2 c = wrong-length (c .before .before .before .before .before .before .pre) (c .before .before .input-ranks .ensures) (c .if2 .taken)
@@ -42,7 +43,7 @@ slice-aggregate-fill-starts c = search needs
 fill-starts-requires : tie.Need-fill-starts-requires
 fill-starts-requires c κs =
     let S = held (c .before .before .counts-right .ensures) (c .before .if3 .left) in
-    (omega arith, few-bodies (c .before .before .before .before .before .before .before .before .before .pre) (c .before .before .before .before .before .input-ranks .ensures) (c .before .before .before .before .if1 .left), omega (arith, S .few))
+    (omega arith, few-bodies (c .before .before .before .before .before .before .before .before .before .pre) (c .before .before .before .before .before .input-ranks .ensures) (omega (arith, c .before .before .before .before .if1 .left)), omega (arith, S .few))
 
 output-ranks-requires : tie.Need-output-ranks-requires
 output-ranks-requires c κs = search needs
@@ -54,7 +55,7 @@ bodies-whole-requires : tie.Need-bodies-whole-requires
 bodies-whole-requires c κs =
     let F = c .before .before .before .fill-starts in
     let S = held (c .before .before .before .before .before .before .counts-right .ensures) (c .before .before .before .before .before .if3 .left) in
-    let R : Right (now (c .before .before .before .before .before .before .before .before .before .input-ranks .result)) (c .before .before .before .before .before .before .before .before .before .before .before .before .before .args .n) (now (c .before .before .before .before .before .before .before .before .before .before .before .before .before .args .counts)) (now (c .before .before .before .before .before .before .before .before .before .before .before .before .before .args .marks)) = record { symbols = few-symbols (c .before .before .before .before .before .before .before .before .before .before .before .before .before .pre) (c .before .before .before .before .before .before .before .before .before .input-ranks .ensures); states = c .before .before .before .before .before .before .before .before .if1 .left; long = c .before .before .before .before .before .before .before .if2 .left; sums = S } in
+    let R : Right (now (c .before .before .before .before .before .before .before .before .before .input-ranks .result)) (c .before .before .before .before .before .before .before .before .before .before .before .before .before .args .n) (now (c .before .before .before .before .before .before .before .before .before .before .before .before .before .args .counts)) (now (c .before .before .before .before .before .before .before .before .before .before .before .before .before .args .marks)) = record { symbols = few-symbols (c .before .before .before .before .before .before .before .before .before .before .before .before .before .pre) (c .before .before .before .before .before .before .before .before .before .input-ranks .ensures); states = omega (arith, c .before .before .before .before .before .before .before .before .if1 .left); long = c .before .before .before .before .before .before .before .if2 .left; sums = S } in
     in-bounds (F .last .1 .1 .0) R (F .ensures .0) (F .kept .1 .1 .0 ∙ length-replicate {A = ℕ} 2050 0)
 
 returns-4 : tie.Need-returns-4
@@ -62,7 +63,7 @@ returns-4 c =
     let F = c .before .before .before .before .before .fill-starts in
     let b = c .before .bodies-whole in
     let S = held (c .before .before .before .before .before .before .before .before .counts-right .ensures) (c .before .before .before .before .before .before .before .if3 .left) in
-    let R : Right (now (c .before .before .before .before .before .before .before .before .before .before .before .input-ranks .result)) (c .before .before .before .before .before .before .before .before .before .before .before .before .before .before .before .args .n) (now (c .before .before .before .before .before .before .before .before .before .before .before .before .before .before .before .args .counts)) (now (c .before .before .before .before .before .before .before .before .before .before .before .before .before .before .before .args .marks)) = record { symbols = few-symbols (c .before .before .before .before .before .before .before .before .before .before .before .before .before .before .before .pre) (c .before .before .before .before .before .before .before .before .before .before .before .input-ranks .ensures); states = c .before .before .before .before .before .before .before .before .before .before .if1 .left; long = c .before .before .before .before .before .before .before .before .before .if2 .left; sums = S } in
+    let R : Right (now (c .before .before .before .before .before .before .before .before .before .before .before .input-ranks .result)) (c .before .before .before .before .before .before .before .before .before .before .before .before .before .before .before .args .n) (now (c .before .before .before .before .before .before .before .before .before .before .before .before .before .before .before .args .counts)) (now (c .before .before .before .before .before .before .before .before .before .before .before .before .before .before .before .args .marks)) = record { symbols = few-symbols (c .before .before .before .before .before .before .before .before .before .before .before .before .before .before .before .pre) (c .before .before .before .before .before .before .before .before .before .before .before .input-ranks .ensures); states = omega (arith, c .before .before .before .before .before .before .before .before .before .before .if1 .left); long = c .before .before .before .before .before .before .before .before .before .if2 .left; sums = S } in
     let l = F .kept .1 .1 .0 ∙ length-replicate {A = ℕ} 2050 0 in
     wrong-body (c .before .before .before .before .before .before .before .before .before .before .before .before .before .before .before .pre) (c .before .before .before .before .before .before .before .before .before .before .before .input-ranks .ensures) R (c .before .before .before .output-ranks .ensures) (λ W. refuted (b .ensures) (c .if4 .taken) (from-offsets (F .last .1 .1 .0) R (F .ensures .0) l (now (c .before .before .before .output-ranks .result)) W))
 
@@ -71,7 +72,7 @@ returns-5 c =
     let F = c .before .before .before .before .before .fill-starts in
     let b = c .before .bodies-whole in
     let S = held (c .before .before .before .before .before .before .before .before .counts-right .ensures) (c .before .before .before .before .before .before .before .if3 .left) in
-    let R : Right (now (c .before .before .before .before .before .before .before .before .before .before .before .input-ranks .result)) (c .before .before .before .before .before .before .before .before .before .before .before .before .before .before .before .args .n) (now (c .before .before .before .before .before .before .before .before .before .before .before .before .before .before .before .args .counts)) (now (c .before .before .before .before .before .before .before .before .before .before .before .before .before .before .before .args .marks)) = record { symbols = few-symbols (c .before .before .before .before .before .before .before .before .before .before .before .before .before .before .before .pre) (c .before .before .before .before .before .before .before .before .before .before .before .input-ranks .ensures); states = c .before .before .before .before .before .before .before .before .before .before .if1 .left; long = c .before .before .before .before .before .before .before .before .before .if2 .left; sums = S } in
+    let R : Right (now (c .before .before .before .before .before .before .before .before .before .before .before .input-ranks .result)) (c .before .before .before .before .before .before .before .before .before .before .before .before .before .before .before .args .n) (now (c .before .before .before .before .before .before .before .before .before .before .before .before .before .before .before .args .counts)) (now (c .before .before .before .before .before .before .before .before .before .before .before .before .before .before .before .args .marks)) = record { symbols = few-symbols (c .before .before .before .before .before .before .before .before .before .before .before .before .before .before .before .pre) (c .before .before .before .before .before .before .before .before .before .before .before .input-ranks .ensures); states = omega (arith, c .before .before .before .before .before .before .before .before .before .before .if1 .left); long = c .before .before .before .before .before .before .before .before .before .if2 .left; sums = S } in
     let l = F .kept .1 .1 .0 ∙ length-replicate {A = ℕ} 2050 0 in
     all-right (c .before .before .before .before .before .before .before .before .before .before .before .before .before .before .before .pre) (c .before .before .before .before .before .before .before .before .before .before .before .input-ranks .ensures) R (c .before .before .before .output-ranks .ensures) (to-offsets (F .last .1 .1 .0) R (F .ensures .0) l (now (c .before .before .before .output-ranks .result)) (held (b .ensures) (c .if4 .left)))
 
