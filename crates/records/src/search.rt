@@ -3,28 +3,11 @@ ghost use Prim.Native.Nat.{_+_, _-_, _≤_};
 ghost use mathlib.Core.List.{List};
 ghost use mathlib.Core.Path.{_≡_};
 ghost use lib.ListN.{length, take, drop};
-ghost use Rattle.trees.specs.Refusal.{Decides};
 ghost use Rattle.records.specs.Book.{recordAt};
 ghost use Rattle.records.specs.Inner.Steps.{Finds};
 ghost use Rattle.records.specs.declared.book.Record.{Record as Records};
 use crate::book::Record;
-
-// Whether two runs of bytes are equal.
-fn same_bytes(a: &[u8], b: &[u8]) -> bool
-    ensures { λ r. ⌜ Decides (now (a .entry) ≡ now (b .entry)) r ⌝ }
-{
-    if a.len() != b.len() {
-        return false;
-    }
-    let mut i = 0;
-    while i < a.len() {
-        if a[i] != b[i] {
-            return false;
-        }
-        i += 1;
-    }
-    true
-}
+use trees::bytes::same_bytes;
 
 // The body that a record tells, as a part of the area.
 pub(crate) fn body_of(r: Record, area: &[u8]) -> &[u8]

@@ -9,7 +9,7 @@ use lib.ListN.{length, getD, drop, set, length-append, drop-of-length-le}
 use lib.Seq.{length-sets, drop-cons}
 use Rattle.trees.specs.Refusal as refusals
 use Rattle.trees.specs.declared.refusal.Refusal.{Refusal}
-use Rattle.trees.specs.declared.refusal.Refusal.the-variants.{ShortArea, BadAlphabets, BadTree, BadContents, BadBody, LongOutput, OverLimits, FullRegistry, BadRegistry}
+use Rattle.trees.specs.declared.refusal.Refusal.the-variants.{ShortArea, BadAlphabets, BadTree, BadContents, BadBody, LongOutput, OverLimits, FullRegistry, BadRegistry, OtherAlphabet, JoinOverLimits}
 use Rattle.formats.proofs.Writing.{Writing, sets-append, begin, room-word, word-more, finish}
 use Rattle.report.specs.Inner.Writing.{Wrote}
 use Rattle.report.specs.Text.{numberText, rest, separated, differWord, atWord, sizesLine, placeText, symbolText, differLine}
@@ -123,8 +123,8 @@ module _ (word : List ℕ) (states marks : ℕ) where
   pub sizes-written : {t₀ t₁ t₂ t₃ t₄ t₅ : List ℕ} {p₀ p₁ p₂ p₃ p₄ p₅ : ℕ} → Wrote t₀ t₁ p₀ p₁ word → Wrote t₁ t₂ p₁ p₂ (numberText states) → Wrote t₂ t₃ p₂ p₃ (32 ∷ []) → Wrote t₃ t₄ p₃ p₄ (numberText marks) → Wrote t₄ t₅ p₄ p₅ (10 ∷ []) → Wrote t₀ t₅ p₀ p₅ (sizesLine word states marks)
   sizes-written A B C D E = then (then (then A B) (then C D)) E
 
--- ---- the line of a refusal: its number has one digit
-pub refusal-low : (r : Refusal) → refusals.refusalNumber r < 10
+-- ---- the line of a refusal: its number has at most two digits
+pub refusal-low : (r : Refusal) → refusals.refusalNumber r < 100
 refusal-low ShortArea = omega arith
 refusal-low BadAlphabets = omega arith
 refusal-low BadTree = omega arith
@@ -134,6 +134,8 @@ refusal-low LongOutput = omega arith
 refusal-low OverLimits = omega arith
 refusal-low FullRegistry = omega arith
 refusal-low BadRegistry = omega arith
+refusal-low OtherAlphabet = omega arith
+refusal-low JoinOverLimits = omega arith
 
 -- ---- the line of a difference
 module _ (tree v : List ℕ) (b b′ : ℕ) where

@@ -76,7 +76,7 @@ pub(crate) fn write_symbol(text: &mut [u8], at: usize, k: usize) -> usize
 
 // The line of a refusal.
 pub(crate) fn write_refused(text: &mut [u8], r: Refusal) -> usize
-    requires { ⌜ 10 ≤ length (now text) ⌝ }
+    requires { ⌜ 11 ≤ length (now text) ⌝ }
     ensures { λ n. ⌜ Wrote (now (text .entry)) (now (text .exit)) 0 n (refusedLine (refusals.refusalNumber r)) ⌝ }
 {
     let a = write_word(text, 0, b"refused ");

@@ -14,6 +14,7 @@ use Rattle.theory.specs.Equivalent.{Equivalent}
 use Rattle.theory.specs.Grammar.{Grammar}
 use Rattle.theory.specs.Inner.Closed.{Listed, Closed}
 use Rattle.theory.specs.Inner.Follows.{Follows}
+use Rattle.theory.specs.Inner.PairCodes.{pairCode, pairName}
 use Rattle.theory.specs.Listing.{Indexes, listed}
 use Rattle.theory.specs.NormalForm.{Identical}
 use Rattle.theory.specs.Numbered.{Numbered}
@@ -186,13 +187,6 @@ module _ {Q : Type 0} {G : Grammar} {M : Transducer Q} {Valid : Q → Type 0} (W
 
   pub coded-follows-states : {N : Transducer ℕ} {k p : ℕ} {L : List ℕ} → ReadStates G (coded M code name) p L → p ≤ length L → Accessible G M N k → Follows G (coded M code name) L N k
   coded-follows-states = follows-states coded-wf name coded-maps coded-sort coded-inj
-
--- a pair of numbers as one, where the second is below m
-unfoldable pub pairCode : ℕ → ℕ × ℕ → ℕ
-pairCode m s = s .0 * m + s .1
-
-unfoldable pub pairName : ℕ → ℕ → ℕ × ℕ
-pairName m c = (c / m, c % m)
 
 -- the pair is found again
 pub pair-back : (m : ℕ) (s : ℕ × ℕ) → s .1 < m → pairName m (pairCode m s) ≡ s

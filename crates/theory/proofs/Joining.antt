@@ -1,6 +1,7 @@
 -- Joined transducers: what the first gives is allowed for the second; the pairs that are met; joining three either way.
 use Prim.Native.Nat.{ℕ, suc, _<_, _≤_}
 use native.Mathlib.Decide.{ℕ-discrete}
+use native.Mathlib.Omega.{arith}
 use mathlib.Core.Path.{_≡_, refl, ap, sym, _∙_}
 use mathlib.Core.HLevel.{×-discrete}
 use mathlib.Core.List.{List}
@@ -12,6 +13,7 @@ use Rattle.theory.specs.Discovered.{ReadRhs, ReadStates, Discovered}
 use Rattle.theory.specs.Equivalent.{Equivalent}
 use Rattle.theory.specs.Grammar.{Grammar, Allowed, rule, AllAllowed, end, next}
 use Rattle.theory.specs.Inner.Follows.{Follows}
+use Rattle.theory.specs.Inner.PairCodes.{pairCode, pairName}
 use Rattle.theory.specs.Joined.{OutputsIn, Joined}
 use Rattle.theory.specs.Listing.{Indexes, listed}
 use Rattle.theory.specs.NormalForm.{Identical}
@@ -20,7 +22,7 @@ use Rattle.theory.specs.Term.{Term, Terms, Tree, bind, binds, mapT}
 use Rattle.theory.specs.Transducer.{Transducer, output, translate, run, runs, pick, renamed}
 use Rattle.theory.specs.Vars.{AllVars, one, each, EachVars, done, both}
 use Rattle.theory.specs.Wf.{Wf, Fits, nth}
-use Rattle.theory.proofs.Accessibility.{accessible-initial, accessible-rhs, accessible-equivalent, accessible-wf, accessible-same, coded-accessible, coded-follows-stage, coded-follows-states, pairCode, pairName, pair-back}
+use Rattle.theory.proofs.Accessibility.{accessible-initial, accessible-rhs, accessible-equivalent, accessible-wf, accessible-same, coded-accessible, coded-follows-stage, coded-follows-states, pair-back}
 use Rattle.theory.proofs.Composition.{compose-translate, compose-wf}
 use Rattle.theory.proofs.Listings.{all-both}
 use Rattle.theory.proofs.Morphism.{Maps, renamed-id}
@@ -137,18 +139,18 @@ module _ {G H : Grammar} {M M′ N N′ : Transducer ℕ} {n m : ℕ} {out : ℕ
   unfolding compose
   joined-same A = accessible-same (pairs-wf W O W′) same-maps (λ s v. sym (i .sort (s .0) (v .0))) A
 
--- What a program that lists the pairs makes: the pair of q and p has the number q·m + p while it is listed.
-module _ {G H : Grammar} {M N : Transducer ℕ} {n m : ℕ} {out : ℕ → ℕ} (W : Wf G M (λ q. q < n)) (W′ : Wf H N (λ p. p < m)) (O : OutputsIn G H M (λ q. q < n) out) where
-  back : (s : ℕ × ℕ) → Pairs W O W′ s → pairName m (pairCode m s) ≡ s
-  back s v = pair-back m s (v .1)
+-- What a program that lists the pairs makes: the pair of q and p has the number q·b + p while it is listed, where the second transducer has at most b states.
+module _ {G H : Grammar} {M N : Transducer ℕ} {n m : ℕ} {out : ℕ → ℕ} (W : Wf G M (λ q. q < n)) (W′ : Wf H N (λ p. p < m)) (O : OutputsIn G H M (λ q. q < n) out) {b : ℕ} (few : m ≤ b) where
+  back : (s : ℕ × ℕ) → Pairs W O W′ s → pairName b (pairCode b s) ≡ s
+  back s v = pair-back b s (omega (arith, v .1))
 
   -- It is the joined transducer.
-  pub joined-by : {L : List ℕ} {idx : ℕ → ℕ} {J : Transducer ℕ} {k : ℕ} → Discovered G (coded (compose M N) (pairCode m) (pairName m)) L → Indexes L idx → Identical G J (listed (coded (compose M N) (pairCode m) (pairName m)) L idx) k (length L) → Joined G M N J k
-  joined-by d I i = coded-accessible (pairs-wf W O W′) (pairCode m) (pairName m) back (×-discrete ℕ-discrete ℕ-discrete) d I i
+  pub joined-by : {L : List ℕ} {idx : ℕ → ℕ} {J : Transducer ℕ} {k : ℕ} → Discovered G (coded (compose M N) (pairCode b) (pairName b)) L → Indexes L idx → Identical G J (listed (coded (compose M N) (pairCode b) (pairName b)) L idx) k (length L) → Joined G M N J k
+  joined-by d I i = coded-accessible (pairs-wf W O W′) (pairCode b) (pairName b) back (×-discrete ℕ-discrete ℕ-discrete) d I i
 
   -- The joined transducer follows what has been listed so far.
-  pub joined-follows-stage : {J : Transducer ℕ} {k p a c : ℕ} {L L′ : List ℕ} → ReadStates G (coded (compose M N) (pairCode m) (pairName m)) p L → getElem? L p ≡ some c → ReadRhs G (coded (compose M N) (pairCode m) (pairName m)) c L a L′ → a ≤ G .symbols → Joined G M N J k → Follows G (coded (compose M N) (pairCode m) (pairName m)) L′ J k
-  joined-follows-stage s e r l A = coded-follows-stage (pairs-wf W O W′) (pairCode m) (pairName m) back s e r l A
+  pub joined-follows-stage : {J : Transducer ℕ} {k p a c : ℕ} {L L′ : List ℕ} → ReadStates G (coded (compose M N) (pairCode b) (pairName b)) p L → getElem? L p ≡ some c → ReadRhs G (coded (compose M N) (pairCode b) (pairName b)) c L a L′ → a ≤ G .symbols → Joined G M N J k → Follows G (coded (compose M N) (pairCode b) (pairName b)) L′ J k
+  joined-follows-stage s e r l A = coded-follows-stage (pairs-wf W O W′) (pairCode b) (pairName b) back s e r l A
 
-  pub joined-follows-states : {J : Transducer ℕ} {k p : ℕ} {L : List ℕ} → ReadStates G (coded (compose M N) (pairCode m) (pairName m)) p L → p ≤ length L → Joined G M N J k → Follows G (coded (compose M N) (pairCode m) (pairName m)) L J k
-  joined-follows-states s l A = coded-follows-states (pairs-wf W O W′) (pairCode m) (pairName m) back s l A
+  pub joined-follows-states : {J : Transducer ℕ} {k p : ℕ} {L : List ℕ} → ReadStates G (coded (compose M N) (pairCode b) (pairName b)) p L → p ≤ length L → Joined G M N J k → Follows G (coded (compose M N) (pairCode b) (pairName b)) L J k
+  joined-follows-states s l A = coded-follows-states (pairs-wf W O W′) (pairCode b) (pairName b) back s l A

@@ -12,3 +12,4 @@ pub mod Keeps
 pub mod Closed
 pub mod Graft
 pub mod Forests
+pub mod PairCodes

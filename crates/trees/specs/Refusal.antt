@@ -5,9 +5,9 @@ use mathlib.Core.List.{List, []}
 use mathlib.Core.Logic.{_⊎_}
 use mathlib.Core.Path.{_≡_}
 use Rattle.trees.specs.declared.refusal.Refusal.{Refusal}
-use Rattle.trees.specs.declared.refusal.Refusal.the-variants.{ShortArea, BadAlphabets, BadTree, BadContents, BadBody, LongOutput, OverLimits, FullRegistry, BadRegistry}
+use Rattle.trees.specs.declared.refusal.Refusal.the-variants.{ShortArea, BadAlphabets, BadTree, BadContents, BadBody, LongOutput, OverLimits, FullRegistry, BadRegistry, OtherAlphabet, JoinOverLimits}
 
--- the table of document 01
+-- the table of document 01, and the numbers that 02 adds
 abbrev pub refusalNumber : Refusal → ℕ
 refusalNumber ShortArea = 1
 refusalNumber BadAlphabets = 2
@@ -18,6 +18,8 @@ refusalNumber LongOutput = 6
 refusalNumber OverLimits = 7
 refusalNumber FullRegistry = 8
 refusalNumber BadRegistry = 9
+refusalNumber OtherAlphabet = 16
+refusalNumber JoinOverLimits = 17
 
 -- what an entry point answers, in the terms of document 01: its values, or the number of the refusal
 pub data Outcome (A : Type 0) : Type 0 where

@@ -1,4 +1,4 @@
-// Why an input is refused: document 01's table. `number` of specs/Refusal.antt gives the paper's number of each.
+// Why an input is refused: the table of document 01, and the numbers that 02 adds. `refusalNumber` of specs/Refusal.antt gives the number of each.
 ghost use mathlib.Core.Path.{_≡_};
 ghost use Rattle.trees.specs.Refusal.{refusalNumber};
 
@@ -12,6 +12,8 @@ pub enum Refusal {
     OverLimits,
     FullRegistry,
     BadRegistry,
+    OtherAlphabet,
+    JoinOverLimits,
 }
 
 // The number of a refusal in that table.
@@ -28,5 +30,7 @@ pub fn number_of(r: Refusal) -> u32
         Refusal::OverLimits => 7,
         Refusal::FullRegistry => 8,
         Refusal::BadRegistry => 9,
+        Refusal::OtherAlphabet => 16,
+        Refusal::JoinOverLimits => 17,
     }
 }

@@ -3,7 +3,7 @@ use Prim.Native.Nat.{_<_}
 use native.Mathlib.Omega.{arith}
 use mathlib.Core.Path.{ap}
 use Rattle.report.specs.Text.{numberText}
-use Rattle.report.proofs.Decimals.{number-one}
+use Rattle.report.proofs.Decimals.{number-two}
 use Rattle.report.proofs.Pieces.{then, wrote-as, refusal-low}
 use borrow.Author.Needs.{needs}
 use Rattle.report.proofs.text.write_refused.Statement.{statement}
@@ -24,8 +24,8 @@ cast-write-number c = search needs
 write-number-requires : tie.Need-write-number-requires
 write-number-requires c κs =
     let k = c .number-of .result in
-    let l : k < 10 = omega (arith, c .number-of .ensures, refusal-low (c .before .before .before .before .before .before .before .before .args .r)) in
-    (omega arith, omega (arith, number-one k l, c .before .before .before .before .before .before .before .before .pre))
+    let l : k < 100 = omega (arith, c .number-of .ensures, refusal-low (c .before .before .before .before .before .before .before .before .args .r)) in
+    (omega arith, omega (arith, number-two k l, c .before .before .before .before .before .before .before .before .pre))
 
 slice-aggregate-write-word-2 : tie.Need-slice-aggregate-write-word-2
 slice-aggregate-write-word-2 c = search needs
@@ -33,8 +33,8 @@ slice-aggregate-write-word-2 c = search needs
 write-word-requires-2 : tie.Need-write-word-requires-2
 write-word-requires-2 c κs =
     let k = c .before .before .before .before .before .number-of .result in
-    let l : k < 10 = omega (arith, c .before .before .before .before .before .number-of .ensures, refusal-low (c .before .before .before .before .before .before .before .before .before .before .before .before .before .args .r)) in
-    omega (arith, number-one k l, c .before .before .before .before .before .before .before .before .before .before .before .before .before .pre)
+    let l : k < 100 = omega (arith, c .before .before .before .before .before .number-of .ensures, refusal-low (c .before .before .before .before .before .before .before .before .before .before .before .before .before .args .r)) in
+    omega (arith, number-two k l, c .before .before .before .before .before .before .before .before .before .before .before .before .before .pre)
 
 same-length : tie.Need-same-length
 same-length c = search needs

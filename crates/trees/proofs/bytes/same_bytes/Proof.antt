@@ -6,9 +6,9 @@ use borrow.Author.Count.{below-more}
 use lib.ListN.{length, getD}
 use lib.Seq.{ext-getD}
 use denote.Ref.{now}
 use Rattle.trees.proofs.Deciding.{decides-no, decides-yes}
-use Rattle.records.proofs.search.same_bytes.Statement.{statement}
-use Rattle.records.proofs.search.same_bytes.Tie as tie
+use Rattle.trees.proofs.bytes.same_bytes.Statement.{statement}
+use Rattle.trees.proofs.bytes.same_bytes.Tie as tie
 
 abbrev Inv-loop : tie.InvT-loop
 Inv-loop a b i₀ i = (i ≤ length a) × (length a ≡ length b) × ((k : ℕ) → k < i → getD a k 0 ≡ getD b k 0)

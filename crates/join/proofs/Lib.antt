@@ -1,0 +1,1 @@
+-- Laws of joining two transducers.
