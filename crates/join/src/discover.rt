@@ -31,7 +31,7 @@ fn join_rhs(
     a: usize,
     letters: &mut [u32; 64],
 ) -> usize
-    requires { ⌜ IsPair (now first) (now second) (now starts1) (now marks1) (now starts2) (now marks2) c × (a < length (inputs (now first))) ⌝ }
+    requires { ⌜ IsPair (now first) (now second) (now starts1) (now marks1) (now starts2) (now marks2) c × (a < length (inputs (now first))) × (length (now letters) ≡ 64) ⌝ }
     ensures { λ r. ⌜ Wrote (spelt (product (now (first .entry)) (now (second .entry)) (now (starts1 .entry)) (now (marks1 .entry)) (now (starts2 .entry)) (now (marks2 .entry)) .rhs c a)) 0 64 (now (letters .entry)) (now (letters .exit)) r ⌝ }
 {
     let b = body_of(first, c / PAIR, a);
@@ -63,7 +63,7 @@ fn join_initial(
     marks2: &[u8],
     letters: &mut [u32; 64],
 ) -> usize
-    requires { ⌜ Tables (now first) (now second) (now starts1) (now marks1) (now starts2) (now marks2) ⌝ }
+    requires { ⌜ Tables (now first) (now second) (now starts1) (now marks1) (now starts2) (now marks2) × (length (now letters) ≡ 64) ⌝ }
     ensures { λ r. ⌜ Wrote (spelt (product (now (first .entry)) (now (second .entry)) (now (starts1 .entry)) (now (marks1 .entry)) (now (starts2 .entry)) (now (marks2 .entry)) .initial)) 0 64 (now (letters .entry)) (now (letters .exit)) r ⌝ }
 {
     let from = 2 * number(starts1[0]);

@@ -36,7 +36,7 @@ fn children(stock: &[u8], i: u8, x: u8) -> usize
 
 // Notes where the term at each mark of the body `s` ends: from the last mark to the first, each behind its children.
 pub(crate) fn note_ends(stock: &[u8], s: &[u8], ends: &mut [u16; 64])
-    requires { ⌜ Alphabets (now stock) × IsBody (inputs (now stock)) (now s) ⌝ }
+    requires { ⌜ Alphabets (now stock) × IsBody (inputs (now stock)) (now s) × (length (now ends) ≡ 64) ⌝ }
     ensures { λ _. ⌜ Ended (inputs (now (stock .entry))) (now (s .entry)) (now (ends .exit)) ⌝ }
 {
     let mut k = s.len() / 2;
@@ -48,7 +48,7 @@ pub(crate) fn note_ends(stock: &[u8], s: &[u8], ends: &mut [u16; 64])
 
 // Writes one letter at `at`, where there is room for it.
 fn put(letters: &mut [u32; 64], at: usize, x: usize)
-    requires { ⌜ x < 2 ^ 32 ⌝ }
+    requires { ⌜ (length (now letters) ≤ 64) × (x < 2 ^ 32) ⌝ }
     ensures { λ _. ⌜ now (letters .exit) ≡ set (now (letters .entry)) at x ⌝ }
 {
     if at < 64 {

@@ -1,0 +1,128 @@
+-- The second transducer after the first, with a number for each pair of their states: its right-hand sides are over the inputs of the first and the outputs of the second, and call pairs.
+-- Assumes nothing.
+use Prim.Native.Nat.{ℕ, suc, _+_, _*_, _/_, _%_, _≤_, _<_}
+use native.Mathlib.Omega.{arith}
+use mathlib.Core.List.{List}
+use mathlib.Core.Option.{some}
+use mathlib.Core.Path.{refl, sym, ap, _∙_}
+use lib.ListN.{length, getD, replicate}
+use Rattle.theory.specs.Accessible.{coded}
+use Rattle.theory.specs.Compose.{assoc, compose}
+use Rattle.theory.specs.Inner.PairCodes.{pairCode, pairName}
+use Rattle.theory.specs.Joined.{OutputsIn}
+use Rattle.theory.specs.OpenTrees.{AllowedOpen, blank, rule-open, AllAllowedOpen, end-open, next-open}
+use Rattle.theory.specs.Term.{Term, var, node, Terms, none, more, mapT, count}
+use Rattle.theory.specs.Transducer.{Transducer, run, runs, pick, renamed}
+use Rattle.theory.specs.Wf.{Wf}
+use Rattle.theory.proofs.Terms.{bind-bind}
+use Rattle.trees.specs.Alphabets.{Leaf, inputs, outputs}
+use Rattle.trees.specs.Code.{Ranked, AllRanked, Call}
+use Rattle.formats.specs.Inner.Layout.{transducer}
+use Rattle.formats.specs.Sheet.{OverAlphabets}
+use Rattle.forms.specs.Alphabet.{alphabet, children-inside, children-of}
+use Rattle.discovery.specs.Inner.Discovering.{ValidCall, ByNumbers}
+use Rattle.discovery.proofs.Ranks.{ranked-bind}
+use Rattle.join.specs.Inner.Pairs.{product, Pair, Tables}
+use Rattle.join.specs.Inner.Walked.{paired, tabled}
+use Rattle.join.proofs.Wider.{tabled-over, tabled-wf}
+
+-- ---- the outputs of a transducer over two alphabets are trees over the second
+module _ {A : Type 0} (P : A → Type 0) (ins : List ℕ) (l : Leaf ins) where
+  mutual
+    unfolding Ranked alphabet count
+
+    pub ranked-open : (t : Term A) → Ranked P ins t → AllowedOpen (alphabet ins l) (λ e. 0) 0 t
+    ranked-open (var x) c = blank refl
+    ranked-open (node k ts) c = rule-open (children-of ins k (c .0) ∙ ap (λ r. some (replicate r 0)) (sym (c .1))) (ranked-opens ts (c .2))
+
+    ranked-opens : (ts : Terms A) → AllRanked P ins ts → AllAllowedOpen (alphabet ins l) (λ e. 0) (replicate (count ts) 0) ts
+    ranked-opens none c = end-open
+    ranked-opens (more t ts) c = next-open (ranked-open t (c .0)) (ranked-opens ts (c .1))
+
+pub over-outputs : {ins mids : List ℕ} {n : ℕ} {M : Transducer ℕ} → OverAlphabets ins mids n M → (l : Leaf ins) (l′ : Leaf mids) → OutputsIn (alphabet ins l) (alphabet mids l′) M (λ q. q < n) (λ q. 0)
+unfolding alphabet
+over-outputs {ins} {mids} {n} {M} O l l′ = record {
+  initial = ranked-open (Call n 1) mids l′ (M .initial) (O .initial);
+  rhs = λ q a h k. ranked-open (Call n (getD ins a 0)) mids l′ (M .rhs q a) (O .rhs q a h (children-inside ins a k .0));
+}
+
+-- ---- runs on ranked terms
+module _ {A : Type 0} (P : A → Type 0) {mids outs : List ℕ} {m : ℕ} {N : Transducer ℕ} (O : OverAlphabets mids outs m N) where
+  mutual
+    unfolding Ranked run runs pick count
+
+    -- what a state gives on a term over the inputs is over the outputs; a variable of it is one of the term's, met by a state
+    pub run-ranked : (t : Term A) → Ranked P mids t → (p : ℕ) → p < m → Ranked (λ e. P (e .0) × (e .1 < m)) outs (run N t p)
+    run-ranked (var x) c p h = (c, h)
+    run-ranked (node a ds) c p h =
+        ranked-bind (Call m (getD mids a 0)) outs (λ e. P (e .0) × (e .1 < m)) (λ e. pick (runs N ds) (e .0) (e .1))
+        (λ e k. picks-ranked ds (c .2) (e .0) (e .1) (k .from-one) (omega (arith, k .child, c .1)) (k .state)) (N .rhs p a) (O .rhs p a h (c .0))
+
+    picks-ranked : (ds : Terms A) → AllRanked P mids ds → (i p : ℕ) → 1 ≤ i → i ≤ count ds → p < m → Ranked (λ e. P (e .0) × (e .1 < m)) outs (pick (runs N ds) i p)
+    picks-ranked none c i p f g h = absurd (omega arith)
+    picks-ranked (more d ds) c ℕ.zero p f g h = absurd (omega arith)
+    picks-ranked (more d ds) c (suc ℕ.zero) p f g h = run-ranked d (c .0) p h
+    picks-ranked (more d ds) c (suc (suc i)) p f g h = picks-ranked ds (c .1) (suc i) p (omega arith) (omega arith) h
+
+-- ---- pairs by their numbers
+-- the calls that state p meets are calls of pairs
+module _ (n : ℕ) {m : ℕ} (few : m ≤ 128) where
+  pair-valid : {q p : ℕ} → q < n → p < m → Pair n m (q * 128 + p)
+  pair-valid h g = record { first = omega arith; second = omega arith }
+
+  pub paired-ranked : (outs : List ℕ) (r : ℕ) (t : Term ((ℕ × ℕ) × ℕ)) → Ranked (λ e. Call n r (e .0) × (e .1 < m)) outs t → Ranked (ValidCall (Pair n m) r) outs (paired t)
+  unfolding Ranked renamed mapT assoc pairCode
+  paired-ranked outs r t c =
+      ranked-bind (ValidCall′ r) outs (ValidCall (Pair n m) r) (λ e. var (e .0, e .1 .0 * 128 + e .1 .1)) (λ e k. record { from-one = k .0 .from-one; child = k .0 .child; state = pair-valid (k .0 .state) (k .1) }) (mapT assoc t)
+      (ranked-bind (λ e. Call n r (e .0) × (e .1 < m)) outs (ValidCall′ r) (λ e. var (assoc e)) (λ e k. k) t c)
+    where
+      ValidCall′ : ℕ → ℕ × (ℕ × ℕ) → Type 0
+      ValidCall′ r e = Call n r (e .0, e .1 .0) × (e .1 .1 < m)
+
+module _ {stock stock′ starts bytes starts′ bytes′ : List ℕ} (T : Tables stock stock′ starts bytes starts′ bytes′) where
+  -- the two transducers are over their alphabets, and well-formed; what the first gives is read by the second
+  pub first-over : OverAlphabets (inputs stock) (inputs stock′) (T .first .states) (tabled (inputs stock) (inputs stock′) starts bytes)
+  first-over = tabled-over (T .first .layout)
+
+  pub second-over : OverAlphabets (inputs stock′) (outputs stock′) (T .second .states) (tabled (inputs stock′) (outputs stock′) starts′ bytes′)
+  second-over = tabled-over (T .second .layout)
+
+  pub first-wf : (l : Leaf (inputs stock)) → Wf (alphabet (inputs stock) l) (tabled (inputs stock) (inputs stock′) starts bytes) (λ q. q < T .first .states)
+  first-wf = tabled-wf (T .first .layout)
+
+  pub second-wf : (l′ : Leaf (inputs stock′)) → Wf (alphabet (inputs stock′) l′) (tabled (inputs stock′) (outputs stock′) starts′ bytes′) (λ p. p < T .second .states)
+  second-wf = tabled-wf (T .second .layout)
+
+  pub first-outputs : (l : Leaf (inputs stock)) (l′ : Leaf (inputs stock′)) → OutputsIn (alphabet (inputs stock) l) (alphabet (inputs stock′) l′) (tabled (inputs stock) (inputs stock′) starts bytes) (λ q. q < T .first .states) (λ q. 0)
+  first-outputs = over-outputs first-over
+
+  -- the right-hand side of a pair is over the outputs of the second, and calls pairs
+  pair-rhs : (q p a : ℕ) → q < T .first .states → p < T .second .states → a < length (inputs stock)
+      → Ranked (ValidCall (Pair (T .first .states) (T .second .states)) (getD (inputs stock) a 0)) (outputs stock′) (paired (run (tabled (inputs stock′) (outputs stock′) starts′ bytes′) (tabled (inputs stock) (inputs stock′) starts bytes .rhs q a) p))
+  pair-rhs q p a h g k =
+      paired-ranked (T .first .states) (T .second .layout .few-states) (outputs stock′) (getD (inputs stock) a 0) _
+      (run-ranked (Call (T .first .states) (getD (inputs stock) a 0)) second-over _ (first-over .rhs q a h k) p g)
+
+  pair-initial : Ranked (ValidCall (Pair (T .first .states) (T .second .states)) 1) (outputs stock′) (product stock stock′ starts bytes starts′ bytes′ .initial)
+  unfolding product coded compose renamed mapT
+  pair-initial =
+      let N = tabled (inputs stock′) (outputs stock′) starts′ bytes′ in
+      let M = tabled (inputs stock) (inputs stock′) starts bytes in
+      rw (bind-bind {C = ℕ × ℕ} (N .initial) (λ e. mapT assoc (run N (M .initial) (e .1))) (λ e. var (e .0, pairCode 128 (e .1))))
+      (ranked-bind (Call (T .second .states) 1) (outputs stock′) (ValidCall (Pair (T .first .states) (T .second .states)) 1) (λ e. paired (run N (M .initial) (e .1)))
+      (λ e k. paired-ranked (T .first .states) (T .second .layout .few-states) (outputs stock′) 1 _ (run-ranked (Call (T .first .states) 1) second-over _ (first-over .initial) (e .1) (k .state)))
+      (N .initial) (second-over .initial))
+
+  -- its states are numbers below 16,384
+  pub by-numbers : ByNumbers (inputs stock) (outputs stock′) 16384 (product stock stock′ starts bytes starts′ bytes′) (Pair (T .first .states) (T .second .states))
+  unfolding product coded compose pairName transducer
+  by-numbers = record {
+    few-symbols = T .second .layout .few-symbols;
+    few-inputs = T .first .layout .few-inputs;
+    ranks = T .alphabets .ins .low;
+    narrow = omega arith;
+    small = λ c P. omega (arith, P .first, T .first .layout .few-states);
+    sort = λ c. refl;
+    initial = pair-initial;
+    rhs = λ c a P h. pair-rhs (c / 128) (c % 128) a (P .first) (P .second) h;
+  }
