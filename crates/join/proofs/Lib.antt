@@ -4,4 +4,5 @@ pub mod Places
 pub mod Marks
 pub mod Wider
 pub mod Numbers
+pub mod Walks
 pub mod Forming

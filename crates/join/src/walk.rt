@@ -70,7 +70,7 @@ pub(crate) fn apply(
     at: usize,
 ) -> usize
     requires { ⌜ Ready (now stock) (now starts) (now marks) (now s) (now ends) p k × Limits (length (now letters)) at 64 ⌝ }
-    ensures { λ r. ⌜ Wrote (applied (now (stock .entry)) (now (starts .entry)) (now (marks .entry)) (now (s .entry)) p k) at 64 (now (letters .entry)) (now (letters .exit)) r ⌝ }
+    ensures { λ r. ⌜ Wrote (applied (now (stock .entry)) (now (starts .entry)) (now (marks .entry)) (now (s .entry)) p k) at 64 (now (letters .entry)) (now (letters .exit)) r × (length (now (letters .exit)) ≡ length (now (letters .entry))) ⌝ }
 {
     let i = wide(s[2 * k]);
     let x = wide(s[2 * k + 1]);
@@ -98,7 +98,7 @@ pub(crate) fn walk(
     at: usize,
 ) -> usize
     requires { ⌜ Walkable (now stock) (now starts) (now marks) (now s) (now ends) from to below × Limits (length (now letters)) at 64 ⌝ }
-    ensures { λ r. ⌜ Wrote (walked (now (stock .entry)) (now (starts .entry)) (now (marks .entry)) (now (s .entry)) below from to) at 64 (now (letters .entry)) (now (letters .exit)) r ⌝ }
+    ensures { λ r. ⌜ Wrote (walked (now (stock .entry)) (now (starts .entry)) (now (marks .entry)) (now (s .entry)) below from to) at 64 (now (letters .entry)) (now (letters .exit)) r × (length (now (letters .exit)) ≡ length (now (letters .entry))) ⌝ }
 {
     let mut w = at;
     let mut j = from;
