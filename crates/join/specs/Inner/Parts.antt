@@ -2,7 +2,7 @@
 use Prim.Native.Nat.{ℕ, _≤_}
 use mathlib.Core.List.{List}
 use mathlib.Core.Path.{_≡_}
-use lib.ListN.{take}
+use lib.ListN.{length, take}
 use Rattle.theory.specs.Joined.{Joined}
 use Rattle.theory.specs.Transducer.{Transducer}
 use Rattle.trees.specs.Alphabets.{Leaf, Alphabets, inputs, outputs, stock as stockFile}
@@ -20,6 +20,7 @@ use Rattle.join.specs.Answers.{JoinedFile, joinCheck}
 -- the alphabets of the joined transducer, as a file of at most 82 bytes: the first r bytes of the area
 pub record StockJoined (stock stock′ area : List ℕ) (r : ℕ) : Type 0 where
   pub short : r ≤ 82
+  pub inside : r ≤ length area
   pub coded : take r area ≡ stockFile (inputs stock) (outputs stock′)
 
 -- the counts and the marks of two transducers, of which the second reads what the first gives

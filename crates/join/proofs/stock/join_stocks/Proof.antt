@@ -1,59 +1,47 @@
+-- `join_stocks` meets its contract: two counts and two lists are written, one behind the other. Assumes nothing.
+use native.Mathlib.Omega.{arith}
+use denote.Ref.{now}
+use lib.ListN.{length, length-set}
+use Rattle.join.proofs.Stocks.{inputs-few, outputs-few, stock-joined}
 use borrow.Author.Needs.{needs}
 use Rattle.join.proofs.stock.join_stocks.Statement.{statement}
 use Rattle.join.proofs.stock.join_stocks.Tie as tie
-use Rattle.join.proofs.stock.join_stocks.Reads as reads
-use Rattle.join.proofs.stock.join_stocks.Lts as lts
-use Rattle.formats.proofs.file.copy_at.Reads as copy-at-reads
-use Rattle.trees.proofs.alphabet.input_ranks.Reads as input-ranks-reads
-use Rattle.trees.proofs.alphabet.output_ranks.Reads as output-ranks-reads
 
--- src/stock.rt:13:9
 input-ranks-requires : tie.Need-input-ranks-requires
 input-ranks-requires c κs = search needs
 
--- src/stock.rt:14:9
 output-ranks-requires : tie.Need-output-ranks-requires
 output-ranks-requires c κs = search needs
 
--- src/stock.rt:15:14
 add-at : tie.Need-add-at
 add-at c = search needs
 
--- src/stock.rt:16:15
 cast-area : tie.Need-cast-area
-cast-area c = ?
+cast-area c = omega (arith, inputs-few (c .before .before .before .before .pre .0) (c .before .before .before .before .pre .1) (c .before .input-ranks .ensures) (c .output-ranks .ensures))
 
--- src/stock.rt:16:5
 element-write-area : tie.Need-element-write-area
 element-write-area c = search needs
 
--- src/stock.rt:17:5
 copy-at-requires : tie.Need-copy-at-requires
-copy-at-requires c κs = ?
+copy-at-requires c κs = omega (arith, inputs-few (c .before .before .before .before .before .pre .0) (c .before .before .before .before .before .pre .1) (c .before .before .input-ranks .ensures) (c .before .output-ranks .ensures), c .copy-at-arg .given)
 
--- src/stock.rt:18:20
 cast-area-2 : tie.Need-cast-area-2
-cast-area-2 c = ?
+cast-area-2 c = omega (arith, outputs-few (c .before .before .before .before .before .before .pre .0) (c .before .before .before .before .before .before .pre .1) (c .before .before .before .input-ranks .ensures) (c .before .before .output-ranks .ensures))
 
--- src/stock.rt:18:10
 sub-area : tie.Need-sub-area
 sub-area c = search needs
 
--- src/stock.rt:18:5
 element-write-area-2 : tie.Need-element-write-area-2
-element-write-area-2 c = ?
+element-write-area-2 c = omega (arith, inputs-few (c .before .before .before .before .before .before .pre .0) (c .before .before .before .before .before .before .pre .1) (c .before .before .before .input-ranks .ensures) (c .before .before .output-ranks .ensures))
 
--- src/stock.rt:19:5
 copy-at-requires-2 : tie.Need-copy-at-requires-2
-copy-at-requires-2 c κs = ?
+copy-at-requires-2 c κs = omega (arith, inputs-few (c .before .before .before .before .before .before .before .pre .0) (c .before .before .before .before .before .before .before .pre .1) (c .before .before .before .before .input-ranks .ensures) (c .before .before .before .output-ranks .ensures), outputs-few (c .before .before .before .before .before .before .before .pre .0) (c .before .before .before .before .before .before .before .pre .1) (c .before .before .before .before .input-ranks .ensures) (c .before .before .before .output-ranks .ensures), c .copy-at-arg2 .given)
 
--- src/stock.rt:20:5
 add-result : tie.Need-add-result
-add-result c = ?
+add-result c = omega (arith, inputs-few (c .before .before .before .before .before .before .before .before .pre .0) (c .before .before .before .before .before .before .before .before .pre .1) (c .before .before .before .before .before .input-ranks .ensures) (c .before .before .before .before .output-ranks .ensures), outputs-few (c .before .before .before .before .before .before .before .before .pre .0) (c .before .before .before .before .before .before .before .before .pre .1) (c .before .before .before .before .before .input-ranks .ensures) (c .before .before .before .before .output-ranks .ensures))
 
--- src/stock.rt:9:1
 returns : tie.Need-returns
-returns c = ?
+returns c = stock-joined (c .before .before .before .before .before .before .before .before .pre .0) (c .before .before .before .before .before .before .before .before .pre .1) (c .before .before .before .before .before .input-ranks .ensures) (c .before .before .before .before .output-ranks .ensures) (now (c .before .before .before .before .before .before .before .before .args .area)) (omega (arith, c .before .before .before .copy-at-arg .given, length-set (now (c .before .before .before .before .before .before .before .before .args .area)) 0 (length (now (c .before .before .before .before .before .input-ranks .result))))) (c .before .before .copy-at .ensures) (c .copy-at2 .ensures)
 
 pub join-stocks-spec : {M : Type 1} → statement M
 join-stocks-spec =
