@@ -1,17 +1,15 @@
 -- What the functions that lead to the joined file ask of each other, and what the entry point answers where a check fails.
 -- Assumes nothing.
 use Prim.Native.Nat.{ℕ, _-_, _≤_}
-use native.Mathlib.Omega.{arith}
 use mathlib.Core.Bool.{Bool}
 use mathlib.Core.List.{List}
 use mathlib.Core.Logic.{inl, inr}
-use mathlib.Core.Path.{_≡_, refl, ap, _∙_}
+use mathlib.Core.Path.{_≡_, refl}
 use lib.ListN.{length, take}
-use Rattle.trees.specs.Alphabets.{Alphabets, inputs, outputs, stock as stockFile}
+use Rattle.trees.specs.Alphabets.{Alphabets, inputs, outputs}
 use Rattle.trees.specs.Refusal.{Decides, Outcome, Checks, done, check, Holds, judged, Judged}
 use Rattle.trees.specs.declared.refusal.Refusal.{Refusal}
 use Rattle.trees.proofs.Judging.{pass, accepted-holds}
-use Rattle.trees.proofs.Stock.{stock-reads, stock-reads-outputs, stock-right}
 use Rattle.formats.specs.Answers.{ReadsFile}
 use Rattle.formats.specs.Inner.Layout.{bodyCount, Starts}
 use Rattle.formats.specs.Sheet.{longest, sheetCheck}
@@ -24,11 +22,10 @@ use Rattle.forms.specs.declared.write.FormSize.{FormSize}
 use Rattle.forms.specs.declared.write.FormSize.the-variants.{States}
 use Rattle.forms.specs.declared.write.Formed.{Formed}
 use Rattle.forms.specs.declared.write.Formed.the-variants.{Refused}
-use Rattle.forms.proofs.Filing.{found-writable}
 use Rattle.join.specs.Answers.{joinCheck}
 use Rattle.join.specs.Inner.Pairs.{product, Tables}
 use Rattle.join.specs.Inner.Parts.{StockJoined, Joinable, JoinsParts, JoinsFile, JoinsSheets}
-use Rattle.join.proofs.Forming.{tables-of, joins-parts, file-joined}
+use Rattle.join.proofs.Forming.{tables-of, joins-parts, stock-lent, file-writable, file-joined}
 
 -- ---- the parts of two transducers, with the starts of their bodies, as many as there are by the ranks that were read
 module _ {stock stock′ counts bytes counts′ bytes′ ins ins′ : List ℕ} {n m : ℕ} (J : Joinable stock stock′ n counts bytes m counts′ bytes′) (i : ins ≡ inputs stock) (i′ : ins′ ≡ inputs stock′) (starts starts′ : List ℕ)
@@ -42,24 +39,13 @@ module _ {stock stock′ counts bytes counts′ bytes′ ins ins′ : List ℕ} 
 -- ---- the file of what was found, under the alphabets that were written
 module _ {stock stock′ counts bytes counts′ bytes′ starts out area : List ℕ} {n m size k : ℕ} {found : FormSize} (J : Joinable stock stock′ n counts bytes m counts′ bytes′) (S : StockJoined stock stock′ area size)
     (P : JoinsParts stock stock′ n counts bytes m counts′ bytes′ starts out found) (e : found ≡ States k) where
-  same-size : size - 0 ≡ size
-  same-size = omega arith
-
-  stock-lent : take (size - 0) area ≡ stockFile (inputs stock) (outputs stock′)
-  stock-lent = ap (λ k. take k area) same-size ∙ S .coded
-
   -- it can be written
   pub found-writes : {before : List ℕ} → longest ≤ length before → FoundWritable (take (size - 0) area) (States k) starts out before
-  found-writes room =
-      rw stock-lent
-      (found-writable (stock-right (J .first .alphabets .ins) (J .second .alphabets .outs) (J .first .alphabets .leaf))
-      (λ k′ x. rw (stock-reads, stock-reads-outputs) (P .layout k′ (e ∙ x)))
-      (λ k′ x. rw stock-reads (P .packed k′ (e ∙ x)))
-      room)
+  found-writes room = file-writable P J e (stock-lent S) room
 
   -- and was
   pub found-joined : {before after : List ℕ} {r : Formed} → WritesFound (take (size - 0) area) (States k) starts out before after r → JoinsFile stock stock′ n counts bytes m counts′ bytes′ before after r
-  found-joined W = file-joined J P S e (rw same-size at W)
+  found-joined W = file-joined P J e (stock-lent S) W
 
 -- ---- two files
 -- a check that holds asks nothing

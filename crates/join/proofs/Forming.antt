@@ -12,18 +12,14 @@ use Rattle.theory.specs.Transducer.{Transducer}
 use Rattle.theory.proofs.Identity.{identical-sym, identical-trans, identical-wf}
 use Rattle.theory.proofs.Joining.{joined-by, joined-follows-stage, joined-follows-states, joined-same}
 use Rattle.trees.specs.Alphabets.{Leaf, Alphabets, inputs, outputs, stock as stockFile}
-use Rattle.trees.specs.Refusal.{Outcome, Checks, done, check, judged, Holds, Judged}
-use Rattle.trees.specs.declared.refusal.Refusal.{Refusal}
+use Rattle.trees.specs.Refusal.{done, check, judged, Holds, Judged}
 use Rattle.trees.specs.declared.refusal.Refusal.the-variants.{JoinOverLimits}
-use Rattle.trees.proofs.Judging.{refuse, pass, accept, accepted-holds, refused-early}
+use Rattle.trees.proofs.Judging.{refuse, pass, accept}
 use Rattle.trees.proofs.Stock.{stock-reads, stock-reads-outputs, stock-right}
-use Rattle.formats.specs.Answers.{ReadsFile}
 use Rattle.formats.specs.Inner.Layout.{bodyCount, Starts}
-use Rattle.formats.specs.Sheet.{longest, Encodes, sheetCheck}
-use Rattle.formats.specs.declared.file.FileRead.{FileRead}
-use Rattle.formats.specs.declared.file.FileRead.the-variants as reading
+use Rattle.formats.specs.Sheet.{longest, Encodes}
 use Rattle.formats.proofs.Sheets.{sheet-unique}
-use Rattle.transducer.proofs.Opening.{Opened, opened-sheet, opened-machine}
+use Rattle.transducer.proofs.Opening.{Opened, opened-sheet}
 use Rattle.transducer.proofs.Translating.{starts-fit}
 use Rattle.forms.specs.Alphabet.{alphabet}
 use Rattle.forms.specs.Answers.{formOf, FileOf}
@@ -66,10 +62,6 @@ module _ {stock stock′ starts bytes starts′ bytes′ : List ℕ} (T : Tables
       joined-by (first-wf T l) (second-wf T l′) (first-outputs T l l′) {b = 128} (T .second .layout .few-states) (m .met l) (m .indexes) (m .form l)
 
 -- ---- of the parts of two files
--- the starts of the bodies, by the ranks as they are lent
-pub starts-are : (counts from : List ℕ) {ins ins′ : List ℕ} (n : ℕ) → ins ≡ ins′ → Starts counts from (bodyCount ins n) → Starts counts from (bodyCount ins′ n)
-starts-are counts from n i S = rw i at S
-
 module _ {stock stock′ : List ℕ} {n : ℕ} {counts bytes : List ℕ} {m : ℕ} {counts′ bytes′ : List ℕ} (X : Joinable stock stock′ n counts bytes m counts′ bytes′)
     (starts starts′ : List ℕ) (S : Starts counts starts (bodyCount (inputs stock) n)) (S′ : Starts counts′ starts′ (bodyCount (inputs stock′) m)) (long : length starts ≡ 2050) (long′ : length starts′ ≡ 2050) where
   -- a transducer with the first parts, whose outputs are the inputs of the second
@@ -162,9 +154,6 @@ module _ {stock stock′ : List ℕ} {n : ℕ} {counts bytes : List ℕ} {m : �
 
 -- ---- of two files: what is answered of their parts is answered of them
 module _ {stock s ins counts bytes : List ℕ} {n : ℕ} (O : Opened stock s n ins counts bytes) {stock′ s′ ins′ counts′ bytes′ : List ℕ} {m : ℕ} (O′ : Opened stock′ s′ m ins′ counts′ bytes′) where
-  pub opened-joinable : outputs stock ≡ inputs stock′ → Joinable stock stock′ n counts bytes m counts′ bytes′
-  opened-joinable e = record { first = opened-machine O; second = opened-machine O′; fits = e }
-
   from-parts : {k : ℕ} {counts″ bytes″ : List ℕ} → JoinedOf stock stock′ n counts bytes m counts′ bytes′ k counts″ bytes″ → JoinedFile stock stock′ s s′ k counts″ bytes″
   from-parts K = record {
     alphabets = K .alphabets;
@@ -206,25 +195,3 @@ module _ {stock s ins counts bytes : List ℕ} {n : ℕ} (O : Opened stock s n i
       go r (inl (h, q, kept)) = start r (rw q (refuse (λ w. h (w .0, (w .1 .0, (w .1 .1 .0, to-parts (w .1 .1 .1))))) kept))
       go (Form k m s) (inr (R, (counts″, (bytes″, (P, f))))) = start (Form k m s) (pass (R .0, (R .1 .0, (R .1 .1 .0, from-parts (R .1 .1 .1)))) (accept (counts″, (bytes″, (from-parts P, f)))))
       go (Refused x) (inr (R, u)) = absurd u
-
--- ---- a file that is not read
--- a check that holds does not refuse
-held : {A Kept : Type 0} {Good : A → Type 0} {k : ℕ} {P : Type 0} {rest : Checks} {r : Outcome A} → P → Judged Kept Good (check k P rest) r → Judged Kept Good rest r
-unfolding judged
-held {A} {Kept} {Good} {k} {P} {rest} {r} p j = go (j .verdict)
-  where
-    go : judged Kept Good (check k P rest) r → Judged Kept Good rest r
-    go (inl (f, q, kept)) = absurd (f p)
-    go (inr (p, v)) = record { verdict = v }
-
-module _ {stock s stock′ s′ area : List ℕ} (A : Alphabets stock) where
-  -- the first
-  pub first-refused : {r : FileRead} {x : Refusal} → ReadsFile stock s r → r ≡ reading.Refused x → JoinsSheets stock stock′ s s′ area area (Refused x)
-  first-refused J e = refused-early (sheetCheck stock s done) (sheetCheck stock′ s′ (joinCheck stock stock′ s s′ done)) refl (held A (rw e at J))
-
-  -- the second
-  pub second-refused : {r r′ : FileRead} {n : ℕ} {x : Refusal} → ReadsFile stock s r → r ≡ reading.States n → Alphabets stock′ → ReadsFile stock′ s′ r′ → r′ ≡ reading.Refused x → JoinsSheets stock stock′ s s′ area area (Refused x)
-  unfolding Holds
-  second-refused J e A′ J′ e′ =
-      let w = accepted-holds (rw e at J) .0 .1 in
-      pass (w .0) (pass (w .1 .0) (refused-early (sheetCheck stock′ s′ done) (joinCheck stock stock′ s s′ done) refl (held A′ (rw e′ at J′))))

@@ -12,20 +12,20 @@ use Rattle.theory.specs.Inner.PairCodes.{pairCode, pairName}
 use Rattle.theory.specs.Term.{Term, Terms, var, bind, mapT, count}
 use Rattle.theory.specs.Transducer.{Transducer, run, runs, pick, renamed}
 use Rattle.trees.specs.Alphabets.{inputs, outputs}
-use Rattle.trees.specs.Code.{Mark, preorder}
+use Rattle.trees.specs.Code.{preorder}
 use Rattle.trees.specs.Inner.Decode.{rests, forest, first, Whole}
 use Rattle.trees.proofs.Codes.{preorder-bind}
 use Rattle.formats.specs.Inner.Layout.{markOf, pairs, bodyNumber, body, transducer}
 use Rattle.formats.specs.Inner.Marked.{part}
 use Rattle.formats.proofs.Pairs.{pairs-length, number-less, getD-slice}
-use Rattle.transducer.specs.Inner.Written.{spell, Callable, Limits}
+use Rattle.transducer.specs.Inner.Written.{Callable}
 use Rattle.transducer.proofs.Walks.{spell-same}
 use Rattle.forms.proofs.Files.{number-fits}
 use Rattle.forms.proofs.Slices.{slice-from}
 use Rattle.discovery.specs.Inner.Letters.{callLetter, spelt}
-use Rattle.join.specs.Inner.Pairs.{product, Pair, Tables, IsPair}
-use Rattle.join.specs.Inner.Walked.{bodyMark, termsAt, marksOf, tabled, paired, answered, applied, walked, IsBody, Ended, InTable, Ready, Walkable}
-use Rattle.join.proofs.Places.{in-list}
+use Rattle.join.specs.Inner.Pairs.{product, Pair, Tables}
+use Rattle.join.specs.Inner.Walked.{bodyMark, termsAt, marksOf, tabled, paired, answered, applied, walked, IsBody, Ended, Ready, Walkable}
+use Rattle.transducer.proofs.Places.{in-list}
 use Rattle.join.proofs.Walks.{initial-read, pick-rests}
 use Rattle.join.proofs.Wider.{wider-forest, wider-whole}
 

@@ -12,15 +12,15 @@ use lib.ListN.{length, getD, drop, set, length-drop, length-set}
 use lib.Seq.{drop-cons, getD-set-same, getD-set-other}
 use borrow.Author.Tests.{ltb-true, leb-true}
 use Rattle.theory.specs.Inner.Forests.{letters, lettersAll}
-use Rattle.theory.specs.Term.{Term, var, node, Terms, none, more, count}
+use Rattle.theory.specs.Term.{var, node, Terms, more, count}
 use Rattle.trees.specs.Inner.Decode.{firsts, rests, nodeIf, put, forest, first}
 use Rattle.trees.specs.Inner.Symbols.{symbolOf, symbolIf}
 use Rattle.trees.proofs.Forest.{all-drop, front}
-use Rattle.formats.specs.Inner.Layout.{callIf, markOf, pairs, markAt}
+use Rattle.formats.specs.Inner.Layout.{callIf, markOf, pairs}
 use Rattle.formats.proofs.Pairs.{pairs-at}
 use Rattle.transducer.specs.Inner.Written.{hop}
 use Rattle.join.specs.Inner.Walked.{bodyMark, termsAt, marksOf, childrenOf, IsBody, Ended}
-use Rattle.join.proofs.Places.{EndsFrom, place-from, place-inside}
+use Rattle.transducer.proofs.Places.{EndsFrom, place-from, place-inside}
 
 -- ---- one mark in front of some terms
 -- a symbol: it is known, and has as many of the terms as its rank says

@@ -4,29 +4,27 @@ use Prim.Native.Nat.{ℕ, suc, _+_, _-_, _*_, _≤_, _<_}
 use native.Mathlib.Omega.{arith}
 use mathlib.Core.List.{List, [], _∷_, _++_}
 use mathlib.Core.Path.{_≡_, refl, sym, ap, _∙_}
-use lib.ListN.{length, getD, drop}
+use lib.ListN.{length, getD}
 use lib.Seq.{slice-empty, length-slice}
 use Rattle.theory.specs.Compose.{assoc}
 use Rattle.theory.specs.Inner.PairCodes.{pairCode}
 use Rattle.theory.specs.Term.{Term, var, node, Terms, none, more, count, bind, mapT}
 use Rattle.theory.specs.Transducer.{Transducer, run, runs, pick, renamed}
 use Rattle.trees.specs.Alphabets.{inputs, outputs}
-use Rattle.trees.specs.Code.{Mark, preorder}
-use Rattle.trees.specs.Inner.Decode.{firsts, rests, forest, first}
+use Rattle.trees.specs.Code.{preorder}
+use Rattle.trees.specs.Inner.Decode.{firsts, rests, first}
 use Rattle.trees.proofs.Codes.{preorder-bind}
-use Rattle.trees.proofs.Forest.{count-rests}
-use Rattle.formats.specs.Inner.Layout.{markOf, pairs, markAt, bodyNumber, body, transducer}
+use Rattle.formats.specs.Inner.Layout.{pairs, bodyNumber, body, transducer}
 use Rattle.formats.specs.Inner.Marked.{part}
 use Rattle.formats.proofs.Pairs.{pairs-length, pairs-at, part-cons, getD-slice, number-less}
 use Rattle.transducer.specs.Inner.Written.{spell, Callable, hop}
 use Rattle.transducer.proofs.Meaning.{BodyRead, body-read}
 use Rattle.transducer.proofs.Walks.{spell-same}
 use Rattle.discovery.specs.Inner.Letters.{callLetter, spelt}
-use Rattle.forms.specs.Inner.Tables.{Layout}
 use Rattle.forms.proofs.Files.{number-fits}
-use Rattle.join.specs.Inner.Walked.{bodyMark, termsAt, marksOf, tabled, paired, answered, applied, walked, IsBody, Ended, InTable, Ready, Walkable}
+use Rattle.join.specs.Inner.Walked.{bodyMark, termsAt, marksOf, tabled, paired, answered, applied, walked, InTable, Ready, Walkable}
 use Rattle.join.proofs.Marks.{SymbolFirst, symbol-at, CallFirst, call-at, mark-inside}
-use Rattle.join.proofs.Places.{Place, place-from, place-inside}
+use Rattle.transducer.proofs.Places.{Place, place-from, place-inside}
 use Rattle.join.proofs.Wider.{wider-whole}
 
 -- ---- letters of a term with calls of pairs

@@ -45,7 +45,7 @@ use Rattle.transducer.specs.Inner.Written.{Input, hop}
 use Rattle.transducer.proofs.Opening.{Opened, opened-sheet}
 use Rattle.transducer.proofs.Outputs.{ranked-vars, same-translate, from-parts}
 use Rattle.transducer.proofs.Translating.{machine-right, output-read, read-whole}
-use Rattle.transducer.proofs.Walks.{node-at, place, in-list}
+use Rattle.transducer.proofs.Walks.{node-at, place, place-in}
 use Rattle.queries.specs.Answers.{found, named, FindsSymbol}
 use Rattle.queries.specs.Inner.Machine.{FindsBy}
 use Rattle.queries.specs.Inner.Placed.{placed, Followed}
@@ -221,17 +221,14 @@ module _ {ins outs : List ℕ} {n : ℕ} {starts bytes s ends : List ℕ} (S : F
     pub follow-hops : 0 < i → (k : ℕ) → k < i - 1 → hop ends k below < length ends
     follow-hops h k l =
         let c = call-here h in
-        let w = place ins s ends (S .input) k below (omega (arith, c .near, F .children)) in
-        let p = in-list ins s (hop ends k below) (rw (w .trees-there, count-rests) (omega (arith, c .near, F .children))) in
-        omega (arith, S .input .long)
+        omega (arith, S .input .long, place-in ins s ends (S .input) k below (omega (arith, c .near, F .children)))
 
     module _ (h : 0 < i) {p : ℕ} (g : p ≡ hop ends (i - 1) below) where
       -- it is the tree at p
       pub follow-place : (p < length s) × (below ≤ p)
       follow-place =
           let c = call-here h in
-          let w = place ins s ends (S .input) (i - 1) below (omega (arith, c .near, F .children)) in
-          rw g (in-list ins s (hop ends (i - 1) below) (rw (w .trees-there, count-rests) (omega (arith, c .near, F .children))), w .after)
+          rw g (place-in ins s ends (S .input) (i - 1) below (omega (arith, c .near, F .children)), place ins s ends (S .input) (i - 1) below (omega (arith, c .near, F .children)) .after)
 
       -- its symbol is one, and has a right-hand side
       pub follow-number : {a : ℕ} → a ≡ getD s p 0 → (a < length ins) × (bodyNumber ins x a < bodyCount ins n)
@@ -242,7 +239,7 @@ module _ {ins outs : List ℕ} {n : ℕ} {starts bytes s ends : List ℕ} (S : F
 
       -- the child number i is the tree at p
       child-output : called-tree (byTable ins outs n starts bytes) (trees ins (drop below s)) (i, x) ≡ output (byTable ins outs n starts bytes) (tree ins (drop p s)) x
-      unfolding tree
+      unfolding trees tree
       child-output =
           let M = byTable ins outs n starts bytes in
           let c = call-here h in
@@ -250,7 +247,7 @@ module _ {ins outs : List ℕ} {n : ℕ} {starts bytes s ends : List ℕ} (S : F
           let w = place ins s ends (S .input) (i - 1) below (omega (arith, c .near, F .children)) in
           let i′ : suc (i - 1) ≡ i = omega arith in
           call-at M P i x (ap (childAt P) (sym i′) ∙ at-rests P (i - 1) (omega (arith, c .near, F .children)))
-          ∙ ap (λ T. output M (first T) x) (sym (w .trees-there) ∙ ap (λ k. trees ins (drop k s)) (sym g))
+          ∙ ap (λ T. output M (first T) x) (sym (w .terms-there) ∙ ap (λ k. trees ins (drop k s)) (sym g))
 
       -- the right-hand side of the state called is followed over its children
       pub follow-call : {a j′ to′ r′ : ℕ} → a ≡ getD s p 0 → j′ ≡ getD starts (bodyNumber ins x a) 0 → to′ ≡ getD starts (bodyNumber ins x a + 1) 0 → r′ ≡ getD ins a 0 → Following ins outs n starts bytes s v j′ to′ r′ (p + 1) k

@@ -1,8 +1,9 @@
 -- Opening: an accepted file with its parts. Walks, Meaning: what is written, byte by byte, is the code of the output.
--- Subtrees: the table of where each subtree ends. Noting: the sizes of what states write, and where it stands. Filling: writing as far as there is room.
+-- Places: terms that stand behind one another. Subtrees: the table of where each subtree ends. Noting: the sizes of what states write, and where it stands. Filling: writing as far as there is room.
 -- Outputs: the output is one tree. Translating: what translation asks and answers.
 -- Laws: what the promises come to; read it first. Samples: the samples of document 01 that are proved.
 pub mod Opening
+pub mod Places
 pub mod Walks
 pub mod Subtrees
 pub mod Noting

@@ -7,15 +7,15 @@ use mathlib.Core.List.{List}
 use mathlib.Core.Path.{_≡_, ap, _∙_}
 use lib.ListN.{length, getD, drop, set, length-set}
 use lib.Seq.{getD-set-same, getD-set-other}
-use Rattle.theory.specs.Size.{size, sizes}
-use Rattle.theory.specs.Term.{node}
+use Rattle.theory.specs.Inner.Forests.{letters, lettersAll}
 use Rattle.trees.specs.Inner.Decode.{firsts, first}
 use Rattle.trees.specs.Inner.Symbols.{symbolOf, trees, tree}
 use Rattle.trees.specs.Inner.Measured.{endAt, Ends, WholeTree}
 use Rattle.trees.proofs.Extents.{letters-size}
-use Rattle.trees.proofs.Forest.{first-tree, count-rests}
+use Rattle.trees.proofs.Forest.{first-tree}
 use Rattle.transducer.specs.Inner.Written.{Input, hop}
-use Rattle.transducer.proofs.Walks.{NodeAt, node-at, Place, place-from, in-list}
+use Rattle.transducer.proofs.Places.{place-from, place-inside}
+use Rattle.transducer.proofs.Walks.{NodeAt, node-at, by-letters}
 
 -- the table has the end of each subtree from position k on
 pub record NotedFrom (ins s ends : List ℕ) (k : ℕ) : Type 0 where
@@ -45,23 +45,19 @@ module _ {ins s ends : List ℕ} {k : ℕ} (F : NotedFrom ins s ends k) (some : 
     rank-here : r ≡ getD ins (getD s (k - 1) 0) 0
     rank-here = g ∙ ap (λ x. getD ins x 0) f
 
-    child-place : (j : ℕ) → j ≤ r → Place ins s ends j (k - 1 + 1)
-    child-place j h = place-from ins s ends k (F .right) j (k - 1 + 1) (omega arith) (omega (arith, rank-here, node-here .enough))
-
     pub child-inside : (j : ℕ) → j < r → hop ends j (k - 1 + 1) < length ends
-    child-inside j h =
-        let i = in-list ins s (hop ends j (k - 1 + 1)) (rw (child-place j (omega arith) .trees-there, count-rests) (omega (arith, rank-here, node-here .enough))) in
-        omega (arith, F .long)
+    unfolding trees
+    child-inside j h = omega (arith, F .long, place-inside {A = ⊥} (symbolOf ins) 0 s ends k (by-letters ins s ends k (F .right)) j (k - 1 + 1) (omega arith) (omega (arith, rank-here, node-here .enough)))
 
     module _ {x : ℕ} (q : x ≡ hop ends r (k - 1 + 1)) where
       -- behind the last child the node ends
       ends-there : (x ≡ endAt ins s (k - 1)) × (x ≤ length s)
-      unfolding trees tree first size
+      unfolding trees tree first letters
       ends-there =
-          let z = ap (λ G. size (first G)) (node-here .there) in
-          let y = ap (λ m. sizes (firsts m (trees ins (drop (k - 1 + 1) s)))) rank-here in
-          let e : x ≡ k - 1 + size (tree ins (drop (k - 1) s)) = omega (arith, child-place r (omega arith) .far) in
-          (e, omega (arith, first-tree (symbolOf ins) 0 s (k - 1) (node-here .there) .1, letters-size (node (getD s (k - 1) 0) (firsts (getD ins (getD s (k - 1) 0) 0) (trees ins (drop (k - 1 + 1) s))))))
+          let z = ap (λ G. letters (first G)) (node-here .there) in
+          let y = ap (λ m. lettersAll (firsts m (trees ins (drop (k - 1 + 1) s)))) rank-here in
+          let w = place-from {A = ⊥} (symbolOf ins) 0 s ends k (by-letters ins s ends k (F .right)) r (k - 1 + 1) (omega arith) (omega (arith, rank-here, node-here .enough)) in
+          (omega (arith, w .far, letters-size (tree ins (drop (k - 1) s))), omega (arith, w .far, first-tree (symbolOf ins) 0 s (k - 1) (node-here .there) .1))
 
       pub end-fits : x < 65536
       end-fits = omega (arith, ends-there .1, F .whole .small)

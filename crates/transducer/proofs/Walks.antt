@@ -10,18 +10,19 @@ use lib.Dec.{leb, ltb}
 use lib.ListN.{length, getD, drop, length-drop}
 use lib.Seq.{drop-cons, slice-empty}
 use borrow.Author.Tests.{ltb-true, leb-true}
-use Rattle.theory.specs.Term.{node, Terms, none, more, count, Tree}
-use Rattle.theory.specs.Size.{size, sizes, levels, deepest}
+use Rattle.theory.specs.Term.{node, Terms, none, more, count}
+use Rattle.theory.specs.Size.{levels, deepest}
 use Rattle.trees.specs.Code.{Mark}
-use Rattle.theory.specs.Inner.Forests.{letters, lettersAll}
+use Rattle.theory.specs.Inner.Forests.{lettersAll}
 use Rattle.trees.specs.Inner.Decode.{firsts, rests, nodeIf, put, forest, first}
 use Rattle.trees.specs.Inner.Symbols.{symbolOf, symbolIf, trees, tree}
 use Rattle.formats.specs.Inner.Layout.{pairs, markAt, bodyNumber}
 use Rattle.trees.specs.Inner.Measured.{Ends}
 use Rattle.transducer.specs.Inner.Written.{spell, written, called, bodyAt, applied, walked, Callable, Table, Input, hop, Ready, Walkable}
-use Rattle.trees.proofs.Forest.{first-tree, letters-pos, count-rests, all-drop}
+use Rattle.trees.proofs.Forest.{all-drop}
 use Rattle.trees.proofs.Extents.{letters-size}
 use Rattle.formats.proofs.Pairs.{pairs-length, pairs-at, part-cons, number-less, getD-slice}
+use Rattle.transducer.proofs.Places.{EndsFrom, Place, place-from, place-inside}
 
 -- ---- every position of an input has a tree
 -- the node at position p, with as many of the trees behind it as its rank says
@@ -52,44 +53,20 @@ node-at ins s p w h =
     record { known = n .0; enough = n .1; there = ap (trees ins) e ∙ n .2 }
 
 -- ---- from child to child
-some-tree : (F : Terms ⊥) → 0 < count F → (t : Tree) × (ts : Terms ⊥) × (F ≡ more t ts)
-unfolding count
-some-tree none h = absurd (omega arith)
-some-tree (more t ts) h = (t, ts, refl)
+-- where the ends from position a on are right, they are by letters
+pub by-letters : (ins s ends : List ℕ) (a : ℕ) → Ends ins s ends a (length s) → EndsFrom {A = ⊥} (symbolOf ins) s ends a
+unfolding trees tree
+by-letters ins s ends a E k g h = E k g h ∙ ap (_+_ k) (sym (letters-size (tree ins (drop k s))))
 
 -- the k-th tree from position p on
-pub record Place (ins s ends : List ℕ) (k p : ℕ) : Type 0 where
-  pub after : p ≤ hop ends k p
-  pub far : hop ends k p ≡ p + sizes (firsts k (trees ins (drop p s)))
-  pub trees-there : trees ins (drop (hop ends k p) s) ≡ rests k (trees ins (drop p s))
+module _ (ins s ends : List ℕ) (I : Input ins s ends) (k p : ℕ) where
+  pub place : k ≤ count (trees ins (drop p s)) → Place {A = ⊥} (symbolOf ins) s ends k p
+  unfolding trees
+  place h = place-from (symbolOf ins) 0 s ends 0 (by-letters ins s ends 0 (I .right)) k p (omega arith) h
 
--- where the ends from position a on are right
-pub place-from : (ins s ends : List ℕ) (a : ℕ) → Ends ins s ends a (length s) → (k p : ℕ) → a ≤ p → k ≤ count (trees ins (drop p s)) → Place ins s ends k p
-unfolding hop firsts rests count trees tree first size
-place-from ins s ends a E ℕ.zero p g h = record { after = omega arith; far = omega arith; trees-there = refl }
-place-from ins s ends a E (suc k) p g h =
-    let (t, ts, e) = some-tree (trees ins (drop p s)) (omega arith) in
-    let w = first-tree (symbolOf ins) 0 s p e in
-    let z = letters-size t in
-    let pos = letters-pos t in
-    let r : getD ends p 0 ≡ p + letters t = E p g (omega arith) ∙ ap (λ F. p + size (first F)) e ∙ omega arith in
-    let b : ts ≡ trees ins (drop (getD ends p 0) s) = w .0 ∙ ap (λ k. trees ins (drop k s)) (sym r) in
-    let c : count (trees ins (drop p s)) ≡ suc (count ts) = ap count e in
-    let i = place-from ins s ends a E k (getD ends p 0) (omega arith) (omega (arith, ap count b)) in
-    record {
-      after = omega (arith, i .after);
-      far = omega (arith, i .far, ap (λ F. sizes (firsts k F)) b, ap (λ F. sizes (firsts (suc k) F)) e);
-      trees-there = i .trees-there ∙ ap (rests k) (sym b) ∙ ap (rests (suc k)) (sym e);
-    }
-
-pub place : (ins s ends : List ℕ) → Input ins s ends → (k p : ℕ) → k ≤ count (trees ins (drop p s)) → Place ins s ends k p
-place ins s ends I k p h = place-from ins s ends 0 (I .right) k p (omega arith) h
-
-pub in-list : (ins s : List ℕ) (p : ℕ) → 0 < count (trees ins (drop p s)) → p < length s
-unfolding trees
-in-list ins s p h =
-    let (t, ts, e) = some-tree (trees ins (drop p s)) h in
-    omega (arith, first-tree (symbolOf ins) 0 s p e .1, letters-pos t)
+  pub place-in : k < count (trees ins (drop p s)) → hop ends k p < length s
+  unfolding trees
+  place-in h = place-inside {A = ⊥} (symbolOf ins) 0 s ends 0 (by-letters ins s ends 0 (I .right)) k p (omega arith) h
 
 -- ---- levels
 deep-child : (F : Terms ⊥) (r k : ℕ) → k < r → r ≤ count F → levels (first (rests k F)) ≤ deepest (firsts r F)
@@ -101,12 +78,12 @@ deep-child (more t ts) (suc r) (suc k) h g = omega (arith, deep-child ts r k (om
 
 -- each child of the node at p has a level less
 pub child-flat : (ins s ends : List ℕ) → Input ins s ends → (p k : ℕ) → p < length s → k < getD ins (getD s p 0) 0 → levels (tree ins (drop (hop ends k (p + 1)) s)) < levels (tree ins (drop p s))
-unfolding tree first levels
+unfolding trees tree first levels
 child-flat ins s ends I p k h g =
     let N = node-at ins s p (I .whole) h in
     let w = place ins s ends I k (p + 1) (omega (arith, N .enough)) in
     let d = deep-child (trees ins (drop (p + 1) s)) (getD ins (getD s p 0) 0) k g (N .enough) in
-    omega (arith, d, ap (λ F. levels (first F)) (w .trees-there), ap (λ F. levels (first F)) (N .there))
+    omega (arith, d, ap (λ F. levels (first F)) (w .terms-there), ap (λ F. levels (first F)) (N .there))
 
 -- and there is at least one
 pub some-level : (ins s : List ℕ) → lettersAll (trees ins s) ≡ length s → (p : ℕ) → p < length s → 0 < levels (tree ins (drop p s))
@@ -175,7 +152,7 @@ pub record CallAt (ins starts bytes s ends : List ℕ) (n below j to : ℕ) : Ty
   pub writes : walked ins starts bytes s below j to ≡ applied ins starts bytes s (getD bytes (2 * j + 1) 0) (hop ends (getD bytes (2 * j) 0 - 1) below) ++ walked ins starts bytes s below (j + 1) to
 
 pub call-at : (ins starts bytes s ends : List ℕ) (n below j to : ℕ) → Input ins s ends → j < to → 2 * to ≤ length bytes → (getD bytes (2 * j) 0 ≡ 0 → ⊥) → Callable n (count (trees ins (drop below s))) (markAt bytes j) → CallAt ins starts bytes s ends n below j to
-unfolding tree
+unfolding trees tree
 call-at ins starts bytes s ends n below j to I less inside some c = go (getD bytes (2 * j) 0) refl
   where
     go : (i : ℕ) → getD bytes (2 * j) 0 ≡ i → CallAt ins starts bytes s ends n below j to
@@ -185,16 +162,14 @@ call-at ins starts bytes s ends n below j to I less inside some c = go (getD byt
         let m = rw (pairs-at bytes j (omega arith)) at c in
         let ok = m (omega arith) in
         let z : getD bytes (2 * j) 0 - 1 ≡ i = omega arith in
-        let there : (k : ℕ) → k < count F → hop ends k below < length s = λ k h.
-        let w = place ins s ends I k below (omega arith) in in-list ins s (hop ends k below) (rw (w .trees-there, count-rests) (omega arith)) in
         let w = place ins s ends I i below (omega arith) in
         record {
           state = ok .1;
-          hops = λ k h. let t = there k (omega arith) in omega (arith, I .long);
+          hops = λ k h. omega (arith, I .long, place-in ins s ends I k below (omega arith));
           after = rw z (w .after);
-          inside = rw z (there i (omega arith));
+          inside = rw z (place-in ins s ends I i below (omega arith));
           writes = rw z (walk-call ins starts bytes s below j to less inside i e ∙ ap (λ v. v ++ walked ins starts bytes s below (j + 1) to)
-              (called-rests (bodyAt ins starts bytes) F i (getD bytes (2 * j + 1) 0) (omega arith) ∙ ap (λ G. written (bodyAt ins starts bytes) (first G) (getD bytes (2 * j + 1) 0)) (sym (w .trees-there))));
+              (called-rests (bodyAt ins starts bytes) F i (getD bytes (2 * j + 1) 0) (omega arith) ∙ ap (λ G. written (bodyAt ins starts bytes) (first G) (getD bytes (2 * j + 1) 0)) (sym (w .terms-there))));
         }
 
 -- ---- steps from tree to tree

@@ -49,7 +49,7 @@ returns : tie.Need-returns
 returns c = found-joined (c .before .before .before .before .before .before .before .before .before .before .before .before .before .before .before .before .before .before .before .before .before .before .before .before .before .pre .0) (c .before .before .before .before .before .before .before .before .before .before .before .before .before .before .before .before .join-stocks .ensures) (c .before .before .before .before .before .before .before .before .before .before .before .before .before .join-parts .ensures) (c .before .before .before .before .before .before .before .before .before .k .given .1) (c .before .before .write-found .ensures)
 
 returns-2 : tie.Need-returns-2
-returns-2 c = file-over (c .before .before .before .before .before .before .before .before .before .before .before .before .before .before .before .before .pre .0) (c .before .before .before .before .join-parts .ensures) (c .enum-told .given .1)
+returns-2 c = file-over (c .before .before .before .before .join-parts .ensures) (c .before .before .before .before .before .before .before .before .before .before .before .before .before .before .before .before .pre .0) (c .enum-told .given .1)
 
 pub join-file-spec : {M : Type 1} → statement M
 join-file-spec =

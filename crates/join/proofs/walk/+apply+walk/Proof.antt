@@ -8,7 +8,7 @@ use denote.Ref.{now}
 use borrow.Author.Needs.{needs}
 use Rattle.join.specs.Inner.Walked.{applied, walked}
 use Rattle.transducer.proofs.Filling.{Filling, begin, one-more, word-more, wrote-as, passed, finish}
-use Rattle.join.proofs.Walks.{walk-symbol, walk-end, ready-inside, ready-few, letter-small, apply-call, symbol-fits, body-few, body-walk, apply-walk, to-skip, child-after, to-apply, call-walk}
+use Rattle.join.proofs.Walks.{walk-symbol, walk-end, ready-few, letter-small, apply-call, symbol-fits, body-few, body-walk, apply-walk, to-skip, child-after, to-apply, call-walk}
 use borrow.Fn.Kinds.{In}
 use borrow.Fn.PlainCycle.{Measures, is, falls, and}
 use Rattle.join.proofs.walk.apply.Reads as apply

@@ -1,5 +1,4 @@
 -- `note_ends` meets its contract. The loop's invariant: the ends from mark number k on are noted. Assumes nothing.
-use Prim.Native.Nat.{_-_}
 use native.Mathlib.Omega.{arith}
 use mathlib.Core.Path.{_≡_, refl}
 use borrow.Author.Needs.{needs}
