@@ -128,6 +128,25 @@ extern "C" {
         length: *mut usize,
     ) -> u32;
 
+    /// Writes the composition of two transducers, the second after the first, to the start of the area: the
+    /// numbers of its states and marks, and the length of its file. Refuses by 1, by 2 for the first stock,
+    /// by 2 for the second, by 16, by 4 and 5 for the first, by 4 and 5 for the second, and by 17.
+    pub fn caplune_join(
+        first_stock: *const u8,
+        first_stock_length: usize,
+        second_stock: *const u8,
+        second_stock_length: usize,
+        first: *const u8,
+        first_length: usize,
+        second: *const u8,
+        second_length: usize,
+        area: *mut u8,
+        area_length: usize,
+        states: *mut usize,
+        marks: *mut usize,
+        length: *mut usize,
+    ) -> u32;
+
     /// Compares two transducers: 1 in `alike` if they are equivalent, and the other four values stay; or
     /// 0, with an input tree of so many nodes at the start of the one area, an address of so many numbers
     /// at the start of the other, and the symbols there of the first and the second output tree. Refuses

@@ -9,18 +9,21 @@
 //! design is an input *tree* and a plan an output tree; a sheet is a *transducer*, a pass a
 //! *state*, a line a *right-hand side*, the opening the *initial term*, an open end a *call*;
 //! a place is an *address*. A head is a *prefix*, the trimmed sheet the *earliest form*, and the clean
-//! sheet the *minimal earliest transducer*.
+//! sheet the *minimal earliest transducer*. Sheets are *joined* to the composition of two transducers.
 //!
 //! Every function answers `Result<_, u32>`, where the error is the paper's refusal number, and
-//! tests in the paper's order: 1, 9, 2, 4, 5, 3, 6, 7, 8. A refusal changes nothing that was lent.
+//! tests in the paper's order: 1, 9, 2, 16, 4, 5, 3, 6, 7, 8, 17. A refusal changes nothing that was
+//! lent.
 
 mod book;
 mod earliest;
+mod join;
 mod minimal;
 mod search;
 
 pub use book::{Book, Head, Record, MAX_HELD, RECORDS};
 pub use earliest::{earliest, prefixes, Trimmed};
+pub use join::{join, join_into};
 pub use minimal::{clean, clean_into, compare, Verdict};
 pub use search::{count_trees, search_difference};
 
@@ -42,6 +45,10 @@ pub const OVER_LIMITS: u32 = 7;
 pub const BOOK_FULL: u32 = 8;
 /// Refusal 9: not a book.
 pub const NOT_A_BOOK: u32 = 9;
+/// Refusal 16: the output symbols of the first transducer are not the input symbols of the second.
+pub const OTHER_ALPHABET: u32 = 16;
+/// Refusal 17: the joined transducer passes a limit of transducers.
+pub const JOIN_OVER_LIMITS: u32 = 17;
 
 /// The most input symbols.
 pub const MAX_INPUTS: usize = 16;

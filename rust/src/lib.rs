@@ -9,7 +9,8 @@
 //! The paper's words, and the words used here: a stock is a pair of ranked alphabets; a design is
 //! an input tree and a plan an output tree; a sheet is a transducer, a pass a state, a line a
 //! right-hand side, the opening the initial term; a place is an address; the trimmed sheet is the
-//! earliest form, and the clean sheet the normal form; the book is a registry.
+//! earliest form, and the clean sheet the normal form; the joined sheet is a composition; the book is a
+//! registry.
 //!
 //! ```
 //! // a of rank 1 and e of rank 0; f of rank 2 and e of rank 0
@@ -47,6 +48,15 @@
 //! assert!(compare(&other) && !compare(&third));
 //! assert_eq!(caplune::shorter(&stock, &other, &file), Some(&other[7..]));
 //! assert_eq!(caplune::shorter(&stock, &other, &third), None);
+//! // a second transducer, over f and e as input symbols: q(f(x1, x2)) = f(q(x1), q(x2)), q(e) = e, with the
+//! // initial term f(q(x1), q(x1)); after `other` it is one with the initial term f(p(x1), p(x1)), where
+//! // p(a(x1)) = f(p(x1), p(x1)) and p(e) = f(e, e), which is `third`
+//! let second_stock = [2, 2, 0, 2, 2, 0];
+//! let second = [1, 0, 3, 0, 3, 0, 1, 0, 0, 1, 0, 1, 0, 0, 0, 1, 0, 2, 0, 0, 1];
+//! let joined = caplune::join(&stock, &second_stock, &other, &second, &mut area);
+//! assert_eq!(joined, Ok(caplune::Form { states: 1, marks: 9, length: 25 }));
+//! assert_eq!(area[..25], third);
+//! assert_eq!(caplune::join(&stock, &stock, &other, &file, &mut area).unwrap_err().number(), 16);
 //! // a registry: equivalent transducers get one number
 //! let mut head = caplune::Head::default();
 //! let (mut records, mut area) = ([caplune::Record::default(); caplune::RECORDS], [9; 60]);
@@ -66,7 +76,7 @@ pub mod independent;
 pub struct Refusal(u32);
 
 impl Refusal {
-    /// The number in the paper's table, 1 to 9.
+    /// The number in the paper's table: 1 to 9, 16 or 17.
     pub fn number(self) -> u32 {
         self.0
     }
@@ -84,6 +94,8 @@ impl fmt::Display for Refusal {
             7 => "the earliest transducer (the trimmed sheet) is over its limits",
             8 => "the registry (the book) is full",
             9 => "not a registry (a book)",
+            16 => "the output symbols (block kinds) of the first are not the input symbols (part kinds) of the second",
+            17 => "the joined transducer (the joined sheet) is over its limits",
             _ => "unknown",
         };
         write!(f, "refused {}: {reason}", self.0)
@@ -373,6 +385,48 @@ pub fn earliest_form(stock: &[u8], file: &[u8], area: &mut [u8]) -> Result<Form,
 /// area stays. Refuses by 1, 2, 4, 5 and 7 as [`earliest_form`] does; the area then is as it was.
 pub fn clean(stock: &[u8], file: &[u8], area: &mut [u8]) -> Result<Form, Refusal> {
     form(ffi::caplune_clean, stock, file, area)
+}
+
+/// Writes the composition of two transducers to the start of `area` (the paper: the joined sheet).
+///
+/// Its output on an input tree is that of `second` on that of `first`; its input symbols are those of
+/// the first stock and its output symbols those of the second. Its states are the pairs of a state of
+/// the first and one of the second that are met from its initial term on, numbered as first met; its
+/// initial term is what the initial term of the second gives on that of the first, and the right-hand
+/// side of a pair what the second state gives on the right-hand side of the first one. Returns how many
+/// states and marks it has and how long its file is; what follows the file in the area stays. Refuses by
+/// 1 an area under 20,483 bytes, by 2 what is not a stock, first `first_stock` and then `second_stock`, by
+/// 16 stocks of which the output symbols of the first are not the input symbols of the second, as many
+/// and of the same ranks, by 4 and 5 as [`read_transducer`] does first `first` and then `second`, each
+/// under its stock, and by 17 a composition of over 128 states, of over 64 marks in its initial term or a
+/// right-hand side, or of over 8,192 marks in all; the area then is as it was.
+pub fn join(
+    first_stock: &[u8],
+    second_stock: &[u8],
+    first: &[u8],
+    second: &[u8],
+    area: &mut [u8],
+) -> Result<Form, Refusal> {
+    let (mut states, mut marks, mut length) = (0, 0, 0);
+    // SAFETY: each pointer and length are those of a slice, and the others are to locals.
+    let number = unsafe {
+        ffi::caplune_join(
+            first_stock.as_ptr(),
+            first_stock.len(),
+            second_stock.as_ptr(),
+            second_stock.len(),
+            first.as_ptr(),
+            first.len(),
+            second.as_ptr(),
+            second.len(),
+            area.as_mut_ptr(),
+            area.len(),
+            &mut states,
+            &mut marks,
+            &mut length,
+        )
+    };
+    answer(number, || Form { states, marks, length })
 }
 
 /// Compares two transducers (the paper: whether two sheets sew alike).

@@ -12,7 +12,7 @@ mod lent;
 use caplune::{ffi, independent, Form, Refusal};
 use generate::alike::{any, chain, chain_alphabets};
 use generate::samples::*;
-use generate::{trees, Alphabets, Random, Transducer};
+use generate::{small_trees, Alphabets, Random, Transducer};
 use independent::MAX_FILE;
 use lent::{number, Lent, Tally, BEFORE};
 use std::collections::BTreeSet;
@@ -332,11 +332,6 @@ fn chains_and_rings() {
     }
     let wanted = OUTCOMES.into_iter().filter(|(_, outcome)| matches!(*outcome, "accepted" | "refused 7"));
     tally.settle(&wanted.collect::<Vec<_>>(), 64);
-}
-
-/// All input trees up to the most levels with at most `most` trees, and up to 12.
-fn small_trees(ranks: &[u8], most: usize) -> Vec<Vec<u8>> {
-    (1..=12).map_while(|levels| trees(ranks, levels, most)).last().unwrap_or_default()
 }
 
 /// The output tree by the proved translation, and all of the area.

@@ -1,5 +1,5 @@
-//! The independent implementation by itself: earliest form, minimal transducer, equivalence and book,
-//! on the paper's samples and on random transducers, against the definitions word for word
+//! The independent implementation by itself: earliest form, minimal transducer, equivalence, book and
+//! joined transducer, on the paper's samples and on random transducers, against the definitions word for word
 //! (`oracle`), against outputs on all small input trees, and on transducers that are equivalent by
 //! construction. `cargo test --release --offline --test independent -- --nocapture` prints how often
 //! each kind of case occurred.
@@ -8,8 +8,9 @@ mod oracle;
 
 use caplune::independent::*;
 use generate::alike::{chain, chain_alphabets, prefixed, prefixed_transducer, small_alphabets, small_transducer};
+use generate::joins::{self, joined_stock, Pair};
 use generate::samples::*;
-use generate::{affordable, enough, trees, Growth, Random};
+use generate::{affordable, enough, small_trees, trees, Growth, Random};
 use oracle::Oracle;
 use std::collections::BTreeMap;
 use Verdict::{Alike, Differ};
@@ -578,4 +579,198 @@ fn one_mark_at_the_end_of_a_chain() {
             }
         }
     }
+}
+
+/// The file of the joined transducer, or the refusal.
+fn joined(Pair { stocks, files }: &Pair) -> Result<Vec<u8>, u32> {
+    join(&stocks[0], &stocks[1], &files[0], &files[1])
+}
+
+#[test]
+fn joined_samples() {
+    for (name, pair, expected) in joins::samples() {
+        assert_eq!(joined(&pair).as_ref(), Ok(&expected), "{name}");
+        assert!(read_transducer(&joined_stock(&pair.stocks[0], &pair.stocks[1]), &expected).is_ok(), "{name}");
+    }
+}
+
+#[test]
+fn joined_limits() {
+    for (name, pair, expected) in joins::limits() {
+        let (stock, second_stock) = (&pair.stocks[0], &pair.stocks[1]);
+        assert!(read_transducer(stock, &pair.files[0]).is_ok(), "{name}");
+        assert!(read_transducer(second_stock, &pair.files[1]).is_ok(), "{name}");
+        let form = joined(&pair);
+        assert_eq!(form.as_ref().map(|form| joins::size(stock, form)).map_err(|&number| number), expected, "{name}");
+        if let Ok(form) = form {
+            assert!(read_transducer(&joined_stock(stock, second_stock), &form).is_ok(), "{name}");
+        }
+    }
+    assert_eq!(joined(&joins::longest(0)).map(|form| form.len()), Ok(MAX_FILE));
+}
+
+#[test]
+fn joined_refusals() {
+    let unfit = joins::other_stocks();
+    // 17 output symbols are more than a stock has input symbols
+    let wide = [vec![2, 1, 0, 17, 2], vec![0; 16]].concat();
+    let sixteen = [vec![16, 2], vec![0; 15], vec![2, 2, 0]].concat();
+    let (bad_stock, bad_count, bad_term): (&[u8], &[u8], &[u8]) = (&[1, 1, 1, 0], &[1, 0, 3], &[0, 0, 1, 1, 0]);
+    let doubling = joins::doubling(true, 0, 60);
+    let [over_first, over_second] = doubling.stocks.each_ref();
+    let [over, second_over] = doubling.files.each_ref();
+    type Case<'a> = ([&'a [u8]; 2], [&'a [u8]; 2], u32);
+    let mut cases: Vec<Case> = vec![
+        ([bad_stock, bad_stock], [bad_count, bad_count], 2),
+        ([bad_stock, joins::PAIRS], [T, joins::MIRROR], 2),
+        ([S, bad_stock], [bad_count, bad_count], 2),
+        ([&wide, &sixteen], [bad_count, bad_count], 16),
+        ([S, joins::PAIRS], [bad_count, bad_term], 4),
+        ([S, joins::PAIRS], [bad_term, bad_count], 5),
+        // the mirror calls a second sub-tree, which a does not have
+        ([S, joins::PAIRS], [joins::MIRROR, bad_count], 5),
+        ([S, joins::PAIRS], [T, bad_count], 4),
+        ([S, joins::PAIRS], [T, bad_term], 5),
+        ([over_first, over_second], [over, bad_count], 4),
+        ([over_first, over_second], [over, bad_term], 5),
+        ([over_first, over_second], [over, second_over], 17),
+    ];
+    cases.extend(unfit.iter().flat_map(|stock| [([S, stock], [bad_count, bad_count], 16), ([S, stock], [T, T], 16)]));
+    for (stocks, files, number) in cases {
+        let mut area = vec![0xa5; MAX_FILE];
+        let into = |area: &mut [u8]| join_into(stocks[0], stocks[1], files[0], files[1], area);
+        assert_eq!(into(&mut area[1..]), Err(1), "{stocks:?} {files:?}");
+        assert_eq!(into(&mut area), Err(number), "{stocks:?} {files:?}");
+        assert!(area.iter().all(|&byte| byte == 0xa5));
+    }
+    let mut area = vec![0xa5; MAX_FILE + 2];
+    assert_eq!(join_into(S, joins::PAIRS, T_PRIME, joins::T_OF_PAIRS, &mut area), Ok(U.len()));
+    assert_eq!(&area[..U.len()], U);
+    assert!(area[U.len()..].iter().all(|&byte| byte == 0xa5));
+}
+
+/// The joined transducer is that of the definition.
+fn joined_as_defined(tally: &mut Tally, pair: &Pair) -> Result<Vec<u8>, u32> {
+    let answer = joined(pair);
+    let [one, two] = [0, 1].map(|which| read_transducer(&pair.stocks[which], &pair.files[which]));
+    let (Ok(one), Ok(two)) = (one, two) else {
+        tally.count("refused by the reader");
+        assert!(matches!(answer, Err(4 | 5)), "{pair:?}");
+        return answer;
+    };
+    let [first, second] = pair.stocks.each_ref().map(|stock| read_alphabets(stock).expect("it is read"));
+    let inputs = [first.inputs.len(), second.inputs.len()];
+    let oracle = oracle::Join::new(inputs, [first.outputs, second.outputs], [one.marks, two.marks]);
+    match oracle.joined() {
+        Err(limit) => {
+            tally.count(limit);
+            assert_eq!(answer, Err(17), "{pair:?}");
+        }
+        Ok(plain) => {
+            assert_eq!(answer.as_ref(), Ok(&plain.file()), "{pair:?}");
+            tally.count("joined");
+            if plain.states > one.states.max(two.states) {
+                tally.count("more states than each");
+            }
+            if plain.states > 100 {
+                tally.count("over 100 states");
+            }
+            if plain.terms.iter().any(|term| term.len() > 2 * 50) {
+                tally.count("over 50 marks in a term");
+            }
+            if plain.terms.iter().map(Vec::len).sum::<usize>() > 2 * 4_000 {
+                tally.count("over 4,000 marks");
+            }
+        }
+    }
+    answer
+}
+
+#[test]
+fn joined_definitions() {
+    let mut tally = Tally::default();
+    for (_, pair, _) in joins::samples() {
+        let _ = joined_as_defined(&mut tally, &pair);
+    }
+    for (_, pair, _) in joins::limits() {
+        let _ = joined_as_defined(&mut tally, &pair);
+    }
+    for seed in 0..20_000 {
+        let mut random = Random::new(seed + 30_000_000);
+        let two = joins::any(&mut random, 2);
+        let _ = joined_as_defined(&mut tally, &Pair::of(&two[0], &two[1]));
+    }
+    tally.settle(&[
+        ("joined", 10_000),
+        ("more states than each", 1_000),
+        ("over 100 states", 100),
+        ("over 50 marks in a term", 100),
+        ("over 4,000 marks", 50),
+        ("over 128 states", 300),
+        ("over 64 marks in a term", 500),
+        ("over 8,192 marks", 10),
+    ]);
+}
+
+/// The output of the joined transducer is that of the second on that of the first, on all small input trees.
+#[test]
+fn joined_outputs() {
+    let mut tally = Tally::default();
+    for seed in 0..6_000 {
+        let mut random = Random::new(seed + 31_000_000);
+        let two = joins::any(&mut random, 2);
+        let pair = Pair::of(&two[0], &two[1]);
+        let Ok(form) = joined(&pair) else { continue };
+        let Pair { stocks, files } = &pair;
+        let stock = joined_stock(&stocks[0], &stocks[1]);
+        for tree in small_trees(&two[0].0.inputs, 60) {
+            let Ok(between) = translate(&stocks[0], &files[0], &tree, MAX_NODES) else {
+                tally.count("the first output is too long");
+                continue;
+            };
+            match translate(&stocks[1], &files[1], &between, 3_000) {
+                Err(NOT_A_TREE) => tally.count("the first output has too many levels"),
+                output => {
+                    assert_eq!(translate(&stock, &form, &tree, 3_000), output, "{pair:?} {tree:?}");
+                    tally.count(if output.is_ok() { "outputs built" } else { "outputs too long" });
+                }
+            }
+        }
+    }
+    tally.settle(&[("outputs built", 100_000)]);
+}
+
+/// Three transducers joined either way are one transducer, wherever the two that are joined first are within the
+/// limits; and a transducer joined with one that gives its input tree is equivalent to itself.
+#[test]
+fn joined_three() {
+    let mut tally = Tally::default();
+    for seed in 0..12_000 {
+        let mut random = Random::new(seed + 32_000_000);
+        let three = joins::any(&mut random, 3);
+        let [one, two, last] = [0, 1, 2].map(|which| (three[which].0.file(), three[which].1.file()));
+        let Ok(left) = join(&one.0, &two.0, &one.1, &two.1) else { continue };
+        let left_stock = joined_stock(&one.0, &two.0);
+        // the first again, before and behind one that gives its input tree
+        let (alphabets, sheet) = &three[0];
+        let same = |ranks: &Vec<u8>| {
+            let alphabets = generate::Alphabets { inputs: ranks.clone(), outputs: ranks.clone() };
+            (alphabets, joins::identity(ranks))
+        };
+        let pairs = [Pair::of(&three[0], &same(&alphabets.outputs)), Pair::of(&same(&alphabets.inputs), &three[0])];
+        for pair in pairs {
+            let form = joined(&pair).expect("it has no more than the first itself");
+            assert!(usize::from(form[0]) <= sheet.states && form.len() <= one.1.len(), "{pair:?}");
+            let verdict = compare(&one.0, &one.1, &form);
+            assert!(verdict == Ok(Alike) || verdict == Err(7), "{pair:?}");
+            tally.count(if verdict.is_ok() { "alike" } else { "over the limits of the earliest form" });
+        }
+        let Ok(right) = join(&two.0, &last.0, &two.1, &last.1) else { continue };
+        let right_stock = joined_stock(&two.0, &last.0);
+        let (one_way, other_way) =
+            (join(&left_stock, &last.0, &left, &last.1), join(&one.0, &right_stock, &one.1, &right));
+        assert_eq!(one_way, other_way, "{three:?}");
+        tally.count(if one_way.is_ok() { "joined" } else { "over the limits" });
+    }
+    tally.settle(&[("alike", 10_000), ("joined", 5_000), ("over the limits", 200)]);
 }

@@ -39,6 +39,7 @@ demand-1 = record {
   symbol = λ stock sheet design address r J. answered J;
   earliest = λ stock s before after r J. answered J;
   clean = λ stock s before after r J. answered J;
+  joining = λ stock stock′ s s′ before after r J. answered J;
   comparison = λ stock s s′ tree tree′ address address′ r J. answered J;
   shorter = λ stock s s′ part. none-handed;
   making = λ stock area area′ h h′ rs rs′ r J. answered J;

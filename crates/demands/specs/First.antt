@@ -23,6 +23,7 @@ use Rattle.earliest.specs.Answers.{formCheck, MakesEarliest}
 use Rattle.forms.specs.Answers.{formOf}
 use Rattle.forms.specs.declared.write.Formed.{Formed}
 use Rattle.canonical.specs.Answers.{Cleans}
+use Rattle.join.specs.Answers.{joinable, Joins}
 use Rattle.witness.specs.Difference.{treeArea, addressArea}
 use Rattle.comparison.specs.Answers.{pairCheck, comparedAs, Compares, HandsShorter}
 use Rattle.comparison.specs.declared.compare.Comparison.{Comparison}
@@ -59,6 +60,8 @@ pub record Demand1 : Type 0 where
   -- trimming and cleaning
   pub earliest : (stock s before after : List ℕ) (r : Formed) → MakesEarliest stock s before after r → Answered (check 1 (longest ≤ length before) (alphabetCheck stock (sheetCheck stock s (formCheck stock s done)))) (after ≡ before) (formOf r)
   pub clean : (stock s before after : List ℕ) (r : Formed) → Cleans stock s before after r → Answered (check 1 (longest ≤ length before) (alphabetCheck stock (sheetCheck stock s (formCheck stock s done)))) (after ≡ before) (formOf r)
+  -- joining
+  pub joining : (stock stock′ s s′ before after : List ℕ) (r : Formed) → Joins stock stock′ s s′ before after r → Answered (check 1 (longest ≤ length before) (joinable stock stock′ s s′)) (after ≡ before) (formOf r)
   -- comparison, and the bodies of the shorter one
   pub comparison : (stock s s′ tree tree′ address address′ : List ℕ) (r : Comparison) → Compares stock s s′ tree tree′ address address′ r → Answered (check 1 ((treeArea ≤ length tree) × (addressArea ≤ length address)) (pairCheck stock s s′)) ((tree′ ≡ tree) × (address′ ≡ address)) (comparedAs r)
   pub shorter : (stock s s′ part : List ℕ) → HandsShorter stock s s′ part → (Holds (pairCheck stock s s′) → ⊥) → part ≡ []

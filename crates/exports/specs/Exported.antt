@@ -17,6 +17,7 @@ use Rattle.theory.specs.Weight.{oneIf}
 use Rattle.forms.specs.Answers.{formOf}
 use Rattle.earliest.specs.Answers.{MakesEarliest}
 use Rattle.canonical.specs.Answers.{Cleans}
+use Rattle.join.specs.Answers.{Joins}
 use Rattle.comparison.specs.Answers.{comparedAs, Compares, HandsShorter}
 
 -- an acceptance is returned as 0, and what is left is told by its values; a refusal as its number, and all is left as before
@@ -75,6 +76,9 @@ ExportsEarliest stock file area area′ before after r = Exported (MakesEarliest
 
 abbrev pub ExportsClean : List ℕ → List ℕ → List ℕ → List ℕ → ℕ × ℕ × ℕ → ℕ × ℕ × ℕ → ℕ → Type 0
 ExportsClean stock file area area′ before after r = Exported (Cleans stock file area area′) formOf (λ v after. after ≡ v) before after r
+
+abbrev pub ExportsJoin : List ℕ → List ℕ → List ℕ → List ℕ → List ℕ → List ℕ → ℕ × ℕ × ℕ → ℕ × ℕ × ℕ → ℕ → Type 0
+ExportsJoin first second file file′ area area′ before after r = Exported (Joins first second file file′ area area′) formOf (λ v after. after ≡ v) before after r
 
 -- 1 if alike, and the other values stay; else 0 and the values
 abbrev pub comparisonLeft : ℕ × ℕ × ℕ × ℕ × ℕ → Option (ℕ × ℕ × ℕ × ℕ) → ℕ × ℕ × ℕ × ℕ × ℕ

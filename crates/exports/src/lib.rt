@@ -1,7 +1,7 @@
 // The library for Rust and C: numbers and slices of numbers only. Each function returns 0, or the number that document 01's
 // table gives the refusal, and gives its values through its last parameters, which a refusal leaves as they were. The two
 // that hand out a part of what is lent say what they return.
-ghost use Rattle.exports.specs.Exported.{ExportsAlphabets, ExportsTree, ExportsFile, ExportsWriting, ExportsLinear, ExportsTranslation, ExportsSymbol, ExportsEarliest, ExportsClean, ExportsComparison, ExportsShorter};
+ghost use Rattle.exports.specs.Exported.{ExportsAlphabets, ExportsTree, ExportsFile, ExportsWriting, ExportsLinear, ExportsTranslation, ExportsSymbol, ExportsEarliest, ExportsClean, ExportsJoin, ExportsComparison, ExportsShorter};
 
 pub mod registered;
 
@@ -16,6 +16,7 @@ use formats::file::read_transducer;
 use formats::file::transducer_marks;
 use formats::file::write_transducer;
 use forms::write::Formed;
+use join::join::join;
 use queries::address::Found;
 use queries::address::symbol_at;
 use queries::linear::LinearTest;
@@ -216,6 +217,32 @@ pub extern "C" fn caplune_clean(
     ensures { λ r. ⌜ ExportsClean (now (stock .entry)) (now (file .entry)) (now (area .entry)) (now (area .exit)) (now (states .entry), now (marks .entry), now (length .entry)) (now (states .exit), now (marks .exit), now (length .exit)) r ⌝ }
 {
     match clean(stock, file, area) {
+        Formed::Form(k, m, n) => {
+            *states = k;
+            *marks = m;
+            *length = n;
+            0
+        }
+        Formed::Refused(x) => number_of(x),
+    }
+}
+
+// Writes the transducer of the second file after that of the first (02: the joined sheet) to the start of the area: its states
+// and marks, and how long its file is. It is over the input symbols of the first stock and the output symbols of the second.
+#[no_mangle]
+pub extern "C" fn caplune_join(
+    first: &[u8],
+    second: &[u8],
+    file1: &[u8],
+    file2: &[u8],
+    area: &mut [u8],
+    states: &mut usize,
+    marks: &mut usize,
+    length: &mut usize,
+) -> u32
+    ensures { λ r. ⌜ ExportsJoin (now (first .entry)) (now (second .entry)) (now (file1 .entry)) (now (file2 .entry)) (now (area .entry)) (now (area .exit)) (now (states .entry), now (marks .entry), now (length .entry)) (now (states .exit), now (marks .exit), now (length .exit)) r ⌝ }
+{
+    match join(first, second, file1, file2, area) {
         Formed::Form(k, m, n) => {
             *states = k;
             *marks = m;

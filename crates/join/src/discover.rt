@@ -40,17 +40,7 @@ fn join_rhs(
     let s = &marks1[from..to];
     let mut ends = [0u16; 64];
     note_ends(second, s, &mut ends);
-    apply(
-        second,
-        starts2,
-        marks2,
-        s,
-        &ends,
-        c % PAIR,
-        0,
-        letters,
-        0,
-    )
+    apply(second, starts2, marks2, s, &ends, c % PAIR, 0, letters, 0)
 }
 
 // Writes the joined initial term likewise.

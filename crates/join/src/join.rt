@@ -42,7 +42,14 @@ fn join_parts(
     fill_starts(counts1, 1 + n1 * input_ranks(first).len(), &mut starts1);
     fill_starts(counts2, 1 + n2 * input_ranks(second).len(), &mut starts2);
     discover(
-        first, second, &starts1, marks1, &starts2, marks2, starts, out,
+        first,
+        second,
+        &starts1,
+        marks1,
+        &starts2,
+        marks2,
+        starts,
+        out,
     )
 }
 
@@ -85,13 +92,7 @@ fn join_file(
 }
 
 // Joins the transducers of two files whose alphabets are right and fit.
-fn join_sheets(
-    first: &[u8],
-    second: &[u8],
-    sheet1: &[u8],
-    sheet2: &[u8],
-    area: &mut [u8],
-) -> Formed
+fn join_sheets(first: &[u8], second: &[u8], sheet1: &[u8], sheet2: &[u8], area: &mut [u8]) -> Formed
     requires { ⌜ Alphabets (now first) × Alphabets (now second) × (outputs (now first) ≡ inputs (now second)) × (longest ≤ length (now area)) ⌝ }
     ensures { λ r. ⌜ JoinsSheets (now (first .entry)) (now (second .entry)) (now (sheet1 .entry)) (now (sheet2 .entry)) (now (area .entry)) (now (area .exit)) r ⌝ }
 {
@@ -119,13 +120,7 @@ fn join_sheets(
 }
 
 // Writes the file of the transducer of the file `sheet2` after that of the file `sheet1` (02: the joined sheet).
-pub fn join(
-    first: &[u8],
-    second: &[u8],
-    sheet1: &[u8],
-    sheet2: &[u8],
-    area: &mut [u8],
-) -> Formed
+pub fn join(first: &[u8], second: &[u8], sheet1: &[u8], sheet2: &[u8], area: &mut [u8]) -> Formed
     ensures { λ r. ⌜ Joins (now (first .entry)) (now (second .entry)) (now (sheet1 .entry)) (now (sheet2 .entry)) (now (area .entry)) (now (area .exit)) r ⌝ }
 {
     if area.len() < 20483 {

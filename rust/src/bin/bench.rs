@@ -57,6 +57,9 @@ fn main() {
     println!("An entry minimizes the transducer and compares it with what is held. Both registries are as they");
     println!("were before each call. The size is that of the file.");
     entering();
+    println!();
+    println!("A join reads two transducers and writes the second after the first. The size is that of both files.");
+    joining();
     stylesheets(&cases);
     string_transducers();
 }
@@ -398,6 +401,98 @@ fn entry(name: &str, stock: &[u8], held: &[Vec<u8>], file: &[u8]) {
     line(&format!("enter, {name}: {outcome}"), file.len(), &mut || discard(black_box(proved())), &mut || {
         discard(black_box(independent()))
     });
+}
+
+/// Two transducers to join.
+struct Join {
+    name: &'static str,
+    stocks: [Vec<u8>; 2],
+    files: [Vec<u8>; 2],
+}
+
+/// The composition of two transducers.
+fn joining() {
+    for Join { name, stocks: [first_stock, second_stock], files: [first, second] } in joins() {
+        let area = RefCell::new(vec![1; independent::MAX_FILE]);
+        let proved = || {
+            let area = &mut area.borrow_mut()[..];
+            caplune::join(&first_stock, &second_stock, black_box(&first), &second, area)
+        };
+        let independent = || {
+            let area = &mut area.borrow_mut()[..];
+            independent::join_into(&first_stock, &second_stock, black_box(&first), &second, area)
+        };
+        let joined = proved().map(|form| area.borrow()[..form.length].to_vec()).map_err(caplune::Refusal::number);
+        assert_eq!(joined, independent::join(&first_stock, &second_stock, &first, &second), "{name}");
+        let outcome = match joined {
+            Ok(joined) => format!("{} met", joined[0]),
+            Err(number) => format!("refused by {number}"),
+        };
+        line(
+            &format!("join, {name}: {outcome}"),
+            first.len() + second.len(),
+            &mut || discard(black_box(proved())),
+            &mut || discard(black_box(independent())),
+        );
+    }
+}
+
+fn joins() -> Vec<Join> {
+    let join = |name, first_stock: &[u8], second_stock: &[u8], first, second| Join {
+        name,
+        stocks: [first_stock.to_vec(), second_stock.to_vec()],
+        files: [first, second],
+    };
+    let over = |symbols: usize, mark: [u8; 2]| [vec![0; 2 * symbols], mark.to_vec()].concat();
+    // T' of the paper's samples; and T with f of rank 2 for a
+    let t_prime = file(1, &[&[1, 0], &[0, 0, 1, 0, 1, 0], &[0, 0, 0, 1, 0, 1]]);
+    let t = file(1, &[&[0, 0, 1, 0, 1, 0], &[0, 0, 1, 0, 2, 0], &[0, 1]]);
+    // 15 symbols of rank 1 and one of rank 0 to g and c of ranks 1 and 0, and these to themselves
+    let (wide, narrow) = ([vec![16], vec![1; 15], vec![0, 2, 1, 0]].concat(), [2, 1, 0, 2, 1, 0]);
+    // a ring of states that has so many g for one
+    let stretching = |states: u8, symbols: usize| {
+        rows(states, 2, &[1, 0], &|state, symbol| match symbol {
+            0 => over(symbols, [1, (state + 1) % states]),
+            _ => vec![0, 1],
+        })
+    };
+    // a ring of states, with g over the next at each symbol of rank 1, and c at the other
+    let ring = rows(128, 16, &[1, 0], &|state, symbol| match symbol {
+        15 => vec![0, 1],
+        _ => over(1, [1, (state + 1) % 128]),
+    });
+    // at eight symbols another state alone, at seven the same one below g
+    let grid = rows(16, 16, &[1, 0], &|state, symbol| match symbol {
+        15 => vec![0, 1],
+        _ if symbol % 2 == 0 => vec![1, (state + 1 + symbol) % 16],
+        _ => over(1, [1, state]),
+    });
+    // 62 g over the next state, and c
+    let long = rows(127, 2, &[1, 0], &|state, symbol| match symbol {
+        0 => over(62, [1, (state + 1) % 127]),
+        _ => vec![0, 1],
+    });
+    // 63 g over the state itself, and c; then f(q(x1), q(x1)) for each g, with f and c of ranks 2 and 0
+    let doubled = file(1, &[&[1, 0], &over(63, [1, 0]), &[0, 1]]);
+    let doubling = file(1, &[&[1, 0], &[0, 0, 1, 0, 1, 0], &[0, 1]]);
+    // random states, and then the sub-trees in the other order
+    let random = sheets().into_iter().find(|sheet| sheet.name == "128 random states").expect("there is one");
+    let ranks = independent::read_alphabets(&random.stock).expect("the alphabets are read").outputs;
+    let mirror = rows(1, ranks.len() as u8, &[1, 0], &|_, symbol| {
+        let children = (1..=ranks[usize::from(symbol)]).rev();
+        [0, symbol].into_iter().chain(children.flat_map(|child| [child, 0])).collect()
+    });
+    let mirror_stock = [&[ranks.len() as u8], ranks, &[ranks.len() as u8], ranks].concat();
+    vec![
+        join("T after T'", &[2, 1, 0, 2, 2, 0], &[2, 2, 0, 2, 2, 0], t_prime, t),
+        join("128 random states, mirrored", &random.stock, &mirror_stock, random.file.clone(), mirror),
+        join("8 states after 16", &wide, &narrow, grid.clone(), stretching(8, 6)),
+        join("9 states after 16", &wide, &narrow, grid, stretching(9, 6)),
+        join("2,049 terms", &wide, &narrow, ring, stretching(1, 3)),
+        join("62 g erased, 127 times", &narrow, &narrow, long.clone(), stretching(1, 0)),
+        join("62 g kept, 127 times", &narrow, &narrow, long, stretching(1, 1)),
+        join("2^64 - 1 marks", &narrow, &[2, 1, 0, 2, 2, 0], doubled, doubling),
+    ]
 }
 
 /// The states in a ring or a chain: `side` gives the right-hand side of a state at a symbol.

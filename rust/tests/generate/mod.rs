@@ -4,6 +4,7 @@
 #![allow(dead_code)]
 
 pub mod alike;
+pub mod joins;
 pub mod rows;
 pub mod samples;
 
@@ -169,6 +170,11 @@ pub fn trees(ranks: &[u8], levels: usize, most: usize) -> Option<Vec<Vec<u8>>> {
         trees = next;
     }
     Some(trees)
+}
+
+/// All input trees up to the most levels with at most `most` trees, and up to 12.
+pub fn small_trees(ranks: &[u8], most: usize) -> Vec<Vec<u8>> {
+    (1..=12).map_while(|levels| trees(ranks, levels, most)).last().unwrap_or_default()
 }
 
 /// The number of nodes up to which all input trees are tried: not more than `most` trees.

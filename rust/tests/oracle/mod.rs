@@ -1,6 +1,6 @@
-//! Prefixes, earliest form and minimal transducer once more, by the definitions word for word and
-//! without a thought for speed: terms are trees, open ends are addresses, prefixes are the section's
-//! fixpoint iteration over trees, and states are merged by Moore's rounds.
+//! Prefixes, earliest form, minimal transducer and joined transducer once more, by the definitions word
+//! for word and without a thought for speed: terms are trees, open ends are addresses, prefixes are the
+//! section's fixpoint iteration over trees, and states are merged by Moore's rounds.
 use std::collections::HashMap;
 
 /// A term. The calls of the earliest form name a state and an address in its prefix.
@@ -257,5 +257,84 @@ impl Oracle {
             next += 1;
         }
         Plain { states: met.len(), terms }
+    }
+}
+
+/// Two transducers, the second of which runs on the output of the first.
+pub struct Join {
+    /// The initial terms and right-hand sides of the first and of the second.
+    terms: [Vec<Term>; 2],
+    /// The numbers of input symbols.
+    inputs: [usize; 2],
+}
+
+impl Join {
+    /// By the numbers of input symbols, the ranks of the output symbols, and the marks.
+    pub fn new(inputs: [usize; 2], outputs: [&[u8]; 2], marks: [&[u8]; 2]) -> Self {
+        let terms = [0, 1].map(|which| {
+            let mut marks = marks[which].iter();
+            std::iter::from_fn(|| (marks.len() > 0).then(|| Term::read(outputs[which], &mut marks))).collect()
+        });
+        Join { terms, inputs }
+    }
+
+    /// What a term of the second gives, its calls being on these trees: a call of the first that it meets
+    /// is the call of a pair, of which the second state stands as the address. `None` if it has more marks
+    /// than are left.
+    fn given(&self, term: &Term, trees: &[Term], left: &mut usize) -> Option<Term> {
+        if let Call(child, state, _) = term {
+            if let Symbol(symbol, below) = &trees[usize::from(*child) - 1] {
+                let side = 1 + usize::from(*state) * self.inputs[1] + usize::from(*symbol);
+                return self.given(&self.terms[1][side], below, left);
+            }
+        }
+        *left = left.checked_sub(1)?;
+        match term {
+            Symbol(symbol, below) => {
+                let below: Option<Vec<Term>> = below.iter().map(|term| self.given(term, trees, left)).collect();
+                Some(Symbol(*symbol, below?))
+            }
+            Call(child, second, _) => match &trees[usize::from(*child) - 1] {
+                Call(child, first, _) => Some(Call(*child, *first, vec![*second])),
+                _ => unreachable!("a term has no open ends"),
+            },
+            Open => unreachable!("a term has no open ends"),
+        }
+    }
+
+    /// The joined transducer; or which of its limits it passes first.
+    pub fn joined(&self) -> Result<Plain, &'static str> {
+        let mut met: Vec<(u8, u8)> = Vec::new();
+        let mut terms: Vec<Vec<u8>> = Vec::new();
+        let mut write = |term: &Term, tree: &Term, met: &mut Vec<(u8, u8)>| {
+            let given = self.given(term, std::slice::from_ref(tree), &mut 64).ok_or("over 64 marks in a term")?;
+            let mut name = |first: u8, second: &[u8]| {
+                let pair = (first, second[0]);
+                let number = met.iter().position(|&other| other == pair).unwrap_or_else(|| {
+                    met.push(pair);
+                    met.len() - 1
+                });
+                number as u8
+            };
+            let mut marks = Vec::new();
+            given.marks(&mut name, &mut marks);
+            terms.push(marks);
+            match terms.iter().map(Vec::len).sum::<usize>() {
+                _ if met.len() > 128 => Err("over 128 states"),
+                bytes if bytes > 2 * 8192 => Err("over 8,192 marks"),
+                _ => Ok(()),
+            }
+        };
+        write(&self.terms[1][0], &self.terms[0][0], &mut met)?;
+        let mut next = 0;
+        while next < met.len() {
+            let (first, second) = met[next];
+            for symbol in 0..self.inputs[0] {
+                let side = &self.terms[0][1 + usize::from(first) * self.inputs[0] + symbol];
+                write(&Call(1, second, vec![]), side, &mut met)?;
+            }
+            next += 1;
+        }
+        Ok(Plain { states: met.len(), terms })
     }
 }
