@@ -1,13 +1,17 @@
--- Ranked terms: their variables, substitution, subtrees.
+-- Ranked terms: their variables, substitution, subtrees, runs.
 -- Assumes nothing.
-use Prim.Native.Nat.{ℕ, suc}
+use Prim.Native.Nat.{ℕ, suc, _≤_, _<_}
+use native.Mathlib.Omega.{arith}
 use mathlib.Core.List.{List, [], _∷_}
 use mathlib.Core.Option.{some}
 use mathlib.Core.Path.{_≡_, _∙_, subst}
-use Rattle.theory.specs.Term.{Term, var, node, Terms, none, more, bind, binds, sub, subs}
+use lib.ListN.{getD}
+use Rattle.theory.specs.Term.{Term, Tree, var, node, Terms, none, more, count, bind, binds, sub, subs}
+use Rattle.theory.specs.Transducer.{Transducer, run, runs, pick, closed, output, translate}
 use Rattle.theory.specs.Vars.{AllVars, one, each, EachVars, done, both}
 use Rattle.theory.proofs.Terms.{conflict, count-binds}
-use Rattle.trees.specs.Code.{Ranked, AllRanked}
+use Rattle.trees.specs.Code.{Ranked, AllRanked, Call}
+use Rattle.formats.specs.Sheet.{OverAlphabets}
 
 module _ {A : Type 0} (P : A → Type 0) (outs : List ℕ) where
   mutual
@@ -50,3 +54,28 @@ module _ {A : Type 0} (P : A → Type 0) (outs : List ℕ) where
     ranked-subs (more t ts) ℕ.zero v c e = conflict (cc)
     ranked-subs (more t ts) (suc ℕ.zero) v c e = ranked-sub t v (c .0) e
     ranked-subs (more t ts) (suc (suc i)) v c e = ranked-subs ts (suc i) v (c .1) e
+
+-- ---- runs on ranked terms
+module _ {A : Type 0} (P : A → Type 0) {mids outs : List ℕ} {m : ℕ} {N : Transducer ℕ} (O : OverAlphabets mids outs m N) where
+  mutual
+    unfolding Ranked run runs pick count
+
+    -- what a state gives on a term over the inputs is over the outputs; a variable of it is one of the term's, met by a state
+    pub run-ranked : (t : Term A) → Ranked P mids t → (p : ℕ) → p < m → Ranked (λ e. P (e .0) × (e .1 < m)) outs (run N t p)
+    run-ranked (var x) c p h = (c, h)
+    run-ranked (node a ds) c p h =
+        ranked-bind (Call m (getD mids a 0)) outs (λ e. P (e .0) × (e .1 < m)) (λ e. pick (runs N ds) (e .0) (e .1))
+        (λ e k. picks-ranked ds (c .2) (e .0) (e .1) (k .from-one) (omega (arith, k .child, c .1)) (k .state)) (N .rhs p a) (O .rhs p a h (c .0))
+
+    picks-ranked : (ds : Terms A) → AllRanked P mids ds → (i p : ℕ) → 1 ≤ i → i ≤ count ds → p < m → Ranked (λ e. P (e .0) × (e .1 < m)) outs (pick (runs N ds) i p)
+    picks-ranked none c i p f g h = absurd (omega arith)
+    picks-ranked (more d ds) c ℕ.zero p f g h = absurd (omega arith)
+    picks-ranked (more d ds) c (suc ℕ.zero) p f g h = run-ranked d (c .0) p h
+    picks-ranked (more d ds) c (suc (suc i)) p f g h = picks-ranked ds (c .1) (suc i) p (omega arith) (omega arith) h
+
+-- what a transducer over two alphabets gives on an input tree is over the second
+pub translate-ranked : {ins outs : List ℕ} {n : ℕ} {M : Transducer ℕ} → OverAlphabets ins outs n M → (d : Tree) → Ranked (λ x. ⊥) ins d → Ranked (λ x. ⊥) outs (translate M d)
+unfolding translate output closed
+translate-ranked {ins} {outs} {n} {M} O d r =
+    ranked-bind (Call n 1) outs (λ x. ⊥) (λ e. output M d (e .1))
+    (λ e c. ranked-bind (λ e. ⊥ × (e .1 < n)) outs (λ x. ⊥) (λ e. absurd (e .0)) (λ e k. absurd (k .0)) _ (run-ranked (λ x. ⊥) O d r (e .1) (c .state))) (M .initial) (O .initial)

@@ -1,12 +1,9 @@
 -- What making a form promises whatever form it is: the contract determines the answer and the area.
 -- Assumes nothing.
 use Prim.Native.Nat.{ℕ, _≤_, _<_}
-use native.Mathlib.Omega.{arith}
 use mathlib.Core.List.{List}
-use mathlib.Core.Logic.{inl, inr}
-use mathlib.Core.Path.{_≡_, refl, ap, sym, _∙_}
+use mathlib.Core.Path.{_≡_, sym, _∙_}
 use lib.ListN.{length}
-use lib.Seq.{sets}
 use Rattle.theory.specs.Grammar.{Grammar}
 use Rattle.theory.specs.NormalForm.{Identical}
 use Rattle.theory.specs.Transducer.{Transducer}
@@ -14,42 +11,25 @@ use Rattle.theory.specs.Trimmed.{Trimmed}
 use Rattle.theory.specs.Wf.{Wf}
 use Rattle.theory.proofs.Trimming.{trimmed-same, trimmed-unique}
 use Rattle.trees.specs.Alphabets.{alphabetCheck}
-use Rattle.trees.specs.Code.{marks}
-use Rattle.trees.specs.Refusal.{Outcome, accepted, refused, Checks, done, check, judged}
-use Rattle.formats.specs.Sheet.{longest, file, sheetCheck}
-use Rattle.forms.proofs.Files.{encoded-wf, same-file, parts-same}
+use Rattle.trees.proofs.Judging.{one-answer}
+use Rattle.trees.specs.Refusal.{done, check}
+use Rattle.formats.specs.Sheet.{longest, sheetCheck}
+use Rattle.forms.proofs.Files.{encoded-wf, same-file, parts-same, file-one}
 use Rattle.forms.proofs.Leaves.{trimmed-leaf}
 use Rattle.earliest.specs.Answers.{EarliestFile, formCheck, MakesForm, MakesEarliest}
 use Rattle.forms.specs.Answers.{formOf, FileOf}
 use Rattle.forms.specs.declared.write.Formed.{Formed}
 
 -- ---- what is answered is determined
-module _ {A Kept Kept′ Same : Type 0} {Good Good′ : A → Type 0} (kept : Kept → Kept′ → Same) (good : (a a′ : A) → Good a → Good′ a′ → Same × (a ≡ a′)) where
-  both : (checks : Checks) (r r′ : Outcome A) → judged Kept Good checks r → judged Kept′ Good′ checks r′ → Same × (r ≡ r′)
-  unfolding judged
-  both done (accepted a) (accepted a′) j j′ = let w = good a a′ j j′ in (w .0, ap (λ x. accepted x) (w .1))
-  both done (accepted a) (refused k) j j′ = absurd j′
-  both done (refused k) r′ j j′ = absurd j
-  both (check k P rest) r r′ (inl (f, q, u)) (inl (f′, q′, u′)) = (kept u u′, q ∙ sym q′)
-  both (check k P rest) r r′ (inl (f, q, u)) (inr (p, j′)) = absurd (f p)
-  both (check k P rest) r r′ (inr (p, j)) (inl (f, q, u)) = absurd (f p)
-  both (check k P rest) r r′ (inr (p, j)) (inr (p′, j′)) = both rest r r′ j j′
-
 -- Where one file alone is of the form, the answer and the area are determined.
 pub made-one : {Form : ℕ → List ℕ → List ℕ → Type 0} → ((k k′ : ℕ) (counts counts′ bytes bytes′ : List ℕ) → Form k counts bytes → Form k′ counts′ bytes′ → (k ≡ k′) × (counts ≡ counts′) × (bytes ≡ bytes′))
     → {stock s before after after′ : List ℕ} (r r′ : Formed) → MakesForm Form stock s before after r → MakesForm Form stock s before after′ r′ → (after ≡ after′) × (formOf r ≡ formOf r′)
 made-one {Form} one {stock} {s} {before} {after} {after′} r r′ J J′ =
-    both (λ u u′. u ∙ sym u′) good (check 1 (longest ≤ length before) (alphabetCheck stock (sheetCheck stock s (formCheck stock s done)))) (formOf r) (formOf r′) (J .verdict) (J′ .verdict)
+    one-answer (λ u u′. u ∙ sym u′) (check 1 (longest ≤ length before) (alphabetCheck stock (sheetCheck stock s (formCheck stock s done)))) (formOf r) (formOf r′) (λ h. good) (J .verdict) (J′ .verdict)
   where
     good : (v v′ : ℕ × ℕ × ℕ) → (counts : List ℕ) × ((bytes : List ℕ) × (Form (v .0) counts bytes × FileOf v counts bytes before after))
         → (counts : List ℕ) × ((bytes : List ℕ) × (Form (v′ .0) counts bytes × FileOf v′ counts bytes before after′)) → (after ≡ after′) × (v ≡ v′)
-    good (k, m, n) (k′, m′, n′) (counts, (bytes, (F, O))) (counts′, (bytes′, (F′, O′))) =
-        let w = one k k′ counts counts′ bytes bytes′ F F′ in
-        let f : file k counts bytes ≡ file k′ counts′ bytes′ = rw (w .0, w .1, w .2) refl in
-        let x : k ≡ k′ = w .0 in
-        let y : m ≡ m′ = omega (arith, O .marks, O′ .marks, ap length (w .2)) in
-        let z : n ≡ n′ = O .size ∙ (ap length f ∙ sym (O′ .size)) in
-        (O .wrote ∙ (ap (sets before 0) f ∙ sym (O′ .wrote)), (cc))
+    good (k, m, n) (k′, m′, n′) (counts, (bytes, (F, O))) (counts′, (bytes′, (F′, O′))) = file-one O O′ (one k k′ counts counts′ bytes bytes′ F F′)
 
 -- the trimmed forms of identical transducers are identical
 trimmed-one : {G : Grammar} {M M′ N N′ : Transducer ℕ} {n n′ k k′ : ℕ} → Wf G M (λ q. q < n) → Wf G M′ (λ q. q < n′) → Identical G M′ M n′ n → Trimmed G M (λ q. q < n) N k → Trimmed G M′ (λ q. q < n′) N′ k′ → Identical G N N′ k k′

@@ -7,6 +7,7 @@ use mathlib.Core.List.{List}
 use mathlib.Core.Option.{some}
 use mathlib.Core.Path.{_≡_, refl, ap, sym, _∙_}
 use lib.ListN.{length, getD, replicate}
+use lib.Seq.{sets}
 use Rattle.theory.specs.NormalForm.{Identical}
 use Rattle.theory.specs.Transducer.{Transducer}
 use Rattle.theory.specs.Wf.{nth, Wf}
@@ -21,6 +22,7 @@ use Rattle.formats.proofs.Pairs.{number-less}
 use Rattle.formats.proofs.Sheets.{sheet-unique, counted-right, encodes-counted, encodes-wholes, encodes-unique, wholes-encodes, transducer-over}
 use Rattle.transducer.proofs.Outputs.{ranked-vars}
 use Rattle.forms.specs.Alphabet.{alphabet, children-inside, children-of}
+use Rattle.forms.specs.Answers.{FileOf}
 use Rattle.forms.specs.Inner.Tables.{Layout, Bounded}
 
 -- ---- the transducer of whole bodies is well-formed over the alphabet
@@ -97,3 +99,13 @@ module _ {ins outs : List ℕ} where
   -- so they have one file
   pub file-same : (l : Leaf ins) {n n′ : ℕ} {M M′ : Transducer ℕ} {counts counts′ bytes bytes′ : List ℕ} → Encodes ins outs n counts bytes M → Encodes ins outs n′ counts′ bytes′ M′ → Identical (alphabet ins l) M M′ n n′ → file n counts bytes ≡ file n′ counts′ bytes′
   file-same l E E′ i = let w = parts-same l E E′ i in rw (w .0, w .1, w .2) refl
+
+-- what is answered of one file, and the area that is left, are one
+pub file-one : {k k′ m m′ n n′ : ℕ} {counts counts′ bytes bytes′ before after after′ : List ℕ} → FileOf (k, m, n) counts bytes before after → FileOf (k′, m′, n′) counts′ bytes′ before after′
+    → (k ≡ k′) × (counts ≡ counts′) × (bytes ≡ bytes′) → (after ≡ after′) × (_≡_ {A = ℕ × ℕ × ℕ} (k, m, n) (k′, m′, n′))
+file-one {k} {k′} {m} {m′} {n} {n′} {counts} {counts′} {bytes} {bytes′} {before} O O′ w =
+    let f : file k counts bytes ≡ file k′ counts′ bytes′ = rw (w .0, w .1, w .2) refl in
+    let x : k ≡ k′ = w .0 in
+    let y : m ≡ m′ = omega (arith, O .marks, O′ .marks, ap length (w .2)) in
+    let z : n ≡ n′ = O .size ∙ (ap length f ∙ sym (O′ .size)) in
+    (O .wrote ∙ (ap (sets before 0) f ∙ sym (O′ .wrote)), (cc))

@@ -7,6 +7,7 @@ use mathlib.Core.List.{List}
 use mathlib.Core.Logic.{by-cases}
 use mathlib.Core.Path.{_≡_, ap, _∙_}
 use lib.ListN.{getD}
+use Rattle.theory.specs.Accessible.{Accessible}
 use Rattle.theory.specs.Discovered.{ReadRhs, no-rhs, skip-rhs, read-rhs, ReadStates, read-initial, read-state}
 use Rattle.theory.specs.Earliest.{Shows, Splits}
 use Rattle.theory.specs.Equivalent.{EquivStates}
@@ -70,3 +71,6 @@ module _ {ins : List ℕ} (l l′ : Leaf ins) {Q : Type 0} {M : Transducer Q} wh
 
   pub trimmed-leaf : {Valid : Q → Type 0} {N : Transducer ℕ} {k : ℕ} → Trimmed (alphabet ins l) M Valid N k → Trimmed (alphabet ins l′) M Valid N k
   trimmed-leaf T = record { prefix = T .prefix; prefs = λ q v. pref-leaf (T .prefs q v); states = T .states; number = T .number; numbers = T .numbers; met = states-leaf l l′ (T .met); form = identical-leaf l l′ (T .form) }
+
+  pub accessible-leaf : {N : Transducer ℕ} {k : ℕ} → Accessible (alphabet ins l) M N k → Accessible (alphabet ins l′) M N k
+  accessible-leaf A = record { states = A .states; number = A .number; numbers = A .numbers; met = states-leaf l l′ (A .met); form = identical-leaf l l′ (A .form) }

@@ -1,6 +1,6 @@
 -- The second transducer after the first, with a number for each pair of their states: its right-hand sides are over the inputs of the first and the outputs of the second, and call pairs.
 -- Assumes nothing.
-use Prim.Native.Nat.{ℕ, suc, _+_, _*_, _/_, _%_, _≤_, _<_}
+use Prim.Native.Nat.{ℕ, _+_, _*_, _/_, _%_, _≤_, _<_}
 use native.Mathlib.Omega.{arith}
 use mathlib.Core.List.{List}
 use mathlib.Core.Option.{some}
@@ -12,7 +12,7 @@ use Rattle.theory.specs.Inner.PairCodes.{pairCode, pairName}
 use Rattle.theory.specs.Joined.{OutputsIn}
 use Rattle.theory.specs.OpenTrees.{AllowedOpen, blank, rule-open, AllAllowedOpen, end-open, next-open}
 use Rattle.theory.specs.Term.{Term, var, node, Terms, none, more, mapT, count}
-use Rattle.theory.specs.Transducer.{Transducer, run, runs, pick, renamed}
+use Rattle.theory.specs.Transducer.{Transducer, run, renamed}
 use Rattle.theory.specs.Wf.{Wf}
 use Rattle.theory.proofs.Terms.{bind-bind}
 use Rattle.trees.specs.Alphabets.{Leaf, inputs, outputs}
@@ -21,7 +21,7 @@ use Rattle.formats.specs.Inner.Layout.{transducer}
 use Rattle.formats.specs.Sheet.{OverAlphabets}
 use Rattle.forms.specs.Alphabet.{alphabet, children-inside, children-of}
 use Rattle.discovery.specs.Inner.Discovering.{ValidCall, ByNumbers}
-use Rattle.discovery.proofs.Ranks.{ranked-bind}
+use Rattle.discovery.proofs.Ranks.{ranked-bind, run-ranked}
 use Rattle.join.specs.Inner.Pairs.{product, Pair, Tables}
 use Rattle.join.specs.Inner.Walked.{paired, tabled}
 use Rattle.join.proofs.Wider.{tabled-over, tabled-wf}
@@ -45,24 +45,6 @@ over-outputs {ins} {mids} {n} {M} O l l′ = record {
   initial = ranked-open (Call n 1) mids l′ (M .initial) (O .initial);
   rhs = λ q a h k. ranked-open (Call n (getD ins a 0)) mids l′ (M .rhs q a) (O .rhs q a h (children-inside ins a k .0));
 }
-
--- ---- runs on ranked terms
-module _ {A : Type 0} (P : A → Type 0) {mids outs : List ℕ} {m : ℕ} {N : Transducer ℕ} (O : OverAlphabets mids outs m N) where
-  mutual
-    unfolding Ranked run runs pick count
-
-    -- what a state gives on a term over the inputs is over the outputs; a variable of it is one of the term's, met by a state
-    pub run-ranked : (t : Term A) → Ranked P mids t → (p : ℕ) → p < m → Ranked (λ e. P (e .0) × (e .1 < m)) outs (run N t p)
-    run-ranked (var x) c p h = (c, h)
-    run-ranked (node a ds) c p h =
-        ranked-bind (Call m (getD mids a 0)) outs (λ e. P (e .0) × (e .1 < m)) (λ e. pick (runs N ds) (e .0) (e .1))
-        (λ e k. picks-ranked ds (c .2) (e .0) (e .1) (k .from-one) (omega (arith, k .child, c .1)) (k .state)) (N .rhs p a) (O .rhs p a h (c .0))
-
-    picks-ranked : (ds : Terms A) → AllRanked P mids ds → (i p : ℕ) → 1 ≤ i → i ≤ count ds → p < m → Ranked (λ e. P (e .0) × (e .1 < m)) outs (pick (runs N ds) i p)
-    picks-ranked none c i p f g h = absurd (omega arith)
-    picks-ranked (more d ds) c ℕ.zero p f g h = absurd (omega arith)
-    picks-ranked (more d ds) c (suc ℕ.zero) p f g h = run-ranked d (c .0) p h
-    picks-ranked (more d ds) c (suc (suc i)) p f g h = picks-ranked ds (c .1) (suc i) p (omega arith) (omega arith) h
 
 -- ---- pairs by their numbers
 -- the calls that state p meets are calls of pairs

@@ -5,7 +5,7 @@ use mathlib.Core.Path.{_≡_}
 use lib.ListN.{length}
 use Rattle.theory.specs.Joined.{Joined}
 use Rattle.theory.specs.Transducer.{Transducer}
-use Rattle.trees.specs.Alphabets.{Alphabets, inputs, outputs, alphabetCheck}
+use Rattle.trees.specs.Alphabets.{Alphabets, inputs, outputs, stock as stockFile, alphabetCheck}
 use Rattle.trees.specs.Refusal.{Checks, done, check, Judged}
 use Rattle.formats.specs.Sheet.{longest, Encodes, Sheet, sheetCheck}
 use Rattle.forms.specs.Alphabet.{alphabet}
@@ -16,7 +16,11 @@ use Rattle.forms.specs.Answers.{formOf, FileOf}
 abbrev pub fitCheck : List ℕ → List ℕ → Checks → Checks
 fitCheck stock stock′ rest = check 16 (outputs stock ≡ inputs stock′) rest
 
--- k, the counts and the marks are those of the transducer of the file s′ after that of the file s (02: the joined sheet), which is over the inputs of the first stock and the outputs of the second; so it is within the limits of a file
+-- the alphabets of the joined transducer: the inputs of the first stock and the outputs of the second
+abbrev pub joinedStock : List ℕ → List ℕ → List ℕ
+joinedStock stock stock′ = stockFile (inputs stock) (outputs stock′)
+
+-- k, the counts and the marks are those of the transducer of the file s′ after that of the file s (02: the joined sheet); so it is within the limits of a file
 pub record JoinedFile (stock stock′ s s′ : List ℕ) (k : ℕ) (counts bytes : List ℕ) : Type 0 where
   pub alphabets : Alphabets stock
   pub states : ℕ

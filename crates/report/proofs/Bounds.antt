@@ -9,13 +9,9 @@ use mathlib.Core.Path.{_≡_}
 use lib.ListN.{length, getD, length-append}
 use Rattle.theory.specs.Size.{size}
 use Rattle.theory.specs.Term.{Tree, Symbol, var, node, Terms, none, more, count, sub, subs, root, symbolAt}
-use Rattle.theory.specs.Transducer.{Transducer, output, translate, run, pick}
-use Rattle.theory.proofs.Runs.{output-node, call as called-tree}
 use Rattle.theory.proofs.Terms.{conflict}
-use Rattle.trees.specs.Code.{Ranked, AllRanked, Call, preorder, preorders, code}
-use Rattle.formats.specs.Sheet.{OverAlphabets}
+use Rattle.trees.specs.Code.{Ranked, AllRanked, preorder, preorders, code}
 use Rattle.transducer.proofs.Outputs.{code-size}
-use Rattle.discovery.proofs.Ranks.{ranked-bind}
 use Rattle.report.specs.Text.{numberText, rest, separated, placeText}
 use Rattle.report.proofs.Decimals.{number-one, number-two}
 
@@ -52,25 +48,6 @@ module _ (ins : List ℕ) where
     codes-low : (ts : Terms ⊥) → AllRanked (λ x. ⊥) ins ts → Low (length ins) (preorders (λ x. absurd x) (λ k. k) ts)
     codes-low none r = tt
     codes-low (more t ts) r = low-append (length ins) (code t) (preorders (λ x. absurd x) (λ k. k) ts) (code-low t (r .0)) (codes-low ts (r .1))
-
--- ---- an output tree is over the output alphabet
-module _ {ins outs : List ℕ} {n : ℕ} {M : Transducer ℕ} (O : OverAlphabets ins outs n M) where
-  mutual
-    unfolding Ranked called-tree pick run output count
-
-    output-ranked : (d : Tree) (q : ℕ) → Ranked (λ x. ⊥) ins d → q < n → Ranked (λ x. ⊥) outs (output M d q)
-    output-ranked (var x) q r h = absurd x
-    output-ranked (node a ds) q r h = rw (output-node M q a ds) (ranked-bind (Call n (getD ins a 0)) outs (λ x. ⊥) (called-tree M ds) (λ e c. called-ranked ds (e .0) (e .1) (r .2) (c .from-one) (omega (arith, c .child, r .1)) (c .state)) (M .rhs q a) (O .rhs q a h (r .0)))
-
-    called-ranked : (ds : Terms ⊥) (i q : ℕ) → AllRanked (λ x. ⊥) ins ds → 1 ≤ i → i ≤ count ds → q < n → Ranked (λ x. ⊥) outs (called-tree M ds (i, q))
-    called-ranked none i q r h l k = absurd (omega arith)
-    called-ranked (more d ds) ℕ.zero q r h l k = absurd (omega arith)
-    called-ranked (more d ds) (suc ℕ.zero) q r h l k = output-ranked d q (r .0) k
-    called-ranked (more d ds) (suc (suc i)) q r h l k = called-ranked ds (suc i) q (r .1) (omega arith) (omega arith) k
-
-  pub translate-ranked : (d : Tree) → Ranked (λ x. ⊥) ins d → Ranked (λ x. ⊥) outs (translate M d)
-  unfolding translate
-  translate-ranked d r = ranked-bind (Call n 1) outs (λ x. ⊥) (λ e. output M d (e .1)) (λ e c. output-ranked d (e .1) r (c .state)) (M .initial) (O .initial)
 
 -- ---- an address at which a tree over an alphabet has a symbol, and the symbol
 module _ (outs : List ℕ) (low : (k : ℕ) → k < length outs → getD outs k 0 ≤ 4) where

@@ -30,7 +30,8 @@ use Rattle.report.specs.Answers.{textArea, Sizes, Shows, Report, Lines, 
 use Rattle.report.specs.Inner.Writing.{Wrote, cleanCheck, WroteNormal, WroteBoth}
 use Rattle.report.specs.Text.{separated, firstWord, secondWord, refusedLine, sizesLine, alikeLine, placeText, differLine}
 use Rattle.report.specs.declared.report.Reported.the-variants as reported
-use Rattle.report.proofs.Bounds.{translate-ranked, address-low, tree-long, address-long}
+use Rattle.discovery.proofs.Ranks.{translate-ranked}
+use Rattle.report.proofs.Bounds.{address-low, tree-long, address-long}
 use Rattle.report.proofs.Decimals.{number-three, number-four}
 use Rattle.report.proofs.Pieces.{then, sizes-long, differ-long}
 

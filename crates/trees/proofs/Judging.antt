@@ -122,3 +122,15 @@ module _ {A : Type 0} (Kept : Type 0) (Good Good′ : A → Type 0) (better : (a
 
 pub better-answer : {A Kept : Type 0} {Good Good′ : A → Type 0} {checks : Checks} {r : Outcome A} → ((a : A) → Good a → Good′ a) → Judged Kept Good checks r → Judged Kept Good′ checks r
 better-answer {Kept} {Good} {Good′} {checks} {r} better j = record { verdict = same-checks Kept Good Good′ better checks r (j .verdict) }
+
+-- two answers under the same checks are one, if values that are good are where all checks hold
+module _ {A Kept Kept′ Same : Type 0} {Good Good′ : A → Type 0} (kept : Kept → Kept′ → Same) where
+  pub one-answer : (checks : Checks) (r r′ : Outcome A) → (Holds checks → (a a′ : A) → Good a → Good′ a′ → Same × (a ≡ a′)) → judged Kept Good checks r → judged Kept′ Good′ checks r′ → Same × (r ≡ r′)
+  unfolding judged Holds
+  one-answer done (accepted a) (accepted a′) good j j′ = let w = good tt a a′ j j′ in (w .0, ap (λ x. accepted x) (w .1))
+  one-answer done (accepted a) (refused k) good j j′ = absurd j′
+  one-answer done (refused k) r′ good j j′ = absurd j
+  one-answer (check k P rest) r r′ good (inl (f, q, u)) (inl (f′, q′, u′)) = (kept u u′, q ∙ sym q′)
+  one-answer (check k P rest) r r′ good (inl (f, q, u)) (inr (p, j′)) = absurd (f p)
+  one-answer (check k P rest) r r′ good (inr (p, j)) (inl (f, q, u)) = absurd (f p)
+  one-answer (check k P rest) r r′ good (inr (p, j)) (inr (p′, j′)) = one-answer rest r r′ (λ h. good (p, h)) j j′

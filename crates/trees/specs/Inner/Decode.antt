@@ -6,7 +6,7 @@ use mathlib.Core.List.{List, [], _∷_}
 use mathlib.Core.Path.{_≡_}
 use lib.Dec.{leb}
 use lib.ListN.{length}
-use Rattle.theory.specs.Inner.Forests.{letters, lettersAll}
+use Rattle.theory.specs.Inner.Forests.{lettersAll}
 use Rattle.theory.specs.Term.{Term, var, node, Terms, none, more, count}
 
 -- what a letter says: a variable, a symbol with its rank, or nothing known
