@@ -113,8 +113,8 @@ module _ {stock starts bytes s ends : List ℕ} {p k : ℕ} (R : Ready stock sta
     call-here : CallFirst i x (termsAt (inputs stock) s (k + 1)) (termsAt (inputs stock) s k)
     call-here = rw (e, f) (call-at (R .ended .body) k (R .place) (rw e at some))
 
-    pub letter-small : 65536 * i + 128 * x + p < 4294967296
-    letter-small = omega (arith, call-here .child, call-here .state, ready-few .0)
+    pub letter-bounds : (i ≤ 4) × (x < 128) × (p < 128)
+    letter-bounds = (call-here .child, call-here .state, ready-few .0)
 
     pub apply-call : applied stock starts bytes s p k ≡ (65536 * i + 128 * x + p) ∷ []
     unfolding applied run first paired preorder pairCode renamed mapT bind assoc

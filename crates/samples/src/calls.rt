@@ -9,6 +9,7 @@ use formats::file::FileRead;
 use formats::file::FileWritten;
 use formats::file::read_transducer;
 use formats::file::write_transducer;
+use join::join::join;
 use queries::address::Found;
 use queries::address::symbol_at;
 use queries::linear::LinearTest;
@@ -130,4 +131,18 @@ pub(crate) fn pair<'a>(
         }
         Comparison::Refused(r) => answer::refused(r),
     }
+}
+
+// The second sheet after the first.
+pub(crate) fn joining(
+    first: &[u8],
+    second: &[u8],
+    sheet1: &[u8],
+    sheet2: &[u8],
+    area: &mut [u8],
+    shown: usize,
+) {
+    answer::form(b"joined ", join(first, second, sheet1, sheet2, area));
+    answer::text(b"\n");
+    answer::area_starts(area, shown);
 }

@@ -7,6 +7,7 @@
 //     cleaning AREA AREA SHOWN: a stock, a sheet; the first area is for the trimmed sheet, the other for the clean one
 //     writing AREA SHOWN PASSES: a stock, counts, marks
 //     pair AREA AREA: a stock, two sheets; the first area is for the design, the other for the place
+//     joining AREA SHOWN: two stocks, two sheets
 //
 // AREA is the length of an area, and SHOWN how many bytes of the first one are printed on a line of their own; none, if it is 0.
 ghost use Prim.Native.Nat.{_≤_};
@@ -29,19 +30,19 @@ fn is_call(word: &[u8], k: usize) -> bool {
     same(
         word,
         nth(
-            b"is stock design sheet counts marks single place sewing cleaning writing pair",
+            b"is stock design sheet counts marks single place sewing cleaning writing pair joining",
             k,
             b' ',
         ),
     )
 }
 
-// The number of the call; 12, if there is none.
+// The number of the call; 13, if there is none.
 fn call_number(word: &[u8]) -> usize
-    ensures { λ r. ⌜ r ≤ 12 ⌝ }
+    ensures { λ r. ⌜ r ≤ 13 ⌝ }
 {
     let mut k = 0;
-    while k < 12 {
+    while k < 13 {
         if is_call(word, k) {
             return k;
         }
@@ -50,17 +51,17 @@ fn call_number(word: &[u8]) -> usize
     k
 }
 
-// The call that a line asks for; 12, if its files could not be read, or are not as many as the call takes, or its numbers are not:
+// The call that a line asks for; 13, if its files could not be read, or are not as many as the call takes, or its numbers are not:
 // the two digits here.
 fn asked(s: &[u8], call: &[u8], end: usize) -> usize {
     let files = wrapping_sub_usize(count(s, b'|'), 1);
     let numbers = wrapping_sub_usize(count(call, b' '), 2);
-    let takes: [usize; 13] = [10, 10, 20, 20, 20, 20, 20, 40, 31, 23, 33, 32, 99];
+    let takes: [usize; 14] = [10, 10, 20, 20, 20, 20, 20, 40, 31, 23, 33, 32, 42, 99];
     let k = call_number(nth(call, 1, b' '));
     if end <= 65536 && takes[k] / 10 == files && takes[k] % 10 == numbers {
         k
     } else {
-        12
+        13
     }
 }
 
@@ -71,6 +72,7 @@ fn lent<'a>(
     a: &[u8],
     b: &'a [u8],
     c: &'a [u8],
+    d: &[u8],
     area: &mut [u8],
     other: &mut [u8],
 ) {
@@ -79,6 +81,7 @@ fn lent<'a>(
         9 => calls::cleaning(a, b, area, other, x),
         10 => calls::writing(a, b, c, x, area, other.len()),
         11 => calls::pair(a, b, c, area, other),
+        12 => calls::joining(a, b, c, d, area, other.len()),
         _ => answer::bad_line(),
     }
 }
@@ -90,6 +93,7 @@ fn lend<'a>(
     a: &[u8],
     b: &'a [u8],
     c: &'a [u8],
+    d: &[u8],
     area: &mut [u8],
     other: &mut [u8],
 ) {
@@ -99,17 +103,17 @@ fn lend<'a>(
     if n <= area.len() {
         if m <= other.len() {
             if x != NO_NUMBER {
-                return lent(k, x, a, b, c, &mut area[0..n], &mut other[0..m]);
+                return lent(k, x, a, b, c, d, &mut area[0..n], &mut other[0..m]);
             }
         }
     }
     answer::bad_line();
 }
 
-fn with_areas<'a>(k: usize, call: &[u8], a: &[u8], b: &'a [u8], c: &'a [u8]) {
+fn with_areas<'a>(k: usize, call: &[u8], a: &[u8], b: &'a [u8], c: &'a [u8], d: &[u8]) {
     let mut area = [7u8; 20483];
     let mut other = [7u8; 20483];
-    lend(k, call, a, b, c, &mut area, &mut other);
+    lend(k, call, a, b, c, d, &mut area, &mut other);
 }
 
 // The files end at these places of the store.
@@ -117,6 +121,7 @@ fn answer_call(k: usize, call: &[u8], store: &[u8], kept: usize, ends: [usize; 4
     let a = between(store, kept, ends[0]);
     let b = between(store, ends[0], ends[1]);
     let c = between(store, ends[1], ends[2]);
+    let d = between(store, ends[2], ends[3]);
     match k {
         1 => calls::stock(a),
         2 => calls::design(a, b),
@@ -124,8 +129,8 @@ fn answer_call(k: usize, call: &[u8], store: &[u8], kept: usize, ends: [usize; 4
         4 => answer::handed(transducer_counts(a, b)),
         5 => answer::handed(transducer_marks(a, b)),
         6 => calls::single(a, b),
-        7 => calls::place(a, b, c, between(store, ends[2], ends[3])),
-        _ => with_areas(k, call, a, b, c),
+        7 => calls::place(a, b, c, d),
+        _ => with_areas(k, call, a, b, c, d),
     }
 }
 

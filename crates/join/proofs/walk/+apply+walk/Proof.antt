@@ -8,7 +8,7 @@ use denote.Ref.{now}
 use borrow.Author.Needs.{needs}
 use Rattle.join.specs.Inner.Walked.{applied, walked}
 use Rattle.transducer.proofs.Filling.{Filling, begin, one-more, word-more, wrote-as, passed, finish}
-use Rattle.join.proofs.Walks.{walk-symbol, walk-end, ready-few, letter-small, apply-call, symbol-fits, body-few, body-walk, apply-walk, to-skip, child-after, to-apply, call-walk}
+use Rattle.join.proofs.Walks.{walk-symbol, walk-end, ready-few, letter-bounds, apply-call, symbol-fits, body-few, body-walk, apply-walk, to-skip, child-after, to-apply, call-walk}
 use borrow.Fn.Kinds.{In}
 use borrow.Fn.PlainCycle.{Measures, is, falls, and}
 use Rattle.join.proofs.walk.apply.Reads as apply
@@ -73,19 +73,19 @@ apply-wide-requires-2 : (t : ℕ) → apply-lts.Need-wide-requires-2 (apply-told
 apply-wide-requires-2 t c κs = search needs
 
 apply-mul-put : (t : ℕ) → apply-lts.Need-mul-put (apply-told t) (apply-at t) apply.Post
-apply-mul-put t c = omega (arith, letter-small (c .before .before .before .before .before .before .before .before .before .pre .1 .0) (c .before .before .before .before .wide .ensures) (c .before .before .wide2 .ensures) (c .before .if1 .taken))
+apply-mul-put t c = omega (arith, letter-bounds (c .before .before .before .before .before .before .before .before .before .pre .1 .0) (c .before .before .before .before .wide .ensures) (c .before .before .wide2 .ensures) (c .before .if1 .taken))
 
 apply-mul-put-2 : (t : ℕ) → apply-lts.Need-mul-put-2 (apply-told t) (apply-at t) apply.Post
-apply-mul-put-2 t c = omega (arith, letter-small (c .before .before .before .before .before .before .before .before .before .pre .1 .0) (c .before .before .before .before .wide .ensures) (c .before .before .wide2 .ensures) (c .before .if1 .taken))
+apply-mul-put-2 t c = omega (arith, letter-bounds (c .before .before .before .before .before .before .before .before .before .pre .1 .0) (c .before .before .before .before .wide .ensures) (c .before .before .wide2 .ensures) (c .before .if1 .taken))
 
 apply-add-put : (t : ℕ) → apply-lts.Need-add-put (apply-told t) (apply-at t) apply.Post
-apply-add-put t c = omega (arith, letter-small (c .before .before .before .before .before .before .before .before .before .pre .1 .0) (c .before .before .before .before .wide .ensures) (c .before .before .wide2 .ensures) (c .before .if1 .taken))
+apply-add-put t c = omega (arith, letter-bounds (c .before .before .before .before .before .before .before .before .before .pre .1 .0) (c .before .before .before .before .wide .ensures) (c .before .before .wide2 .ensures) (c .before .if1 .taken))
 
 apply-add-put-2 : (t : ℕ) → apply-lts.Need-add-put-2 (apply-told t) (apply-at t) apply.Post
-apply-add-put-2 t c = omega (arith, letter-small (c .before .before .before .before .before .before .before .before .before .pre .1 .0) (c .before .before .before .before .wide .ensures) (c .before .before .wide2 .ensures) (c .before .if1 .taken))
+apply-add-put-2 t c = omega (arith, letter-bounds (c .before .before .before .before .before .before .before .before .before .pre .1 .0) (c .before .before .before .before .wide .ensures) (c .before .before .wide2 .ensures) (c .before .if1 .taken))
 
 apply-put-requires : (t : ℕ) → apply-lts.Need-put-requires (apply-told t) (apply-at t) apply.Post
-apply-put-requires t c κs = (c .before .before .before .before .before .before .before .before .before .pre .1 .1 .inside, letter-small (c .before .before .before .before .before .before .before .before .before .pre .1 .0) (c .before .before .before .before .wide .ensures) (c .before .before .wide2 .ensures) (c .before .if1 .taken))
+apply-put-requires t c κs = (c .before .before .before .before .before .before .before .before .before .pre .1 .1 .inside, omega (arith, letter-bounds (c .before .before .before .before .before .before .before .before .before .pre .1 .0) (c .before .before .before .before .wide .ensures) (c .before .before .wide2 .ensures) (c .before .if1 .taken)))
 
 apply-add-result : (t : ℕ) → apply-lts.Need-add-result (apply-told t) (apply-at t) apply.Post
 apply-add-result t c = search needs
