@@ -71,8 +71,8 @@ three-one : {a b c s t u x y z w : List ℕ} → JoinsTo a b s t x → JoinsTo (
 three-one A B C D = same-three (written A .fits) (written C .fits) (written C .alphabets′) (written A .joined) (file-is A) (written B .joined) (file-is B) (written C .joined) (file-is C) (written D .joined) (file-is D)
 
 -- what is joined with a joined sheet is over the inputs of the first
-first-inputs : {a b c x u y : List ℕ} (Q : JoinsTo (joinedStock a b) c x u y) → Sheet (inputs a) (outputs c) y (Q .wrote .values .0) (written Q .joined .form)
-first-inputs {a} {b} Q = rw (stock-reads (inputs a) (outputs b)) at (sheet-is Q)
+first-inputs : (a b : List ℕ) {c x u y : List ℕ} (Q : JoinsTo (joinedStock a b) c x u y) → Sheet (inputs a) (outputs c) y (Q .wrote .values .0) (written Q .joined .form)
+first-inputs a b Q = rw (stock-reads (inputs a) (outputs b)) at (sheet-is Q)
 
 pub joining : Request9
 joining = record {
@@ -80,7 +80,7 @@ joining = record {
   plan-of-plan = λ Q O O′. output-of (written Q .joined) (file-is Q) (written Q .fits) O O′;
   stands = λ Q. stands-there Q;
   one = λ Q R. let u = join-unique (written Q .alphabets′) (written Q .fits) (written Q .joined) (written R .joined) in file-is Q ∙ (same-file-bytes (u .0) (u .1) (u .2) ∙ sym (file-is R));
-  three = λ {a} {b} {c} {y = y} A B C D. subst (λ v. SewAlike (joinedStock a c) y v) (three-one A B C D) (sews-alike a c (first-inputs B) (first-inputs B) (λ d r. refl));
+  three = λ {a} {b} {c} {y = y} A B C D. subst (λ v. SewAlike (joinedStock a c) y v) (three-one A B C D) (sews-alike a c (first-inputs a b B) (first-inputs a b B) (λ d r. refl));
   three-same = three-one;
   alike-first = λ {a} {b} E Q R. sews-alike a b (sheet-is Q) (sheet-is R) (join-alike-first (written Q .fits) (written Q .joined) (written R .joined) (alike-machines E (written Q .joined .sheet) (written R .joined .sheet)));
   alike-second = λ {a} {b} E Q R. sews-alike a b (sheet-is Q) (sheet-is R) (join-alike-second (written Q .fits) (written Q .joined) (written R .joined) (alike-machines E (written Q .joined .sheet′) (written R .joined .sheet′)));
