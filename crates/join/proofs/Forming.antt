@@ -36,9 +36,9 @@ use Rattle.discovery.specs.Inner.Discovering.{Discovers}
 use Rattle.join.specs.Answers.{JoinedFile, joinCheck}
 use Rattle.join.specs.Inner.Pairs.{product, Tables}
 use Rattle.join.specs.Inner.Parts.{StockJoined, Joinable, JoinedOf, JoinsParts, JoinsFile, JoinsSheets}
-use Rattle.join.specs.Inner.Walked.{tabled}
+use Rattle.runs.specs.Inner.Walked.{tabled}
 use Rattle.join.proofs.Numbers.{over-outputs, first-wf, second-wf, first-outputs}
-use Rattle.join.proofs.Wider.{tabled-same}
+use Rattle.runs.proofs.Wider.{tabled-same}
 
 -- ---- by the tables
 module _ {stock stock′ starts bytes starts′ bytes′ : List ℕ} (T : Tables stock stock′ starts bytes starts′ bytes′) (l : Leaf (inputs stock)) where
@@ -53,7 +53,7 @@ module _ {stock stock′ starts bytes starts′ bytes′ : List ℕ} (T : Tables
       }
 
   -- and what it finds is the joined transducer
-  pub tables-joined : {starts″ out : List ℕ} {r : FormSize} → Discovers (inputs stock) (outputs stock′) (product stock stock′ starts bytes starts′ bytes′) starts″ out r → (k : ℕ) → r ≡ States k
+  tables-joined : {starts″ out : List ℕ} {r : FormSize} → Discovers (inputs stock) (outputs stock′) (product stock stock′ starts bytes starts′ bytes′) starts″ out r → (k : ℕ) → r ≡ States k
       → Joined (alphabet (inputs stock) l) (tabled (inputs stock) (inputs stock′) starts bytes) (tabled (inputs stock′) (outputs stock′) starts′ bytes′) (machine (inputs stock) (outputs stock′) starts″ out k) k
   unfolding product
   tables-joined G k e =
@@ -78,8 +78,8 @@ module _ {stock stock′ : List ℕ} {n : ℕ} {counts bytes : List ℕ} {m : �
   tables-of = record {
     alphabets = X .first .alphabets;
     alphabets′ = X .second .alphabets;
-    first = record { states = n; layout = first-layout; all-starts = long };
-    second = record { states = m; layout = second-layout; all-starts = long′ };
+    first = record { states = n; layout = first-layout };
+    second = record { states = m; layout = second-layout };
   }
 
   -- transducers with these parts are those that are read from the tables
@@ -112,7 +112,7 @@ pub stock-lent : {stock stock′ area : List ℕ} {r : ℕ} → StockJoined stoc
 stock-lent {area = area} {r = r} K = let z : r - 0 ≡ r = omega arith in ap (λ k. take k area) z ∙ K .coded
 
 -- they are right
-pub stock-alphabets : {stock stock′ : List ℕ} → Alphabets stock → Alphabets stock′ → Alphabets (stockFile (inputs stock) (outputs stock′))
+stock-alphabets : {stock stock′ : List ℕ} → Alphabets stock → Alphabets stock′ → Alphabets (stockFile (inputs stock) (outputs stock′))
 stock-alphabets A A′ = stock-right (A .ins) (A′ .outs) (A .leaf)
 
 module _ {stock stock′ : List ℕ} {n : ℕ} {counts bytes : List ℕ} {m : ℕ} {counts′ bytes′ starts out : List ℕ} {found : FormSize}

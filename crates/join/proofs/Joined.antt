@@ -24,10 +24,10 @@ use Rattle.forms.proofs.Files.{number-fits}
 use Rattle.forms.proofs.Slices.{slice-from}
 use Rattle.discovery.specs.Inner.Letters.{callLetter, spelt}
 use Rattle.join.specs.Inner.Pairs.{product, Pair, Tables}
-use Rattle.join.specs.Inner.Walked.{bodyMark, termsAt, marksOf, tabled, paired, answered, applied, walked, IsBody, Ended, Ready, Walkable}
+use Rattle.runs.specs.Inner.Walked.{bodyMark, termsAt, marksOf, tabled, paired, answered, applied, walked, IsBody, Ended, Ready, Walkable}
 use Rattle.transducer.proofs.Places.{in-list}
-use Rattle.join.proofs.Walks.{initial-read, pick-rests}
-use Rattle.join.proofs.Wider.{wider-forest, wider-whole}
+use Rattle.runs.proofs.Walks.{initial-read, pick-rests}
+use Rattle.runs.proofs.Wider.{wider-forest, wider-whole}
 
 -- ---- the marks of a body, as a part of the file
 pairs-drop : (f : ℕ) (s : List ℕ) → 2 * f ≤ length s → pairs (drop (2 * f) s) ≡ drop f (pairs s)
@@ -175,7 +175,6 @@ module _ {stock stock′ starts bytes starts′ bytes′ : List ℕ} (T : Tables
         ended = E;
         ordered = rw (g′, h′) (T .second .layout .bounds .ordered 0 (omega arith));
         inside = second-inside;
-        below-inside = omega arith;
         callable = λ j u v w.
             let inside = pairs-length bytes′ t′ second-inside in
             let d = getD-slice f′ t′ (j - f′) (pairs bytes′) inside (omega (arith, length-slice f′ t′ (pairs bytes′) inside)) in

@@ -1,10 +1,6 @@
--- Laws of joining two transducers. Marks: the marks of a right-hand side, and the ends of its terms.
--- Wider: a right-hand side read with more states and children. Walks: what the second transducer writes on a right-hand side of the first. Joined: the right-hand sides of the joined transducer.
+-- Laws of joining two transducers. Joined: the right-hand sides of the joined transducer.
 -- Stocks: the file of its alphabets. Numbers: the pairs by their numbers. Adding: its right-hand sides, one by one.
 -- Forming: the joined transducer of tables, of parts and of files. Entering: what the functions on the way there ask. Laws: the joined transducer translates as the second after the first; the contract determines the answer; alike files; three files.
-pub mod Marks
-pub mod Wider
-pub mod Walks
 pub mod Joined
 pub mod Stocks
 pub mod Numbers

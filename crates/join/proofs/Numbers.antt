@@ -23,8 +23,8 @@ use Rattle.forms.specs.Alphabet.{alphabet, children-inside, children-of}
 use Rattle.discovery.specs.Inner.Discovering.{ValidCall, ByNumbers}
 use Rattle.discovery.proofs.Ranks.{ranked-bind, run-ranked}
 use Rattle.join.specs.Inner.Pairs.{product, Pair, Tables}
-use Rattle.join.specs.Inner.Walked.{paired, tabled}
-use Rattle.join.proofs.Wider.{tabled-over, tabled-wf}
+use Rattle.runs.specs.Inner.Walked.{paired, tabled}
+use Rattle.runs.proofs.Wider.{tabled-over, tabled-wf}
 
 -- ---- the outputs of a transducer over two alphabets are trees over the second
 module _ {A : Type 0} (P : A → Type 0) (ins : List ℕ) (l : Leaf ins) where

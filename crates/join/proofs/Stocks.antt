@@ -37,7 +37,6 @@ module _ {first second ins outs : List ℕ} (A : Alphabets first) (B : Alphabets
   pub stock-joined : (area : List ℕ) {area′ area″ : List ℕ} → length area ≡ 82 → area′ ≡ sets (set area 0 (length ins)) 1 ins → area″ ≡ sets (set area′ (2 + length ins - 1) (length outs)) (2 + length ins) outs
       → StockJoined first second area″ (2 + length ins + length outs)
   stock-joined area {area″ = area″} l e f = record {
-    short = omega (arith, inputs-few, outputs-few);
     inside = omega (arith, inputs-few, outputs-few, ap length (stock-put ins outs area e f), length-sets area 0 (stockFile ins outs));
     coded = written-take (stockFile ins outs) area area″ (2 + length ins + length outs) (sym (stock-size ins outs area)) (omega (arith, stock-size ins outs area, inputs-few, outputs-few)) (stock-put ins outs area e f) ∙ ap₂ stockFile i o;
   }

@@ -9,13 +9,13 @@ ghost use Rattle.discovery.specs.Inner.Discovering.{Empty, Found, Adds, AddsAll
 ghost use Rattle.discovery.specs.Inner.Letters.{spelt};
 ghost use Rattle.discovery.specs.Inner.Queue.{Queue};
 ghost use Rattle.join.specs.Inner.Pairs.{product, IsPair, Tables};
-use crate::walk::PAIR;
-use crate::walk::apply;
-use crate::walk::body_of;
-use crate::walk::note_ends;
-use crate::walk::walk;
 use discovery::queue::add_body;
 use forms::write::FormSize;
+use runs::walk::PAIR;
+use runs::walk::apply;
+use runs::walk::body_of;
+use runs::walk::note_ends;
+use runs::walk::walk;
 use trees::alphabet::input_ranks;
 use trees::bytes::number;
 

@@ -2,4 +2,3 @@
 pub mod discover;
 pub mod join;
 pub mod stock;
-pub mod walk;

@@ -6,7 +6,7 @@ use Rattle.theory.specs.Compose.{compose}
 use Rattle.theory.specs.Inner.PairCodes.{pairCode, pairName}
 use Rattle.theory.specs.Transducer.{Transducer}
 use Rattle.trees.specs.Alphabets.{Alphabets, inputs, outputs}
-use Rattle.join.specs.Inner.Walked.{tabled, InTable}
+use Rattle.runs.specs.Inner.Walked.{tabled, InTable}
 
 -- the second after the first: the pair of q and p is the number 128 · q + p
 unfoldable pub product : List ℕ → List ℕ → List ℕ → List ℕ → List ℕ → List ℕ → Transducer ℕ

@@ -17,9 +17,8 @@ use Rattle.forms.specs.declared.write.FormSize.the-variants.{States, Over}
 use Rattle.forms.specs.declared.write.Formed.{Formed}
 use Rattle.join.specs.Answers.{JoinedFile, joinCheck}
 
--- the alphabets of the joined transducer, as a file of at most 82 bytes: the first r bytes of the area
+-- the alphabets of the joined transducer, as a file: the first r bytes of the area
 pub record StockJoined (stock stock′ area : List ℕ) (r : ℕ) : Type 0 where
-  pub short : r ≤ 82
   pub inside : r ≤ length area
   pub coded : take r area ≡ stockFile (inputs stock) (outputs stock′)
 

@@ -7,8 +7,8 @@ use mathlib.Core.Path.{_≡_, ap}
 use borrow.Author.Needs.{needs}
 use lib.ListN.{length}
 use Rattle.trees.specs.Alphabets.{Alphabets, inputs}
-use Rattle.join.proofs.walk.body_of.Statement.{statement}
-use Rattle.join.proofs.walk.body_of.Tie as tie
+use Rattle.runs.proofs.walk.body_of.Statement.{statement}
+use Rattle.runs.proofs.walk.body_of.Tie as tie
 
 -- at most 128 states of at most 16 symbols
 small : {stock : List ℕ} {q n : ℕ} → Alphabets stock → q < 128 → n ≡ length (inputs stock) → q * n ≤ 128 * 16

@@ -6,24 +6,24 @@ use mathlib.Core.Path.{_≡_, refl, sym, ap, _∙_}
 use lib.ListN.{length, length-set}
 use denote.Ref.{now}
 use borrow.Author.Needs.{needs}
-use Rattle.join.specs.Inner.Walked.{applied, walked}
+use Rattle.runs.specs.Inner.Walked.{applied, walked}
 use Rattle.transducer.proofs.Filling.{Filling, begin, one-more, word-more, wrote-as, passed, finish}
-use Rattle.join.proofs.Walks.{walk-symbol, walk-end, ready-few, letter-bounds, apply-call, symbol-fits, body-few, body-walk, apply-walk, to-skip, child-after, to-apply, call-walk}
+use Rattle.runs.proofs.Walks.{walk-symbol, walk-end, ready-few, letter-bounds, apply-call, symbol-fits, body-few, body-walk, apply-walk, to-skip, child-after, to-apply, call-walk}
 use borrow.Fn.Kinds.{In}
 use borrow.Fn.PlainCycle.{Measures, is, falls, and}
-use Rattle.join.proofs.walk.apply.Reads as apply
-use Rattle.join.proofs.walk.apply.Kinds as apply-kinds
-use Rattle.join.proofs.walk.+apply+walk.Lts-apply as apply-lts
-use Rattle.join.proofs.walk.walk.Reads as walk
-use Rattle.join.proofs.walk.walk.Kinds as walk-kinds
-use Rattle.join.proofs.walk.+apply+walk.Lts-walk as walk-lts
-use Rattle.join.proofs.walk.body_of.Reads as body-of-reads
-use Rattle.join.proofs.walk.put.Reads as put-reads
+use Rattle.runs.proofs.walk.apply.Reads as apply
+use Rattle.runs.proofs.walk.apply.Kinds as apply-kinds
+use Rattle.runs.proofs.walk.+apply+walk.Lts-apply as apply-lts
+use Rattle.runs.proofs.walk.walk.Reads as walk
+use Rattle.runs.proofs.walk.walk.Kinds as walk-kinds
+use Rattle.runs.proofs.walk.+apply+walk.Lts-walk as walk-lts
+use Rattle.runs.proofs.walk.body_of.Reads as body-of-reads
+use Rattle.runs.proofs.walk.put.Reads as put-reads
 use Rattle.transducer.proofs.children.skip.Reads as skip-reads
 use Rattle.trees.proofs.bytes.number.Reads as number-reads
 use Rattle.trees.proofs.bytes.wide.Reads as wide-reads
-use Rattle.join.proofs.walk.+apply+walk.{statement}
-use Rattle.join.proofs.walk.+apply+walk.Tie.{close}
+use Rattle.runs.proofs.walk.+apply+walk.{statement}
+use Rattle.runs.proofs.walk.+apply+walk.Tie.{close}
 
 abbrev μ-apply : Measures 6 apply-kinds.ps ℕ
 μ-apply κs a = 65 * (64 - a .1 .1 .1 .1 .1 .1 .0)

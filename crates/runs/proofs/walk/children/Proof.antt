@@ -7,9 +7,9 @@ use borrow.Author.Needs.{needs}
 use lib.ListN.{length, getD}
 use denote.Ref.{now}
 use Rattle.trees.specs.Alphabets.{inputs}
-use Rattle.join.proofs.Marks.{children-call, children-symbol}
-use Rattle.join.proofs.walk.children.Statement.{statement}
-use Rattle.join.proofs.walk.children.Tie as tie
+use Rattle.runs.proofs.Marks.{children-call, children-symbol}
+use Rattle.runs.proofs.walk.children.Statement.{statement}
+use Rattle.runs.proofs.walk.children.Tie as tie
 
 returns : tie.Need-returns
 returns c = sym (children-call (inputs (now (c .before .before .args .stock))) (c .before .before .args .i) (c .before .before .args .x) (omega (arith, c .if1 .taken)))

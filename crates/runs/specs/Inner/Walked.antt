@@ -72,7 +72,6 @@ pub record Ended (mids s ends : List ℕ) : Type 0 where
 pub record InTable (ins outs starts bytes : List ℕ) : Type 0 where
   pub states : ℕ
   pub layout : Layout ins outs starts bytes states
-  pub all-starts : length starts ≡ 2050
 
 -- state p of the second transducer can be applied to the term at mark number k of s
 pub record Ready (stock starts bytes s ends : List ℕ) (p k : ℕ) : Type 0 where
@@ -89,5 +88,4 @@ pub record Walkable (stock starts bytes s ends : List ℕ) (from to below : ℕ)
   pub ended : Ended (inputs stock) s ends
   pub ordered : from ≤ to
   pub inside : 2 * to ≤ length bytes
-  pub below-inside : below ≤ marksOf s
   pub callable : (j : ℕ) → from ≤ j → j < to → Callable (table .states) (count (termsAt (inputs stock) s below)) (markAt bytes j)

@@ -22,10 +22,10 @@ use Rattle.transducer.proofs.Meaning.{BodyRead, body-read}
 use Rattle.transducer.proofs.Walks.{spell-same}
 use Rattle.discovery.specs.Inner.Letters.{callLetter, spelt}
 use Rattle.forms.proofs.Files.{number-fits}
-use Rattle.join.specs.Inner.Walked.{bodyMark, termsAt, marksOf, tabled, paired, answered, applied, walked, InTable, Ready, Walkable}
-use Rattle.join.proofs.Marks.{SymbolFirst, symbol-at, CallFirst, call-at, mark-inside}
+use Rattle.runs.specs.Inner.Walked.{bodyMark, termsAt, marksOf, tabled, paired, answered, applied, walked, InTable, Ready, Walkable}
+use Rattle.runs.proofs.Marks.{SymbolFirst, symbol-at, CallFirst, call-at}
 use Rattle.transducer.proofs.Places.{Place, place-from, place-inside}
-use Rattle.join.proofs.Wider.{wider-whole}
+use Rattle.runs.proofs.Wider.{wider-whole}
 
 -- ---- letters of a term with calls of pairs
 -- the letter of the call of q on child i, met by state p
@@ -102,9 +102,6 @@ walk-end stock starts bytes s below j to h g = let e : j ≡ to = omega arith in
 
 -- ---- a state on a mark
 module _ {stock starts bytes s ends : List ℕ} {p k : ℕ} (R : Ready stock starts bytes s ends p k) where
-  pub ready-inside : 2 * k + 1 < length s
-  ready-inside = mark-inside (R .ended .body) k (R .place)
-
   pub ready-few : (p < 128) × (k < 64)
   ready-few = (omega (arith, R .state, R .table .layout .few-states), omega (arith, R .place, R .ended .body .few))
 
@@ -153,7 +150,6 @@ module _ {stock starts bytes s ends : List ℕ} {p k : ℕ} (R : Ready stock sta
         ended = R .ended;
         ordered = rw (from-is, to-is) (R .table .layout .bounds .ordered (bodyNumber (inputs stock) p x) body-less);
         inside = body-inside;
-        below-inside = omega (arith, R .place);
         callable = λ j u v w.
             let inside = pairs-length bytes to body-inside in
             let d = getD-slice from to (j - from) (pairs bytes) inside (omega (arith, length-slice from to (pairs bytes) inside)) in

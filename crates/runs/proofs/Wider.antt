@@ -23,7 +23,7 @@ use Rattle.forms.specs.Alphabet.{alphabet, children-inside}
 use Rattle.forms.specs.Inner.Tables.{machine, Layout}
 use Rattle.forms.proofs.Files.{machine-wf}
 use Rattle.discovery.proofs.Ranks.{ranked-bind}
-use Rattle.join.specs.Inner.Walked.{tabled}
+use Rattle.runs.specs.Inner.Walked.{tabled}
 
 -- the marks of a ranked term are read as that term
 read-marks : (outs : List ℕ) (n r : ℕ) (t : Term (ℕ × ℕ)) → Ranked (Call n r) outs t → forest (markOf outs n r) (marks t) ≡ more t none
@@ -32,7 +32,7 @@ read-marks outs n r t h = sym (ap (forest (markOf outs n r)) (append-nil (marks 
 
 module _ (outs : List ℕ) {n r n′ r′ : ℕ} (states : n ≤ n′) (children : r ≤ r′) where
   -- a call of one of n states on one of r children is one of n′ states on one of r′
-  pub wider-ranked : (t : Term (ℕ × ℕ)) → Ranked (Call n r) outs t → Ranked (Call n′ r′) outs t
+  wider-ranked : (t : Term (ℕ × ℕ)) → Ranked (Call n r) outs t → Ranked (Call n′ r′) outs t
   unfolding Ranked
   wider-ranked t h = rw (bind-var t) at (ranked-bind (Call n r) outs (Call n′ r′) (λ e. var e) (λ e k. record { from-one = k .from-one; child = omega (arith, k .child); state = omega (arith, k .state) }) t h)
 

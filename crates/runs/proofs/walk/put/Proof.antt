@@ -4,8 +4,8 @@ use mathlib.Core.Path.{sym}
 use borrow.Author.Needs.{needs}
 use denote.Ref.{now}
 use lib.Seq.{set-out}
-use Rattle.join.proofs.walk.put.Statement.{statement}
-use Rattle.join.proofs.walk.put.Tie as tie
+use Rattle.runs.proofs.walk.put.Statement.{statement}
+use Rattle.runs.proofs.walk.put.Tie as tie
 
 cast-letters : tie.Need-cast-letters
 cast-letters c = search needs

@@ -5,7 +5,7 @@ ghost use lib.ListN.{length, getD, set};
 ghost use Rattle.trees.specs.Alphabets.{Alphabets, inputs};
 ghost use Rattle.formats.specs.Inner.Layout.{bodyNumber};
 ghost use Rattle.transducer.specs.Inner.Written.{Limits, Wrote};
-ghost use Rattle.join.specs.Inner.Walked.{IsBody, Ended, Ready, Walkable, applied, walked, childrenOf};
+ghost use Rattle.runs.specs.Inner.Walked.{IsBody, Ended, Ready, Walkable, applied, walked, childrenOf};
 use discovery::queue::CALL;
 use transducer::children::skip;
 use trees::alphabet::input_ranks;
@@ -16,7 +16,7 @@ use trees::bytes::wide;
 pub const PAIR: usize = 128;
 
 // The number of the right-hand side of state q for symbol a, under the alphabets of the stock.
-pub(crate) fn body_of(stock: &[u8], q: usize, a: usize) -> usize
+pub fn body_of(stock: &[u8], q: usize, a: usize) -> usize
     requires { ⌜ Alphabets (now stock) × (q < 128) × (a < 256) ⌝ }
     ensures { λ r. ⌜ r ≡ bodyNumber (inputs (now (stock .entry))) q a ⌝ }
 {
@@ -35,7 +35,7 @@ fn children(stock: &[u8], i: u8, x: u8) -> usize
 }
 
 // Notes where the term at each mark of the body `s` ends: from the last mark to the first, each behind its children.
-pub(crate) fn note_ends(stock: &[u8], s: &[u8], ends: &mut [u16; 64])
+pub fn note_ends(stock: &[u8], s: &[u8], ends: &mut [u16; 64])
     requires { ⌜ Alphabets (now stock) × IsBody (inputs (now stock)) (now s) × (length (now ends) ≡ 64) ⌝ }
     ensures { λ _. ⌜ Ended (inputs (now (stock .entry))) (now (s .entry)) (now (ends .exit)) ⌝ }
 {
@@ -58,7 +58,7 @@ fn put(letters: &mut [u32; 64], at: usize, x: usize)
 
 // Writes what state p gives on the term at mark number k of the body `s`, from `at` on, and says where that ends, or 65 where there
 // are more than 64 letters: then no more is written.
-pub(crate) fn apply(
+pub fn apply(
     stock: &[u8],
     starts: &[u16; 2050],
     marks: &[u8],
@@ -85,7 +85,7 @@ pub(crate) fn apply(
 }
 
 // The same of the marks number `from` up to `to`, over the terms that stand from mark number `below` of the body on: each call applies its state.
-pub(crate) fn walk(
+pub fn walk(
     stock: &[u8],
     starts: &[u16; 2050],
     marks: &[u8],

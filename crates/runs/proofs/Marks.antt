@@ -19,7 +19,7 @@ use Rattle.trees.proofs.Forest.{all-drop, front}
 use Rattle.formats.specs.Inner.Layout.{callIf, markOf, pairs}
 use Rattle.formats.proofs.Pairs.{pairs-at}
 use Rattle.transducer.specs.Inner.Written.{hop}
-use Rattle.join.specs.Inner.Walked.{bodyMark, termsAt, marksOf, childrenOf, IsBody, Ended}
+use Rattle.runs.specs.Inner.Walked.{bodyMark, termsAt, marksOf, childrenOf, IsBody, Ended}
 use Rattle.transducer.proofs.Places.{EndsFrom, place-from, place-inside}
 
 -- ---- one mark in front of some terms
@@ -123,9 +123,6 @@ pub all-noted : {mids s ends : List ℕ} → NotedFrom mids s ends 0 → Ended m
 all-noted F = record { body = F .body; room = F .room; right = λ k h. F .right k (omega arith) h }
 
 module _ {mids s ends : List ℕ} {k : ℕ} (F : NotedFrom mids s ends k) (some : 0 < k) where
-  pub next-inside : 2 * (k - 1) + 1 < length s
-  next-inside = mark-inside (F .body) (k - 1) (omega (arith, F .inside))
-
   -- its symbol is known
   pub next-known : {i x : ℕ} → i ≡ getD s (2 * (k - 1)) 0 → x ≡ getD s (2 * (k - 1) + 1) 0 → i ≡ 0 → x < length mids
   next-known e f z = rw f (symbol-at (F .body) (k - 1) (omega (arith, F .inside)) (sym e ∙ z) .known)

@@ -3,9 +3,9 @@ use native.Mathlib.Omega.{arith}
 use mathlib.Core.Path.{_≡_, refl}
 use borrow.Author.Needs.{needs}
 use Rattle.trees.specs.Alphabets.{inputs}
-use Rattle.join.proofs.Marks.{NotedFrom, none-noted, all-noted, next-known, child-inside, end-fits, one-noted}
-use Rattle.join.proofs.walk.note_ends.Statement.{statement}
-use Rattle.join.proofs.walk.note_ends.Tie as tie
+use Rattle.runs.proofs.Marks.{NotedFrom, none-noted, all-noted, next-known, child-inside, end-fits, one-noted}
+use Rattle.runs.proofs.walk.note_ends.Statement.{statement}
+use Rattle.runs.proofs.walk.note_ends.Tie as tie
 
 abbrev Inv-loop : tie.InvT-loop
 Inv-loop stock s ends₀ k₀ ends k = NotedFrom (inputs stock) s ends k
