@@ -209,16 +209,6 @@ fn damage(random: &mut Random, stock: &mut Vec<u8>, file: &mut Vec<u8>) {
     }
 }
 
-/// The length of an area: most often the least that is taken, or one byte less.
-fn area(random: &mut Random) -> usize {
-    match random.below(8) {
-        0 | 1 => 20_482,
-        2 => random.below(20_483),
-        3 => random.range(20_483, 21_000),
-        _ => 20_483,
-    }
-}
-
 #[test]
 fn generated_cases() {
     let mut tally = Tally::default();
@@ -238,7 +228,7 @@ fn generated_cases() {
         }
         damage(&mut random, &mut stock, &mut file);
         for function in [EARLIEST, CLEAN] {
-            let _ = function.compare(&mut tally, &stock, &file, area(&mut random));
+            let _ = function.compare(&mut tally, &stock, &file, generate::area(&mut random));
         }
     }
     tally.settle(&OUTCOMES, 1_000);

@@ -196,16 +196,6 @@ fn damage(random: &mut Random, pair: &mut Pair) {
     }
 }
 
-/// The length of an area: most often the least that is taken, or one byte less.
-fn area(random: &mut Random) -> usize {
-    match random.below(8) {
-        0 => 20_482,
-        1 => random.below(20_483),
-        2 => random.range(20_483, 21_000),
-        _ => 20_483,
-    }
-}
-
 #[test]
 fn generated_cases() {
     let mut tally = Tally::default();
@@ -223,7 +213,7 @@ fn generated_cases() {
             more += usize::from(count > two[0].1.states.max(two[1].1.states));
         }
         damage(&mut random, &mut pair);
-        let _ = join_in(&mut tally, &pair, area(&mut random));
+        let _ = join_in(&mut tally, &pair, generate::area(&mut random));
     }
     tally.settle(&OUTCOMES, 1_000);
     println!("joined ones: at most {states} states, {marks} marks, {term} marks in a term");

@@ -376,3 +376,13 @@ pub fn address_of(plan: &[u8], outputs: &[u8], node: usize) -> Vec<u8> {
     }
     unreachable!("the tree has no node {node}")
 }
+
+/// The length of an area for a file: most often the least that is taken, or one byte less.
+pub fn area(random: &mut Random) -> usize {
+    match random.below(8) {
+        0 | 1 => 20_482,
+        2 => random.below(20_483),
+        3 => random.range(20_483, 21_000),
+        _ => 20_483,
+    }
+}
