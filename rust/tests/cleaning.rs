@@ -9,7 +9,9 @@
 mod generate;
 mod lent;
 
-use caplune::{ffi, independent, Form, Refusal};
+use caplune::slices::Form;
+use caplune::{ffi, slices, Refusal};
+use caplune_independent as independent;
 use generate::alike::{any, chain, chain_alphabets};
 use generate::samples::*;
 use generate::{small_trees, Alphabets, Random, Transducer};
@@ -18,8 +20,7 @@ use lent::{number, Lent, Tally, BEFORE};
 use std::collections::BTreeSet;
 
 /// A C function that writes a form.
-type Exported =
-    unsafe extern "C" fn(*const u8, usize, *const u8, usize, *mut u8, usize, *mut usize, *mut usize, *mut usize) -> u32;
+type Exported = fn(&[u8], &[u8], &mut [u8], &mut usize, &mut usize, &mut usize) -> u32;
 
 /// A safe function that writes a form.
 type Safe = fn(&[u8], &[u8], &mut [u8]) -> Result<Form, Refusal>;
@@ -37,17 +38,13 @@ struct Function {
 
 const EARLIEST: Function = Function {
     name: "earliest_form",
-    safe: caplune::earliest_form,
-    exported: ffi::caplune_earliest_form,
+    safe: slices::earliest_form,
+    exported: ffi::earliest_form,
     independent: earliest_into,
 };
 
-const CLEAN: Function = Function {
-    name: "clean",
-    safe: caplune::clean,
-    exported: ffi::caplune_clean,
-    independent: independent::clean_into,
-};
+const CLEAN: Function =
+    Function { name: "clean", safe: slices::clean, exported: ffi::clean, independent: independent::clean_into };
 
 /// Writes the independent earliest form to the start of the area.
 fn earliest_into(stock: &[u8], file: &[u8], area: &mut [u8]) -> Result<usize, u32> {
@@ -78,20 +75,7 @@ impl Function {
         let told_by = || format!("{} {stock:?} {file:?} {area}", self.name);
         assert_eq!(number((self.safe)(&stock_lent, &file_lent, lent[1].area())), told, "{}", told_by());
         let [mut states, mut marks, mut length] = BEFORE;
-        // SAFETY: each pointer and length are those of a slice, and the others are to locals.
-        let refused = unsafe {
-            (self.exported)(
-                stock_lent.as_ptr(),
-                stock_lent.len(),
-                file_lent.as_ptr(),
-                file_lent.len(),
-                lent[2].area().as_mut_ptr(),
-                area,
-                &mut states,
-                &mut marks,
-                &mut length,
-            )
-        };
+        let refused = (self.exported)(&stock_lent, &file_lent, lent[2].area(), &mut states, &mut marks, &mut length);
         let left = told.map_or(BEFORE, |form| [form.states, form.marks, form.length]);
         assert_eq!((refused, [states, marks, length]), (told.err().unwrap_or(0), left), "{}", told_by());
         let written = expected.as_deref().unwrap_or_default();
@@ -110,8 +94,8 @@ fn forms(tally: &mut Tally, stock: &[u8], file: &[u8]) -> Result<Vec<u8>, u32> {
     let clean = CLEAN.compare(tally, stock, file, MAX_FILE);
     assert_eq!(earliest.as_ref().err(), clean.as_ref().err(), "{stock:?} {file:?}");
     let (Ok(earliest), Ok(form)) = (&earliest, &clean) else { return clean };
-    assert!(caplune::read_transducer(stock, earliest).is_ok(), "{stock:?} {file:?}");
-    let parts = caplune::read_transducer(stock, form).expect("the normal form is read");
+    assert!(slices::read_transducer(stock, earliest).is_ok(), "{stock:?} {file:?}");
+    let parts = slices::read_transducer(stock, form).expect("the normal form is read");
     let told = size(stock, form);
     assert_eq!((parts.states, parts.marks.len()), (told.states, 2 * told.marks));
     assert!(told.states <= usize::from(earliest[0]));
@@ -163,7 +147,7 @@ fn samples() {
     assert_eq!(told(&stock, forms(&stock, &many_marks(&[0, 2, 1, 0]))), Ok((111, 8192)));
     assert_eq!(forms(&stock, &many_marks(&[0, 0, 1, 0, 0, 1])), Err(7));
     let mut area = vec![0; MAX_FILE];
-    let mut trimmed = |file: &[u8]| caplune::earliest_form(S, file, &mut area).map(|form| (form.states, form.marks));
+    let mut trimmed = |file: &[u8]| slices::earliest_form(S, file, &mut area).map(|form| (form.states, form.marks));
     assert_eq!(trimmed(T), Ok((1, 7)));
     assert_eq!(trimmed(T_PRIME).map(|(states, _)| states), Ok(2));
     // 63 marks in the initial term, and 4 in the right-hand sides of each of the two states
@@ -327,7 +311,7 @@ fn chains_and_rings() {
 /// The output tree by the proved translation, and all of the area.
 fn output(stock: &[u8], file: &[u8], tree: &[u8]) -> (Result<usize, u32>, Vec<u8>) {
     let mut area = vec![0xa5; 2_000];
-    (number(caplune::translate(stock, file, tree, &mut area)), area)
+    (number(slices::translate(stock, file, tree, &mut area)), area)
 }
 
 /// Earliest form and normal form translate as their transducer does, on all small input trees.
@@ -341,7 +325,7 @@ fn outputs_stay() {
         let (stock, file) = (alphabets.file(), sheet.file());
         let Ok(form) = forms(&mut tally, &stock, &file) else { continue };
         let mut area = vec![0; MAX_FILE];
-        let length = caplune::earliest_form(&stock, &file, &mut area).expect("it is within the limits").length;
+        let length = slices::earliest_form(&stock, &file, &mut area).expect("it is within the limits").length;
         for tree in small_trees(&alphabets.inputs, 60) {
             let expected = output(&stock, &file, &tree);
             assert_eq!(output(&stock, &form, &tree), expected, "{stock:?} {file:?} {tree:?}");

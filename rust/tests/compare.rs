@@ -8,15 +8,16 @@
 mod generate;
 mod lent;
 
-use caplune::{ffi, independent};
+use caplune::{ffi, slices};
+use caplune_independent as independent;
 use generate::{Alphabets, Random, Transducer};
 use lent::{number, Lent, Tally, BEFORE};
 
 fn alphabets(tally: &mut Tally, stock: &[u8]) {
     let expected = independent::read_alphabets(stock).map(|read| (read.inputs.len(), read.outputs.len()));
-    assert_eq!(number(caplune::read_alphabets(stock)).map(|read| (read.inputs, read.outputs)), expected, "{stock:?}");
+    assert_eq!(number(slices::read_alphabets(stock)).map(|read| (read.inputs, read.outputs)), expected, "{stock:?}");
     let [mut inputs, mut outputs, _] = BEFORE;
-    let refused = unsafe { ffi::caplune_read_alphabets(stock.as_ptr(), stock.len(), &mut inputs, &mut outputs) };
+    let refused = ffi::read_alphabets(stock, &mut inputs, &mut outputs);
     let left = expected.unwrap_or((BEFORE[0], BEFORE[1]));
     assert_eq!((refused, (inputs, outputs)), (expected.err().unwrap_or(0), left), "{stock:?}");
     tally.count("read_alphabets", &expected, "accepted");
@@ -25,14 +26,12 @@ fn alphabets(tally: &mut Tally, stock: &[u8]) {
 fn tree(tally: &mut Tally, stock: &[u8], tree: &[u8]) {
     let expected = independent::read_tree(stock, tree).map(|read| (read.symbols.len(), read.levels));
     assert_eq!(
-        number(caplune::read_tree(stock, tree)).map(|read| (read.nodes, read.levels)),
+        number(slices::read_tree(stock, tree)).map(|read| (read.nodes, read.levels)),
         expected,
         "{stock:?} {tree:?}"
     );
     let [mut nodes, mut levels, _] = BEFORE;
-    let refused = unsafe {
-        ffi::caplune_read_tree(stock.as_ptr(), stock.len(), tree.as_ptr(), tree.len(), &mut nodes, &mut levels)
-    };
+    let refused = ffi::read_tree(stock, tree, &mut nodes, &mut levels);
     let left = expected.unwrap_or((BEFORE[0], BEFORE[1]));
     assert_eq!((refused, (nodes, levels)), (expected.err().unwrap_or(0), left), "{stock:?} {tree:?}");
     tally.count("read_tree", &expected, "accepted");
@@ -40,24 +39,14 @@ fn tree(tally: &mut Tally, stock: &[u8], tree: &[u8]) {
 
 fn transducer(tally: &mut Tally, stock: &[u8], file: &[u8]) {
     let expected = independent::read_transducer(stock, file).map(|read| (read.states, read.counts, read.marks));
-    let answer = number(caplune::read_transducer(stock, file)).map(|read| (read.states, read.counts, read.marks));
+    let answer = number(slices::read_transducer(stock, file)).map(|read| (read.states, read.counts, read.marks));
     assert_eq!(answer, expected, "{stock:?} {file:?}");
     if let (Ok((_, counts, marks)), Ok((_, expected_counts, expected_marks))) = (answer, expected) {
         // the same bytes, and in the same place
         assert_eq!((counts.as_ptr(), marks.as_ptr()), (expected_counts.as_ptr(), expected_marks.as_ptr()));
     }
     let [mut states, mut counts, mut marks] = BEFORE;
-    let refused = unsafe {
-        ffi::caplune_read_transducer(
-            stock.as_ptr(),
-            stock.len(),
-            file.as_ptr(),
-            file.len(),
-            &mut states,
-            &mut counts,
-            &mut marks,
-        )
-    };
+    let refused = ffi::read_transducer(stock, file, &mut states, &mut counts, &mut marks);
     let left = expected.map_or(BEFORE, |(states, counts, marks)| [states, counts.len(), marks.len()]);
     assert_eq!((refused, [states, counts, marks]), (expected.err().unwrap_or(0), left), "{stock:?} {file:?}");
     tally.count("read_transducer", &expected, "accepted");
@@ -65,10 +54,9 @@ fn transducer(tally: &mut Tally, stock: &[u8], file: &[u8]) {
 
 fn linear(tally: &mut Tally, stock: &[u8], file: &[u8]) {
     let expected = independent::is_linear(stock, file);
-    assert_eq!(number(caplune::is_linear(stock, file)), expected, "{stock:?} {file:?}");
+    assert_eq!(number(slices::is_linear(stock, file)), expected, "{stock:?} {file:?}");
     let mut linear = BEFORE[0];
-    let refused =
-        unsafe { ffi::caplune_is_linear(stock.as_ptr(), stock.len(), file.as_ptr(), file.len(), &mut linear) };
+    let refused = ffi::is_linear(stock, file, &mut linear);
     let left = expected.map_or(BEFORE[0], usize::from);
     assert_eq!((refused, linear), (expected.err().unwrap_or(0), left), "{stock:?} {file:?}");
     tally.count("is_linear", &expected, if expected == Ok(true) { "yes" } else { "no" });
@@ -77,23 +65,10 @@ fn linear(tally: &mut Tally, stock: &[u8], file: &[u8]) {
 fn writing(tally: &mut Tally, stock: &[u8], states: usize, counts: &[u8], marks: &[u8], area: usize) {
     let mut lent = [Lent::new(area), Lent::new(area), Lent::new(area)];
     let expected = independent::write_transducer(stock, states, counts, marks, lent[0].area());
-    let answer = number(caplune::write_transducer(stock, states, counts, marks, lent[1].area()));
+    let answer = number(slices::write_transducer(stock, states, counts, marks, lent[1].area()));
     assert_eq!(answer, expected, "{stock:?} {states} {counts:?} {marks:?} {area}");
     let mut length = BEFORE[0];
-    let refused = unsafe {
-        ffi::caplune_write_transducer(
-            stock.as_ptr(),
-            stock.len(),
-            states,
-            counts.as_ptr(),
-            counts.len(),
-            marks.as_ptr(),
-            marks.len(),
-            lent[2].area().as_mut_ptr(),
-            area,
-            &mut length,
-        )
-    };
+    let refused = ffi::write_transducer(stock, states, counts, marks, lent[2].area(), &mut length);
     let left = expected.unwrap_or(BEFORE[0]);
     assert_eq!(
         (refused, length),
@@ -111,22 +86,10 @@ fn writing(tally: &mut Tally, stock: &[u8], states: usize, counts: &[u8], marks:
 fn translation(tally: &mut Tally, stock: &[u8], file: &[u8], tree: &[u8], area: usize) {
     let mut lent = [Lent::new(area), Lent::new(area), Lent::new(area)];
     let expected = independent::translate_into(stock, file, tree, lent[0].area());
-    let answer = number(caplune::translate(stock, file, tree, lent[1].area()));
+    let answer = number(slices::translate(stock, file, tree, lent[1].area()));
     assert_eq!(answer, expected, "{stock:?} {file:?} {tree:?} {area}");
     let mut length = BEFORE[0];
-    let refused = unsafe {
-        ffi::caplune_translate(
-            stock.as_ptr(),
-            stock.len(),
-            file.as_ptr(),
-            file.len(),
-            tree.as_ptr(),
-            tree.len(),
-            lent[2].area().as_mut_ptr(),
-            area,
-            &mut length,
-        )
-    };
+    let refused = ffi::translate(stock, file, tree, lent[2].area(), &mut length);
     let left = expected.unwrap_or(BEFORE[0]);
     assert_eq!((refused, length), (expected.err().unwrap_or(0), left), "{stock:?} {file:?} {tree:?} {area}");
     let output = independent::translate(stock, file, tree, area).unwrap_or_default();
@@ -148,25 +111,12 @@ fn translation(tally: &mut Tally, stock: &[u8], file: &[u8], tree: &[u8], area: 
 fn place(tally: &mut Tally, stock: &[u8], file: &[u8], tree: &[u8], address: &[u8]) {
     let expected = independent::symbol_at(stock, file, tree, address);
     assert_eq!(
-        number(caplune::symbol_at(stock, file, tree, address)),
+        number(slices::symbol_at(stock, file, tree, address)),
         expected,
         "{stock:?} {file:?} {tree:?} {address:?}"
     );
     let [mut there, mut symbol, _] = BEFORE;
-    let refused = unsafe {
-        ffi::caplune_symbol_at(
-            stock.as_ptr(),
-            stock.len(),
-            file.as_ptr(),
-            file.len(),
-            tree.as_ptr(),
-            tree.len(),
-            address.as_ptr(),
-            address.len(),
-            &mut there,
-            &mut symbol,
-        )
-    };
+    let refused = ffi::symbol_at(stock, file, tree, address, &mut there, &mut symbol);
     let left = match expected {
         Ok(Some(symbol)) => (1, usize::from(symbol)),
         Ok(None) => (0, BEFORE[1]),
@@ -439,14 +389,14 @@ fn the_limits_are_reached() {
         let alphabets = Alphabets::random(&mut random);
         let stock = alphabets.file();
         let file = Transducer::random(&mut random, &alphabets).file();
-        if let Ok(read) = caplune::read_transducer(&stock, &file) {
+        if let Ok(read) = slices::read_transducer(&stock, &file) {
             states = states.max(read.states);
-            inputs = inputs.max(caplune::read_alphabets(&stock).unwrap().inputs);
+            inputs = inputs.max(slices::read_alphabets(&stock).unwrap().inputs);
             marks = marks.max(read.marks.len() / 2);
             term = read.counts.chunks(2).map(|pair| pair[1]).max().unwrap().max(term);
             bytes = bytes.max(file.len());
         }
-        match caplune::read_tree(&stock, &generate::input_tree(&mut random, &alphabets)) {
+        match slices::read_tree(&stock, &generate::input_tree(&mut random, &alphabets)) {
             Ok(size) => {
                 nodes = nodes.max(size.nodes);
                 levels = levels.max(size.levels);
@@ -473,10 +423,10 @@ fn addresses_of_whole_outputs() {
         for node in 0..output.len() {
             let mut address = generate::address_of(&output, &alphabets.outputs, node);
             assert_eq!(independent::symbol_at(&stock, &file, &tree, &address), Ok(Some(output[node])));
-            assert_eq!(caplune::symbol_at(&stock, &file, &tree, &address), Ok(Some(output[node])));
+            assert_eq!(slices::symbol_at(&stock, &file, &tree, &address), Ok(Some(output[node])));
             address.push(alphabets.outputs[usize::from(output[node])] + 1);
             assert_eq!(independent::symbol_at(&stock, &file, &tree, &address), Ok(None));
-            assert_eq!(caplune::symbol_at(&stock, &file, &tree, &address), Ok(None));
+            assert_eq!(slices::symbol_at(&stock, &file, &tree, &address), Ok(None));
             looked_at += 1;
         }
     }

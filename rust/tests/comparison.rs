@@ -10,7 +10,9 @@
 mod generate;
 mod lent;
 
-use caplune::{ffi, independent, Comparison, ADDRESS_AREA, TREE_AREA};
+use caplune::ffi;
+use caplune::slices::{self, Comparison, ADDRESS_AREA, TREE_AREA};
+use caplune_independent as independent;
 use generate::alike::{any, chain, chain_alphabets, small_alphabets, small_transducer};
 use generate::rows::{row_alphabets, way_alphabets, Row};
 use generate::samples::*;
@@ -58,7 +60,7 @@ impl Test {
         let expected = if long_enough { verdict } else { Err(independent::AREA_TOO_SHORT) };
         let lent_files = [stock, first, second].map(<[u8]>::to_vec);
         let [mut tree, mut address] = areas.map(Lent::new);
-        let answer = caplune::compare(&lent_files[0], &lent_files[1], &lent_files[2], tree.area(), address.area());
+        let answer = slices::compare(&lent_files[0], &lent_files[1], &lent_files[2], tree.area(), address.area());
         let shown = number(answer).map(|comparison| match comparison {
             Comparison::Alike => None,
             Comparison::Differ(shown) => {
@@ -109,22 +111,10 @@ impl Test {
         });
         let told = || format!("{stock:?} {first:?} {second:?}");
         // the same bytes, and in the same place
-        let part = caplune::shorter(stock, first, second).map(<[u8]>::as_ptr_range);
+        let part = slices::shorter(stock, first, second).map(<[u8]>::as_ptr_range);
         assert_eq!(part, expected.map(|(_, file, start)| file[start..].as_ptr_range()), "{}", told());
         let [mut start, mut size, _] = BEFORE;
-        // SAFETY: each pointer and length are those of a slice, and the others are to locals.
-        let which = unsafe {
-            ffi::caplune_shorter(
-                stock.as_ptr(),
-                stock.len(),
-                first.as_ptr(),
-                first.len(),
-                second.as_ptr(),
-                second.len(),
-                &mut start,
-                &mut size,
-            )
-        };
+        let which = ffi::shorter(stock, first, second, &mut start, &mut size);
         let left = expected.map_or((0, 0, 0), |(which, file, start)| (which, start, file.len() - start));
         assert_eq!((which, start, size), left, "{}", told());
         self.tally.count("shorter", &Ok(()), ["none", "first", "second"][which]);
@@ -142,26 +132,18 @@ fn exported(files: &[Vec<u8>; 3], areas: [usize; 2]) -> Result<Option<Shown>, u3
     let [mut tree, mut address] = areas.map(Lent::new);
     let before = [BEFORE[0], BEFORE[1], BEFORE[2], 3, 5];
     let [mut alike, mut nodes, mut numbers, mut left, mut right] = before;
-    // SAFETY: each pointer and length are those of a slice, and the others are to locals.
-    let refused = unsafe {
-        ffi::caplune_compare(
-            files[0].as_ptr(),
-            files[0].len(),
-            files[1].as_ptr(),
-            files[1].len(),
-            files[2].as_ptr(),
-            files[2].len(),
-            tree.area().as_mut_ptr(),
-            areas[0],
-            address.area().as_mut_ptr(),
-            areas[1],
-            &mut alike,
-            &mut nodes,
-            &mut numbers,
-            &mut left,
-            &mut right,
-        )
-    };
+    let refused = ffi::compare(
+        &files[0],
+        &files[1],
+        &files[2],
+        tree.area(),
+        address.area(),
+        &mut alike,
+        &mut nodes,
+        &mut numbers,
+        &mut left,
+        &mut right,
+    );
     if refused > 0 || alike == 1 {
         let first = if refused > 0 { before[0] } else { 1 };
         assert_eq!([alike, nodes, numbers, left, right], [first, before[1], before[2], before[3], before[4]]);
@@ -217,10 +199,10 @@ fn samples() {
         assert_eq!(shown.symbols, (1, 0));
     }
     // equally many marks: the first, as a part of the caller's own file
-    assert_eq!(caplune::shorter(S, T, T_PRIME).unwrap().as_ptr(), T[7..].as_ptr());
-    assert_eq!(caplune::shorter(S, T_PRIME, T).unwrap().as_ptr(), T_PRIME[7..].as_ptr());
-    assert_eq!(caplune::shorter(S, &ring(64), T), Some(&T[7..]));
-    assert_eq!(caplune::shorter(S, T, U), None);
+    assert_eq!(slices::shorter(S, T, T_PRIME).unwrap().as_ptr(), T[7..].as_ptr());
+    assert_eq!(slices::shorter(S, T_PRIME, T).unwrap().as_ptr(), T_PRIME[7..].as_ptr());
+    assert_eq!(slices::shorter(S, &ring(64), T), Some(&T[7..]));
+    assert_eq!(slices::shorter(S, T, U), None);
 }
 
 /// 1, 2, the first's 4 and 5, the second's, the first's 7, the second's.

@@ -6,7 +6,7 @@
 mod generate;
 mod oracle;
 
-use caplune::independent::*;
+use caplune_independent::*;
 use generate::alike::{chain, chain_alphabets, prefixed, prefixed_transducer, small_alphabets, small_transducer};
 use generate::joins::{self, joined_stock, Pair};
 use generate::samples::*;

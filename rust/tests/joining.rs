@@ -9,7 +9,9 @@
 mod generate;
 mod lent;
 
-use caplune::{ffi, independent, Comparison, Form, ADDRESS_AREA, TREE_AREA};
+use caplune::ffi;
+use caplune::slices::{self, Comparison, Form, ADDRESS_AREA, TREE_AREA};
+use caplune_independent as independent;
 use generate::joins::{self, joined_stock, Pair};
 use generate::samples::*;
 use generate::{small_trees, Alphabets, Random, Transducer};
@@ -29,27 +31,11 @@ fn join_in(tally: &mut Tally, pair: &Pair, area: usize) -> Result<Vec<u8>, u32> 
         let (states, marks) = joins::size(first_stock, form);
         Form { states, marks, length: form.len() }
     });
-    let safe = caplune::join(first_stock, second_stock, first, second, lent[1].area());
+    let safe = slices::join(first_stock, second_stock, first, second, lent[1].area());
     assert_eq!(number(safe), told, "{pair:?} {area}");
     let [mut states, mut marks, mut length] = BEFORE;
-    // SAFETY: each pointer and length are those of a slice, and the others are to locals.
-    let refused = unsafe {
-        ffi::caplune_join(
-            first_stock.as_ptr(),
-            first_stock.len(),
-            second_stock.as_ptr(),
-            second_stock.len(),
-            first.as_ptr(),
-            first.len(),
-            second.as_ptr(),
-            second.len(),
-            lent[2].area().as_mut_ptr(),
-            area,
-            &mut states,
-            &mut marks,
-            &mut length,
-        )
-    };
+    let refused =
+        ffi::join(first_stock, second_stock, first, second, lent[2].area(), &mut states, &mut marks, &mut length);
     let left = told.map_or(BEFORE, |form| [form.states, form.marks, form.length]);
     assert_eq!((refused, [states, marks, length]), (told.err().unwrap_or(0), left), "{pair:?} {area}");
     let written = expected.as_deref().unwrap_or_default();
@@ -63,7 +49,7 @@ fn join_in(tally: &mut Tally, pair: &Pair, area: usize) -> Result<Vec<u8>, u32> 
 /// The same in an area of the least length that is taken. The joined transducer is read under its stock.
 fn join(tally: &mut Tally, pair: &Pair) -> Result<Vec<u8>, u32> {
     let joined = join_in(tally, pair, MAX_FILE)?;
-    let read = caplune::read_transducer(&joined_stock(&pair.stocks[0], &pair.stocks[1]), &joined);
+    let read = slices::read_transducer(&joined_stock(&pair.stocks[0], &pair.stocks[1]), &joined);
     assert!(read.is_ok(), "{pair:?}");
     Ok(joined)
 }
@@ -104,11 +90,11 @@ fn limits() {
     for (name, pair, expected) in joins::limits() {
         let Pair { stocks: [first_stock, second_stock], files: [first, second] } = &pair;
         for (stock, file) in [(first_stock, first), (second_stock, second)] {
-            assert!(caplune::read_transducer(stock, file).is_ok(), "{name}");
+            assert!(slices::read_transducer(stock, file).is_ok(), "{name}");
         }
         let mut area = vec![0; MAX_FILE];
         let start = Instant::now();
-        let form = caplune::join(first_stock, second_stock, first, second, &mut area);
+        let form = slices::join(first_stock, second_stock, first, second, &mut area);
         longest = longest.max(start.elapsed());
         assert_eq!(number(form).map(|form| (form.states, form.marks)), expected, "{name}");
         let joined = join(&mut tally, &pair);
@@ -258,7 +244,7 @@ const OUTPUT: usize = 2_000;
 /// The output tree of at most so many symbols, by the proved translation and by the independent one.
 fn output(stock: &[u8], file: &[u8], tree: &[u8], most: usize) -> Result<Vec<u8>, u32> {
     let mut area = vec![0xa5; most];
-    let length = number(caplune::translate(stock, file, tree, &mut area));
+    let length = number(slices::translate(stock, file, tree, &mut area));
     let written = length.map(|length| area[..length].to_vec());
     assert_eq!(independent::translate(stock, file, tree, most), written, "{stock:?} {file:?} {tree:?}");
     written
@@ -305,7 +291,7 @@ fn outputs_after_outputs() {
 /// the earliest form.
 fn alike(stock: &[u8], first: &[u8], second: &[u8]) -> Option<bool> {
     let (mut tree, mut address) = ([0; TREE_AREA], [0; ADDRESS_AREA]);
-    match caplune::compare(stock, first, second, &mut tree, &mut address) {
+    match slices::compare(stock, first, second, &mut tree, &mut address) {
         Ok(comparison) => Some(comparison == Comparison::Alike),
         Err(refusal) => {
             assert_eq!(refusal.number(), 7, "{stock:?} {first:?} {second:?}");
@@ -317,7 +303,7 @@ fn alike(stock: &[u8], first: &[u8], second: &[u8]) -> Option<bool> {
 /// The normal form of a transducer that is read, unless it is over the limits.
 fn clean(stock: &[u8], file: &[u8]) -> Option<Vec<u8>> {
     let mut area = vec![0; MAX_FILE];
-    match caplune::clean(stock, file, &mut area) {
+    match slices::clean(stock, file, &mut area) {
         Ok(form) => Some(area[..form.length].to_vec()),
         Err(refusal) => {
             assert_eq!(refusal.number(), 7, "{stock:?} {file:?}");

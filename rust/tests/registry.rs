@@ -8,94 +8,25 @@
 mod generate;
 mod lent;
 
-use caplune::{ffi, independent, Head, Record, RECORDS};
+use caplune::ffi;
+use caplune::slices::{self, Head, Record, RECORDS};
+use caplune_independent as independent;
 use generate::alike::{chain, chain_alphabets, prefixed_transducer, small_alphabets, small_transducer};
+use generate::memory::Memory;
 use generate::samples::*;
 use generate::{Alphabets, Random, Transducer};
 use lent::{number, Tally, BEFORE};
 use std::collections::BTreeMap;
 
-/// What is lent, in the middle of what has to stay.
-#[derive(Clone, Debug, PartialEq)]
-struct Memory {
-    head: Head,
-    /// How many records are lent.
-    count: usize,
-    all_records: Vec<Record>,
-    /// How many bytes are lent.
-    size: usize,
-    bytes: Vec<u8>,
-}
-
-/// How many records and bytes stand before and behind what is lent.
-const RECORDS_AROUND: usize = 3;
-const BYTES_AROUND: usize = 24;
-
-impl Memory {
-    /// With a pattern in all of it.
-    fn new(count: usize, size: usize) -> Self {
-        let record = |index: usize| Record { start: 1_000 + index, size: usize::MAX - index };
-        Memory {
-            head: Head { held: 77, used: 78, answered: 79 },
-            count,
-            all_records: (0..count + 2 * RECORDS_AROUND).map(record).collect(),
-            size,
-            bytes: (0..size + 2 * BYTES_AROUND).map(|index| (index * 167 + 91) as u8).collect(),
-        }
-    }
-
-    fn lend(&mut self) -> (&mut Head, &mut [Record], &mut [u8]) {
-        let records = &mut self.all_records[RECORDS_AROUND..RECORDS_AROUND + self.count];
-        (&mut self.head, records, &mut self.bytes[BYTES_AROUND..BYTES_AROUND + self.size])
-    }
-
-    fn records(&self) -> &[Record] {
-        &self.all_records[RECORDS_AROUND..RECORDS_AROUND + self.count]
-    }
-
-    fn area(&self) -> &[u8] {
-        &self.bytes[BYTES_AROUND..BYTES_AROUND + self.size]
-    }
-
-    /// What `call` answers and leaves, head and records being those of the independent implementation.
-    fn independent<T>(
-        &mut self,
-        call: impl FnOnce(&mut independent::Head, &mut [independent::Record], &mut [u8]) -> T,
-    ) -> T {
-        let (head, records, area) = self.lend();
-        let mut other = independent::Head { held: head.held, used: head.used, answered: head.answered };
-        let mut others: Vec<independent::Record> =
-            records.iter().map(|record| independent::Record { start: record.start, length: record.size }).collect();
-        let answer = call(&mut other, &mut others, area);
-        *head = Head { held: other.held, used: other.used, answered: other.answered };
-        for (record, other) in records.iter_mut().zip(others) {
-            *record = Record { start: other.start, size: other.length };
-        }
-        answer
-    }
-}
-
 /// Makes a registry in the memory three times, and answers what all three do.
 fn make(tally: &mut Tally, memory: &mut Memory, stock: &[u8]) -> Result<(), u32> {
     let [mut safe, mut exported] = [memory.clone(), memory.clone()];
     let stock_lent = stock.to_vec();
-    let expected =
-        memory.independent(|head, records, area| independent::Book::make(stock, head, records, area).map(|_| ()));
+    let expected = memory.make(stock);
     let (head, records, area) = safe.lend();
-    assert_eq!(number(caplune::make_registry(head, records, area, &stock_lent)), expected, "{stock:?}");
+    assert_eq!(number(slices::make_registry(head, records, area, &stock_lent)), expected, "{stock:?}");
     let (head, records, area) = exported.lend();
-    // SAFETY: each pointer and length are those of a slice, and the first is to the head.
-    let refused = unsafe {
-        ffi::caplune_make_registry(
-            head,
-            records.as_mut_ptr(),
-            records.len(),
-            area.as_mut_ptr(),
-            area.len(),
-            stock_lent.as_ptr(),
-            stock_lent.len(),
-        )
-    };
+    let refused = ffi::make_registry(head, records, area, &stock_lent);
     assert_eq!(refused, expected.err().unwrap_or(0), "{stock:?}");
     assert!(safe == *memory && exported == *memory && stock_lent == stock, "{stock:?}");
     tally.count("make_registry", &expected, "accepted");
@@ -107,24 +38,12 @@ fn enter(tally: &mut Tally, memory: &mut Memory, file: &[u8]) -> Result<usize, u
     let [mut safe, mut exported] = [memory.clone(), memory.clone()];
     let (before, file_lent) = (memory.head, file.to_vec());
     let told = || format!("{before:?} {file:?}");
-    let expected = memory.independent(|head, records, area| independent::Book { head, records, area }.enter(file));
+    let expected = memory.enter(file);
     let (head, records, area) = safe.lend();
-    assert_eq!(number(caplune::enter(head, records, area, &file_lent)), expected, "{}", told());
+    assert_eq!(number(slices::enter(head, records, area, &file_lent)), expected, "{}", told());
     let (head, records, area) = exported.lend();
     let mut entered = BEFORE[0];
-    // SAFETY: each pointer and length are those of a slice, and the others are to the head and a local.
-    let refused = unsafe {
-        ffi::caplune_enter(
-            head,
-            records.as_mut_ptr(),
-            records.len(),
-            area.as_mut_ptr(),
-            area.len(),
-            file_lent.as_ptr(),
-            file_lent.len(),
-            &mut entered,
-        )
-    };
+    let refused = ffi::enter(head, records, area, &file_lent, &mut entered);
     let left = (expected.err().unwrap_or(0), expected.unwrap_or(BEFORE[0]));
     assert_eq!((refused, entered), left, "{}", told());
     assert!(safe == *memory && exported == *memory && file_lent == file, "{}", told());
@@ -135,25 +54,18 @@ fn enter(tally: &mut Tally, memory: &mut Memory, file: &[u8]) -> Result<usize, u
 
 /// The body of this number, which all three hand out: the same bytes, and in the same place.
 fn body<'a>(tally: &mut Tally, memory: &'a mut Memory, number: usize) -> &'a [u8] {
-    let expected = memory.independent(|head, records, area| {
-        let part = independent::Book { head, records, area }.body(number).map(|part| (part.as_ptr(), part.len()));
-        part.map(|(from, length)| (from as usize, length))
-    });
+    let expected = memory.body(number);
     let name = if expected.is_ok_and(|(_, length)| length > 0) { "body" } else { "empty" };
     tally.count("body", &expected, name);
     let (from, length) = expected.unwrap_or((0, 0));
     let (head, records, area) = (&memory.head, memory.records(), memory.area());
-    let part = caplune::body(head, records, area, number);
+    let part = slices::body(head, records, area, number);
     assert_eq!(part.len(), length, "{head:?} {number}");
     let mut start = BEFORE[0];
-    // SAFETY: each pointer and length are those of a slice, and the others are to the head and a local.
-    let size = unsafe {
-        ffi::caplune_body(head, records.as_ptr(), records.len(), area.as_ptr(), area.len(), number, &mut start)
-    };
-    let expected_start = if length > 0 { from - area.as_ptr() as usize } else { 0 };
-    assert_eq!((size, start), (length, expected_start), "{head:?} {number}");
+    let size = ffi::body(head, records, area, number, &mut start);
+    assert_eq!((size, start), (length, from), "{head:?} {number}");
     if length > 0 {
-        assert_eq!(part.as_ptr() as usize, from);
+        assert_eq!(part.as_ptr() as usize, area.as_ptr() as usize + from);
     }
     part
 }
@@ -489,63 +401,6 @@ fn full() {
     }
 }
 
-/// Damages head, records or area, and often more than once; some of it is still a registry.
-fn damage(random: &mut Random, memory: &mut Memory) {
-    loop {
-        let Head { held, used, .. } = memory.head;
-        let near = |random: &mut Random, number: usize| match random.below(6) {
-            0 => 0,
-            1 => usize::MAX,
-            2 => random.below(100),
-            3 => number.wrapping_add(1),
-            4 => number.wrapping_sub(1),
-            _ => number,
-        };
-        let index = random.below(memory.count.max(1));
-        match random.below(12) {
-            0 => memory.head.held = near(random, held),
-            1 => memory.head.held = random.range(30, 34),
-            2 => memory.head.used = near(random, used),
-            3 => memory.head.answered = random.pick(&[0, 5, u64::MAX, u64::MAX - 1]),
-            4 if index < memory.count => {
-                let record = &mut memory.lend().1[index];
-                record.start = near(random, record.start);
-            }
-            5 if index < memory.count => {
-                let record = &mut memory.lend().1[index];
-                record.size = near(random, record.size);
-            }
-            6 => memory.count = random.range(0, memory.count),
-            7 => memory.size = random.range(0, memory.size),
-            8 => memory.size = used.min(memory.size),
-            9 => {
-                let (_, records, area) = memory.lend();
-                let stock = records.first().map_or(0, |record| record.size).min(area.len());
-                if stock > 0 {
-                    area[random.below(stock)] = random.below(6) as u8;
-                }
-            }
-            // the last body is taken out
-            10 if held > 0 && held < memory.count => {
-                memory.lend().1[held] = Record::default();
-                let record = memory.records()[held - 1];
-                memory.head = Head { held: held - 1, used: record.start.wrapping_add(record.size), answered: 3 };
-            }
-            // two bodies are made one
-            11 if held > 1 && held < memory.count => {
-                let record = std::mem::take(&mut memory.lend().1[held]);
-                let size = &mut memory.lend().1[held - 1].size;
-                *size = size.wrapping_add(record.size);
-                memory.head.held -= 1;
-            }
-            _ => continue,
-        }
-        if random.once_in(2) {
-            return;
-        }
-    }
-}
-
 /// Alphabets, and transducers of few shapes over them, many of them equivalent, with some that are
 /// refused.
 fn pool(random: &mut Random) -> (Alphabets, Vec<Vec<u8>>) {
@@ -613,7 +468,7 @@ fn lists() {
             }
             if random.once_in(10) {
                 let mut other = memory.clone();
-                damage(&mut random, &mut other);
+                other.damage(&mut random);
                 bodies(&mut tally, &mut other);
                 let _ = enter(&mut tally, &mut other, file);
                 if random.once_in(4) {

@@ -1,5 +1,6 @@
 //! The paper's samples: on the independent implementation, and last on the proved library.
-use caplune::independent::*;
+use caplune::slices;
+use caplune_independent::*;
 
 const S: &[u8] = &[2, 1, 0, 2, 2, 0];
 const T: &[u8] = &[1, 0, 3, 0, 3, 0, 1, 0, 0, 1, 0, 1, 0, 0, 0, 1, 0, 1, 0, 0, 1];
@@ -181,21 +182,21 @@ fn addresses() {
 #[test]
 fn proved_library() {
     let number = caplune::Refusal::number;
-    assert_eq!(caplune::read_alphabets(S), Ok(caplune::Symbols { inputs: 2, outputs: 2 }));
-    assert_eq!(caplune::read_alphabets(&[1, 1, 1, 0]).map_err(number), Err(2));
-    assert_eq!(caplune::read_tree(S, &[0, 1]), Ok(caplune::Size { nodes: 2, levels: 2 }));
-    assert_eq!(caplune::read_tree(S, &[0]).map_err(number), Err(3));
-    let parts = caplune::Parts { states: 1, counts: &T[1..7], marks: &T[7..] };
-    assert_eq!(caplune::read_transducer(S, T), Ok(parts));
-    assert_eq!(caplune::read_transducer(S, &[1, 0, 3]).map_err(number), Err(4));
-    assert_eq!(caplune::read_transducer(S, &[0, 0, 1, 1, 0]).map_err(number), Err(5));
-    assert_eq!(caplune::is_linear(S, T), Ok(false));
-    assert_eq!(caplune::is_linear(S, &[0, 0, 1, 0, 1]), Ok(true));
+    assert_eq!(slices::read_alphabets(S), Ok(slices::Symbols { inputs: 2, outputs: 2 }));
+    assert_eq!(slices::read_alphabets(&[1, 1, 1, 0]).map_err(number), Err(2));
+    assert_eq!(slices::read_tree(S, &[0, 1]), Ok(slices::Size { nodes: 2, levels: 2 }));
+    assert_eq!(slices::read_tree(S, &[0]).map_err(number), Err(3));
+    let parts = slices::Parts { states: 1, counts: &T[1..7], marks: &T[7..] };
+    assert_eq!(slices::read_transducer(S, T), Ok(parts));
+    assert_eq!(slices::read_transducer(S, &[1, 0, 3]).map_err(number), Err(4));
+    assert_eq!(slices::read_transducer(S, &[0, 0, 1, 1, 0]).map_err(number), Err(5));
+    assert_eq!(slices::is_linear(S, T), Ok(false));
+    assert_eq!(slices::is_linear(S, &[0, 0, 1, 0, 1]), Ok(true));
     let mut area = vec![0xa5; MAX_FILE];
     let short = &mut area[..MAX_FILE - 1];
-    assert_eq!(caplune::write_transducer(S, 1, parts.counts, parts.marks, short).map_err(number), Err(1));
+    assert_eq!(slices::write_transducer(S, 1, parts.counts, parts.marks, short).map_err(number), Err(1));
     assert!(area.iter().all(|&byte| byte == 0xa5));
-    assert_eq!(caplune::write_transducer(S, 1, parts.counts, parts.marks, &mut area), Ok(T.len()));
+    assert_eq!(slices::write_transducer(S, 1, parts.counts, parts.marks, &mut area), Ok(T.len()));
     assert_eq!(&area[..T.len()], T);
     assert!(area[T.len()..].iter().all(|&byte| byte == 0xa5));
 }
@@ -204,16 +205,16 @@ fn proved_library() {
 fn proved_translation() {
     let number = caplune::Refusal::number;
     let mut area = [0xa5; 8];
-    assert_eq!(caplune::translate(S, T, &[0, 1], &mut area[..6]).map_err(number), Err(6));
+    assert_eq!(slices::translate(S, T, &[0, 1], &mut area[..6]).map_err(number), Err(6));
     assert_eq!(area, [0xa5; 8]);
-    assert_eq!(caplune::translate(S, T, &[0, 1], &mut area[..7]), Ok(7));
+    assert_eq!(slices::translate(S, T, &[0, 1], &mut area[..7]), Ok(7));
     assert_eq!(area, [0, 0, 1, 1, 0, 1, 1, 0xa5]);
-    assert_eq!(caplune::translate(S, T, &[1], &mut area), Ok(3));
+    assert_eq!(slices::translate(S, T, &[1], &mut area), Ok(3));
     assert_eq!(area, [0, 1, 1, 1, 0, 1, 1, 0xa5]);
-    assert_eq!(caplune::symbol_at(S, T, &[1], &[1]), Ok(Some(1)));
-    assert_eq!(caplune::symbol_at(S, T, &[1], &[1, 1]), Ok(None));
+    assert_eq!(slices::symbol_at(S, T, &[1], &[1]), Ok(Some(1)));
+    assert_eq!(slices::symbol_at(S, T, &[1], &[1, 1]), Ok(None));
     // an output tree of 2^513 - 1 symbols, which nobody builds
     let chain = [vec![0; 511], vec![1]].concat();
-    assert_eq!(caplune::symbol_at(S, T, &chain, &[2; 512]), Ok(Some(1)));
-    assert_eq!(caplune::translate(S, T, &chain, &mut area).map_err(number), Err(6));
+    assert_eq!(slices::symbol_at(S, T, &chain, &[2; 512]), Ok(Some(1)));
+    assert_eq!(slices::translate(S, T, &chain, &mut area).map_err(number), Err(6));
 }

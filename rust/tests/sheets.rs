@@ -1,62 +1,33 @@
 //! Runs the program `sheets` in folders of its own, and compares what it prints with document 01's text, made here from
 //! what the library answers. It covers what no contract says: which file is read into which place, and how far.
+mod folder;
 mod generate;
 
-use caplune::{Comparison, Difference, ADDRESS_AREA, TREE_AREA};
+use caplune::slices::{self, Comparison, Difference, ADDRESS_AREA, TREE_AREA};
+use folder::Folder;
 use generate::alike::{any, chain, chain_alphabets, small_alphabets, small_transducer};
 use generate::rows::{row_alphabets, Row};
 use generate::samples::*;
 use generate::Random;
 use std::fs;
-use std::path::{Path, PathBuf};
-use std::process::Command;
-use std::sync::atomic::{AtomicUsize, Ordering};
+use std::path::Path;
 
-/// A folder below the system's temporary ones, removed at the end.
-struct Folder(PathBuf);
-
-impl Folder {
-    fn new() -> Self {
-        static MADE: AtomicUsize = AtomicUsize::new(0);
-        let name = format!("caplune-sheets-{}-{}", std::process::id(), MADE.fetch_add(1, Ordering::Relaxed));
-        let folder = Folder(std::env::temp_dir().join(name));
-        fs::create_dir(&folder.0).expect("a new folder");
-        folder
-    }
-
-    /// With these three files.
-    fn with(stock: &[u8], first: &[u8], second: &[u8]) -> Self {
-        let folder = Folder::new();
-        for (name, bytes) in [("stock", stock), ("first", first), ("second", second)] {
-            fs::write(folder.file(name), bytes).expect("a new file");
-        }
-        folder
-    }
-
-    fn file(&self, name: &str) -> PathBuf {
-        self.0.join(name)
-    }
-
-    /// What the program prints here. It ends well whatever it finds, and says nothing else.
-    fn run(&self) -> String {
-        let program = Path::new(env!("CARGO_MANIFEST_DIR")).join("../target/bin/sheets");
-        assert!(program.is_file(), "target/bin/sheets is missing: `rt check sheets` proves and builds it");
-        let program = program.canonicalize().expect("a path");
-        let ended = Command::new(program).current_dir(&self.0).output().expect("the program runs");
-        assert_eq!((ended.status.code(), &ended.stderr[..]), (Some(0), &[][..]));
-        String::from_utf8(ended.stdout).expect("the text is ASCII")
-    }
+/// A folder with these three files.
+fn folder(stock: &[u8], first: &[u8], second: &[u8]) -> Folder {
+    Folder::with(&[("stock", stock), ("first", first), ("second", second)])
 }
 
-impl Drop for Folder {
-    fn drop(&mut self) {
-        // a folder that is left behind fails no test
-        let _ = fs::remove_dir_all(&self.0);
-    }
+/// What the program prints in this folder. It ends well whatever it finds, and says nothing else.
+fn run(folder: &Folder) -> String {
+    let program = Path::new(env!("CARGO_MANIFEST_DIR")).join("../target/bin/sheets");
+    assert!(program.is_file(), "target/bin/sheets is missing: `rt check sheets` proves and builds it");
+    let ended = folder.run(&program.canonicalize().expect("a path"), &[] as &[&str], b"");
+    assert_eq!((ended.status, &ended.err[..]), (Some(0), ""));
+    ended.text().to_string()
 }
 
 fn printed(stock: &[u8], first: &[u8], second: &[u8]) -> String {
-    Folder::with(stock, first, second).run()
+    run(&folder(stock, first, second))
 }
 
 fn numbers(bytes: &[u8], between: &str) -> String {
@@ -71,7 +42,7 @@ fn block(symbol: u8) -> String {
 /// The text of the paper, from what the library answers.
 fn text(stock: &[u8], first: &[u8], second: &[u8]) -> String {
     let (mut tree, mut address) = ([0; TREE_AREA], [0; ADDRESS_AREA]);
-    let verdict = match caplune::compare(stock, first, second, &mut tree, &mut address) {
+    let verdict = match slices::compare(stock, first, second, &mut tree, &mut address) {
         Err(refusal) => return format!("refused {}\n", refusal.number()),
         Ok(Comparison::Alike) => "alike".to_string(),
         Ok(Comparison::Differ(Difference { tree, address, first, second })) => {
@@ -80,7 +51,7 @@ fn text(stock: &[u8], first: &[u8], second: &[u8]) -> String {
         }
     };
     let [one, two] = [first, second].map(|file| {
-        let form = caplune::clean(stock, file, &mut [0; 20_483]).expect("the comparison took it");
+        let form = slices::clean(stock, file, &mut [0; 20_483]).expect("the comparison took it");
         format!("{} {}", form.states, form.marks)
     });
     format!("first {one}\nsecond {two}\n{verdict}\n")
@@ -111,9 +82,9 @@ fn missing_files() {
         (&["first", "second"], "refused 4\n"),
         (&["stock", "first", "second"], "refused 2\n"),
     ] {
-        let folder = Folder::with(S, T, T_PRIME);
+        let folder = folder(S, T, T_PRIME);
         names.iter().for_each(|name| fs::remove_file(folder.file(name)).expect("it was there"));
-        assert_eq!(folder.run(), expected, "{names:?}");
+        assert_eq!(run(&folder), expected, "{names:?}");
     }
 }
 
@@ -121,10 +92,10 @@ fn missing_files() {
 #[test]
 fn folders_for_files() {
     for (name, expected) in [("stock", "refused 2\n"), ("first", "refused 4\n"), ("second", "refused 4\n")] {
-        let folder = Folder::with(S, T, T_PRIME);
+        let folder = folder(S, T, T_PRIME);
         fs::remove_file(folder.file(name)).expect("it was there");
         fs::create_dir(folder.file(name)).expect("a new folder");
-        assert_eq!(folder.run(), expected, "{name}");
+        assert_eq!(run(&folder), expected, "{name}");
     }
 }
 
@@ -134,10 +105,10 @@ fn folders_for_files() {
 fn unreadable_files() {
     use std::os::unix::fs::PermissionsExt;
     for (name, refused) in [("stock", "refused 2\n"), ("first", "refused 4\n"), ("second", "refused 4\n")] {
-        let folder = Folder::with(S, T, T_PRIME);
-        fs::set_permissions(folder.file(name), fs::Permissions::from_mode(0)).expect("it is ours");
+        let folder = folder(S, T, T_PRIME);
+        fs::set_permissions(folder.file(name), fs::Permissions::from_mode(0o0)).expect("it is ours");
         let readable = fs::read(folder.file(name)).is_ok();
-        assert_eq!(folder.run(), if readable { ALIKE } else { refused }, "{name}");
+        assert_eq!(run(&folder), if readable { ALIKE } else { refused }, "{name}");
     }
 }
 

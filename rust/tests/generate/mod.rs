@@ -4,7 +4,9 @@
 #![allow(dead_code)]
 
 pub mod alike;
+pub mod cases;
 pub mod joins;
+pub mod memory;
 pub mod rows;
 pub mod samples;
 
@@ -179,7 +181,7 @@ pub fn small_trees(ranks: &[u8], most: usize) -> Vec<Vec<u8>> {
 
 /// The number of nodes up to which all input trees are tried: not more than `most` trees.
 pub fn affordable(ranks: &[u8], most: usize) -> usize {
-    (1..40).take_while(|&limit| caplune::independent::count_trees(ranks, limit) <= most).last().unwrap_or(0)
+    (1..40).take_while(|&limit| caplune_independent::count_trees(ranks, limit) <= most).last().unwrap_or(0)
 }
 
 /// The nodes of an input tree that is enough to tell two transducers apart.

@@ -2,8 +2,9 @@
 //! `xsltproc` is installed against the same transducer as an XSLT 1.0 stylesheet, and where OpenFst's
 //! `fstminimize` is installed against the minimization of the same transducer on strings.
 //!
-//! `cargo run --release --offline --bin bench`
-use caplune::independent;
+//! `cargo bench --offline`
+use caplune::slices;
+use caplune_independent as independent;
 use std::cell::RefCell;
 use std::hint::black_box;
 use std::io::Write;
@@ -27,7 +28,7 @@ struct Case {
 impl Case {
     /// Translates by the proved library.
     fn proved(&self, area: &mut [u8]) {
-        black_box(caplune::translate(&self.stock, &self.file, black_box(&self.tree), area)).expect("it is translated");
+        black_box(slices::translate(&self.stock, &self.file, black_box(&self.tree), area)).expect("it is translated");
     }
 
     /// Translates by the independent implementation.
@@ -119,7 +120,7 @@ fn reading(cases: &[Case]) {
         line(
             &format!("read alphabets, {}", case.name),
             case.stock.len(),
-            &mut || discard(black_box(caplune::read_alphabets(black_box(&case.stock)))),
+            &mut || discard(black_box(slices::read_alphabets(black_box(&case.stock)))),
             &mut || discard(black_box(independent::read_alphabets(black_box(&case.stock)))),
         );
     }
@@ -127,7 +128,7 @@ fn reading(cases: &[Case]) {
         line(
             &format!("read tree, {}", case.name),
             case.tree.len(),
-            &mut || discard(black_box(caplune::read_tree(&case.stock, black_box(&case.tree)))),
+            &mut || discard(black_box(slices::read_tree(&case.stock, black_box(&case.tree)))),
             &mut || discard(black_box(independent::read_tree(&case.stock, black_box(&case.tree)))),
         );
     }
@@ -136,16 +137,16 @@ fn reading(cases: &[Case]) {
         line(
             &format!("read transducer, {name}"),
             file.len(),
-            &mut || discard(black_box(caplune::read_transducer(stock, black_box(file)))),
+            &mut || discard(black_box(slices::read_transducer(stock, black_box(file)))),
             &mut || discard(black_box(independent::read_transducer(stock, black_box(file)))),
         );
         line(
             &format!("linear test, {name}"),
             file.len(),
-            &mut || discard(black_box(caplune::is_linear(stock, black_box(file)))),
+            &mut || discard(black_box(slices::is_linear(stock, black_box(file)))),
             &mut || discard(black_box(independent::is_linear(stock, black_box(file)))),
         );
-        let parts = caplune::read_transducer(stock, file).expect("the transducer is read");
+        let parts = slices::read_transducer(stock, file).expect("the transducer is read");
         let (states, counts, marks) = (parts.states, parts.counts, parts.marks);
         let area = RefCell::new(vec![1; independent::MAX_FILE]);
         line(
@@ -153,7 +154,7 @@ fn reading(cases: &[Case]) {
             file.len(),
             &mut || {
                 let area = &mut area.borrow_mut()[..];
-                discard(black_box(caplune::write_transducer(stock, states, counts, black_box(marks), area)))
+                discard(black_box(slices::write_transducer(stock, states, counts, black_box(marks), area)))
             },
             &mut || {
                 let area = &mut area.borrow_mut()[..];
@@ -182,7 +183,7 @@ fn translating(cases: &[Case]) {
         line(
             &format!("symbol at the last node, {name}"),
             address.len(),
-            &mut || discard(black_box(caplune::symbol_at(stock, file, tree, black_box(&address)))),
+            &mut || discard(black_box(slices::symbol_at(stock, file, tree, black_box(&address)))),
             &mut || discard(black_box(independent::symbol_at(stock, file, tree, black_box(&address)))),
         );
     }
@@ -225,7 +226,7 @@ struct Sheet {
 impl Sheet {
     /// Minimizes by the proved library.
     fn proved(&self, area: &mut [u8]) {
-        discard(black_box(caplune::clean(&self.stock, black_box(&self.file), area)))
+        discard(black_box(slices::clean(&self.stock, black_box(&self.file), area)))
     }
 
     /// Minimizes by the independent implementation.
@@ -236,7 +237,7 @@ impl Sheet {
     /// The minimal transducer, or the refusal; both sides give it.
     fn clean(&self) -> Result<Vec<u8>, u32> {
         let mut area = vec![1; independent::MAX_FILE];
-        let form = caplune::clean(&self.stock, &self.file, &mut area);
+        let form = slices::clean(&self.stock, &self.file, &mut area);
         let proved = form.map(|form| area[..form.length].to_vec()).map_err(caplune::Refusal::number);
         assert_eq!(proved, independent::clean(&self.stock, &self.file), "{}", self.name);
         proved
@@ -263,12 +264,12 @@ fn cleaning() {
 /// Whether two transducers are equivalent.
 fn comparing() {
     for Pair { name, stock, first, second } in pairs() {
-        let areas = RefCell::new((vec![1; caplune::TREE_AREA], vec![1; caplune::ADDRESS_AREA]));
+        let areas = RefCell::new((vec![1; slices::TREE_AREA], vec![1; slices::ADDRESS_AREA]));
         let proved = || {
             let (tree, address) = &mut *areas.borrow_mut();
-            caplune::compare(&stock, black_box(&first), &second, tree, address).map(|comparison| match comparison {
-                caplune::Comparison::Alike => None,
-                caplune::Comparison::Differ(shown) => Some((shown.tree.len(), shown.address.len())),
+            slices::compare(&stock, black_box(&first), &second, tree, address).map(|comparison| match comparison {
+                slices::Comparison::Alike => None,
+                slices::Comparison::Differ(shown) => Some((shown.tree.len(), shown.address.len())),
             })
         };
         let independent = || independent::compare(&stock, black_box(&first), &second);
@@ -372,10 +373,10 @@ fn entering() {
 
 /// Prints a line for an entry into a registry of these transducers.
 fn entry(name: &str, stock: &[u8], held: &[Vec<u8>], file: &[u8]) {
-    let (mut head, mut records, mut area) = (caplune::Head::default(), [caplune::Record::default(); 33], [1; 65_536]);
-    caplune::make_registry(&mut head, &mut records, &mut area, stock).expect("it is made");
+    let (mut head, mut records, mut area) = (slices::Head::default(), [slices::Record::default(); 33], [1; 65_536]);
+    slices::make_registry(&mut head, &mut records, &mut area, stock).expect("it is made");
     for file in held {
-        caplune::enter(&mut head, &mut records, &mut area, file).expect("it is entered");
+        slices::enter(&mut head, &mut records, &mut area, file).expect("it is entered");
     }
     let mut other = independent::Head { held: head.held, used: head.used, answered: head.answered };
     let mut others = records.map(|record| independent::Record { start: record.start, length: record.size });
@@ -384,7 +385,7 @@ fn entry(name: &str, stock: &[u8], held: &[Vec<u8>], file: &[u8]) {
     let (record, other_record) = (records[next], others[next]);
     let mut proved = || {
         (head, records[next]) = (before, record);
-        caplune::enter(&mut head, &mut records, &mut area, black_box(file)).map_err(caplune::Refusal::number)
+        slices::enter(&mut head, &mut records, &mut area, black_box(file)).map_err(caplune::Refusal::number)
     };
     let mut independent = || {
         (other, others[next]) = (other_before, other_record);
@@ -416,7 +417,7 @@ fn joining() {
         let area = RefCell::new(vec![1; independent::MAX_FILE]);
         let proved = || {
             let area = &mut area.borrow_mut()[..];
-            caplune::join(&first_stock, &second_stock, black_box(&first), &second, area)
+            slices::join(&first_stock, &second_stock, black_box(&first), &second, area)
         };
         let independent = || {
             let area = &mut area.borrow_mut()[..];

@@ -1,0 +1,127 @@
+//! Why an input is sent back.
+use std::fmt;
+
+/// Why an input is sent back: a row of the paper's table. Nothing that was lent has changed.
+///
+/// ```
+/// use caplune::{Alphabets, Refusal};
+/// let refusal = Alphabets::read(&[1, 1, 1, 0]).unwrap_err();
+/// assert_eq!((refusal, refusal.number()), (Refusal::BadAlphabets, 2));
+/// assert_eq!(refusal.to_string(), "refused by 2: not two ranked alphabets (a stock)");
+/// ```
+#[must_use]
+#[non_exhaustive]
+#[derive(Clone, Copy, Debug, PartialEq, Eq, Hash, PartialOrd, Ord)]
+pub enum Refusal {
+    /// An area that is lent for writing is too short.
+    ShortArea = 1,
+    /// Not two ranked alphabets (a stock).
+    BadAlphabets = 2,
+    /// Not an input tree (a design), or over its limits.
+    BadTree = 3,
+    /// The number of states (passes), a count, their sum or a length is wrong.
+    BadContents = 4,
+    /// An initial term (opening) or right-hand side (line) is not one tree of known marks.
+    BadBody = 5,
+    /// The output tree (plan) has more symbols than its area has bytes.
+    LongOutput = 6,
+    /// The earliest form (trimmed sheet) is over the limits of a transducer.
+    OverLimits = 7,
+    /// The registry (book) is full.
+    FullRegistry = 8,
+    /// Not a registry (book).
+    BadRegistry = 9,
+    /// The output symbols of the first transducer are not the input symbols of the second.
+    OtherAlphabet = 16,
+    /// The joined transducer is over the limits of a transducer.
+    JoinOverLimits = 17,
+}
+
+impl Refusal {
+    /// Every refusal, by number.
+    pub const ALL: [Refusal; 11] = [
+        Refusal::ShortArea,
+        Refusal::BadAlphabets,
+        Refusal::BadTree,
+        Refusal::BadContents,
+        Refusal::BadBody,
+        Refusal::LongOutput,
+        Refusal::OverLimits,
+        Refusal::FullRegistry,
+        Refusal::BadRegistry,
+        Refusal::OtherAlphabet,
+        Refusal::JoinOverLimits,
+    ];
+
+    /// The number in the paper's table.
+    #[must_use]
+    pub fn number(self) -> u32 {
+        self as u32
+    }
+
+    /// The refusal of this number, which a function of the library returned: by the contracts of crate `exports` it is a
+    /// number of the table.
+    pub(crate) fn of(number: u32) -> Self {
+        let found = Self::ALL.into_iter().find(|refusal| refusal.number() == number);
+        found.unwrap_or_else(|| unreachable!("the library refuses by {number}, which no contract allows"))
+    }
+
+    /// What is wrong, in a few words.
+    #[must_use]
+    pub fn meaning(self) -> &'static str {
+        match self {
+            Refusal::ShortArea => "an area is too short",
+            Refusal::BadAlphabets => "not two ranked alphabets (a stock)",
+            Refusal::BadTree => "not an input tree (a design), or over its limits",
+            Refusal::BadContents => "the number of states (passes), a count, their sum or a length is wrong",
+            Refusal::BadBody => "an initial term (opening) or right-hand side (line) is not one tree of known marks",
+            Refusal::LongOutput => "the output tree (the plan) has more symbols than its area has bytes",
+            Refusal::OverLimits => "the earliest form (the trimmed sheet) is over the limits of a sheet",
+            Refusal::FullRegistry => "the registry (the book) is full",
+            Refusal::BadRegistry => "not a registry (a book)",
+            Refusal::OtherAlphabet => {
+                "the output symbols (block kinds) of the first are not the input symbols (part kinds) of the second"
+            }
+            Refusal::JoinOverLimits => "the joined transducer (the joined sheet) is over the limits of a sheet",
+        }
+    }
+
+    /// What to do about it: the last column of docs/REFUSALS.md.
+    #[must_use]
+    pub fn remedy(self) -> &'static str {
+        match self {
+            Refusal::ShortArea => "lend a longer area",
+            Refusal::BadAlphabets => {
+                "P (1 to 16), P ranks (0 to 4), B (1 to 64), B ranks, nothing more; some input rank is 0"
+            }
+            Refusal::BadTree => "one symbol for each node in preorder, nothing behind the tree",
+            Refusal::BadContents => "N, two bytes for each body's mark count, two bytes for each mark, nothing more",
+            Refusal::BadBody => {
+                "each body is one tree; symbols below B, states below N, children up to the rank of the body's symbol \
+                 (1 in the initial term)"
+            }
+            Refusal::LongOutput => {
+                "lend a longer area (`caplune sew --most N`); the symbol at one address can be had without any (`caplune place`)"
+            },
+            Refusal::OverLimits => "split the sheet: what it lays at once is too large for one line",
+            Refusal::FullRegistry => {
+                "make another book with a longer area (`caplune book make --area N`), or one for the further sheets: numbers given stay"
+            }
+            Refusal::BadRegistry => {
+                "lend head, records and area as the last call left them; make the book anew if they are lost"
+            }
+            Refusal::OtherAlphabet => "join under a second stock whose part kinds are the first's block kinds",
+            Refusal::JoinOverLimits => {
+                "clean both sheets first, or split one: what the two lay at once is too large for one line"
+            }
+        }
+    }
+}
+
+impl fmt::Display for Refusal {
+    fn fmt(&self, f: &mut fmt::Formatter) -> fmt::Result {
+        write!(f, "refused by {}: {}", self.number(), self.meaning())
+    }
+}
+
+impl std::error::Error for Refusal {}

@@ -1,0 +1,169 @@
+//! The lent memory of a registry, patterned, and its damages.
+use super::Random;
+use caplune::slices::{Head, Record};
+use caplune_independent as independent;
+
+/// What is lent, in the middle of what has to stay.
+#[derive(Clone, Debug, PartialEq)]
+pub struct Memory {
+    pub head: Head,
+    /// How many records are lent.
+    pub count: usize,
+    all_records: Vec<Record>,
+    /// How many bytes are lent.
+    pub size: usize,
+    bytes: Vec<u8>,
+}
+
+/// How many records and bytes stand before and behind what is lent.
+const RECORDS_AROUND: usize = 3;
+const BYTES_AROUND: usize = 24;
+
+impl Memory {
+    /// With a pattern in all of it.
+    pub fn new(count: usize, size: usize) -> Self {
+        let record = |index: usize| Record { start: 1_000 + index, size: usize::MAX - index };
+        Memory {
+            head: Head { held: 77, used: 78, answered: 79 },
+            count,
+            all_records: (0..count + 2 * RECORDS_AROUND).map(record).collect(),
+            size,
+            bytes: (0..size + 2 * BYTES_AROUND).map(|index| (index * 167 + 91) as u8).collect(),
+        }
+    }
+
+    pub fn lend(&mut self) -> (&mut Head, &mut [Record], &mut [u8]) {
+        let records = &mut self.all_records[RECORDS_AROUND..RECORDS_AROUND + self.count];
+        (&mut self.head, records, &mut self.bytes[BYTES_AROUND..BYTES_AROUND + self.size])
+    }
+
+    pub fn records(&self) -> &[Record] {
+        &self.all_records[RECORDS_AROUND..RECORDS_AROUND + self.count]
+    }
+
+    pub fn area(&self) -> &[u8] {
+        &self.bytes[BYTES_AROUND..BYTES_AROUND + self.size]
+    }
+
+    /// What `call` answers and leaves, head and records being those of the independent implementation.
+    fn independent<T>(
+        &mut self,
+        call: impl FnOnce(&mut independent::Head, &mut [independent::Record], &mut [u8]) -> T,
+    ) -> T {
+        let (head, records, area) = self.lend();
+        let mut other = independent::Head { held: head.held, used: head.used, answered: head.answered };
+        let mut others: Vec<independent::Record> =
+            records.iter().map(|record| independent::Record { start: record.start, length: record.size }).collect();
+        let answer = call(&mut other, &mut others, area);
+        *head = Head { held: other.held, used: other.used, answered: other.answered };
+        for (record, other) in records.iter_mut().zip(others) {
+            *record = Record { start: other.start, size: other.length };
+        }
+        answer
+    }
+
+    /// Makes a registry by the independent implementation.
+    pub fn make(&mut self, stock: &[u8]) -> Result<(), u32> {
+        self.independent(|head, records, area| independent::Book::make(stock, head, records, area).map(|_| ()))
+    }
+
+    /// Enters a transducer by the independent implementation: its number.
+    pub fn enter(&mut self, file: &[u8]) -> Result<usize, u32> {
+        self.independent(|head, records, area| independent::Book { head, records, area }.enter(file))
+    }
+
+    /// Where the independent implementation finds the body of this number in the area: its start and its length.
+    pub fn body(&mut self, number: usize) -> Result<(usize, usize), u32> {
+        self.independent(|head, records, area| {
+            let from = area.as_ptr() as usize;
+            let book = independent::Book { head, records, area };
+            // an empty body is at byte 0
+            let place =
+                |part: &[u8]| if part.is_empty() { (0, 0) } else { (part.as_ptr() as usize - from, part.len()) };
+            book.body(number).map(place)
+        })
+    }
+
+    /// Damages head, records or area, and often more than once; some of it is still a registry.
+    pub fn damage(&mut self, random: &mut Random) {
+        loop {
+            match random.below(3) {
+                0 => self.damage_head(random),
+                1 => self.damage_records(random),
+                _ => self.damage_area(random),
+            }
+            if random.once_in(2) {
+                return;
+            }
+        }
+    }
+
+    fn damage_head(&mut self, random: &mut Random) {
+        let Head { held, used, answered } = &mut self.head;
+        match random.below(5) {
+            0 => *held = near(random, *held),
+            1 => *held = random.range(30, 34),
+            2 => *used = near(random, *used),
+            3 => *answered = random.pick(&[u64::MAX, u64::MAX - 1]),
+            _ => *answered = answered.wrapping_add(random.next()),
+        }
+    }
+
+    fn damage_records(&mut self, random: &mut Random) {
+        let (held, count) = (self.head.held, self.count);
+        if random.once_in(6) {
+            self.count = random.range(0, count);
+            return;
+        }
+        let bodies = held > 0 && held < count;
+        let records = self.lend().1;
+        match random.below(4) {
+            // the last body is taken out
+            0 if bodies => {
+                let last = std::mem::take(&mut records[held]);
+                self.head = Head { held: held - 1, used: last.start, answered: 3 };
+            }
+            // two bodies are made one, or the first and the stock
+            1 if bodies => {
+                let last = std::mem::take(&mut records[held]);
+                let size = &mut records[held - 1].size;
+                *size = size.wrapping_add(last.size);
+                self.head.held -= 1;
+            }
+            _ => {
+                // those in use, or any
+                let among = if random.once_in(2) { held.saturating_add(2).min(count) } else { count };
+                let index = random.below(among.max(1));
+                let Some(record) = records.get_mut(index) else { return };
+                let number = if random.once_in(2) { &mut record.start } else { &mut record.size };
+                *number = near(random, *number);
+            }
+        }
+    }
+
+    fn damage_area(&mut self, random: &mut Random) {
+        match random.below(3) {
+            0 => self.size = random.range(0, self.size),
+            1 => self.size = self.head.used.min(self.size),
+            _ => {
+                let (_, records, area) = self.lend();
+                let stock = records.first().map_or(0, |record| record.size).min(area.len());
+                if stock > 0 {
+                    area[random.below(stock)] = random.below(6) as u8;
+                }
+            }
+        }
+    }
+}
+
+/// A number that is this one, one beside it, or far from it.
+fn near(random: &mut Random, number: usize) -> usize {
+    match random.below(6) {
+        0 => 0,
+        1 => usize::MAX,
+        2 => random.below(100),
+        3 => number.wrapping_add(1),
+        4 => number.wrapping_sub(1),
+        _ => number,
+    }
+}
