@@ -1,0 +1,103 @@
+//! The commands of a book on disk.
+use crate::arguments::Arguments;
+use crate::commands::count;
+use crate::failure::Failure;
+use crate::files::{names_beside, print, shown, write_table, Content, Inputs, Stock};
+use crate::Status;
+use caplune::{store, text, Registry};
+use std::ffi::OsStr;
+use std::path::Path;
+
+/// Makes a book.
+pub fn make(arguments: &Arguments) -> Result<Status, Failure> {
+    let area = arguments.number("--area", Registry::LONGEST_AREA, Registry::LONGEST_AREA)?;
+    let path = Path::new(&arguments.plain[0]);
+    let stock = Inputs::default().stock(&arguments.plain[1])?;
+    store::make(path, &stock.alphabets, area).map_err(|error| Failure::of_book(&shown(path.as_os_str()), error))?;
+    write_table(path, &text::write_names(&stock.names))?;
+    Ok(Status::Done)
+}
+
+/// A book on disk, with the stock that it was made for.
+fn open(file: &OsStr) -> Result<(Registry, Stock), Failure> {
+    let path = Path::new(file);
+    let registry = store::read(path).map_err(|error| Failure::of_book(&shown(file), error))?;
+    let alphabets = registry.alphabets().clone();
+    let names = names_beside(Some(path), &alphabets)?;
+    Ok((registry, Stock { alphabets, names }))
+}
+
+/// Enters sheets into a book. Those that are refused are told one by one; the numbers of the others are printed once the book is on
+/// disk.
+pub fn enter(arguments: &Arguments) -> Result<Status, Failure> {
+    let file = &arguments.plain[0];
+    // the stock of a book never changes, so it can be read before the book is kept from others
+    let (_, stock) = open(file)?;
+    let mut inputs = Inputs::default();
+    let sheets: Vec<_> = arguments.plain[1..].iter().map(|sheet| inputs.sheet(sheet, &stock)).collect();
+    let answers = store::change(Path::new(file), |registry| {
+        let entered = |sheet: Result<crate::files::Sheet, Failure>| {
+            let sheet = sheet?;
+            let number = registry.enter(&sheet.transducer);
+            number
+                .map(|number| format!("{}: {number}\n", sheet.name))
+                .map_err(|refusal| Failure::refused(&sheet.name, refusal))
+        };
+        sheets.into_iter().map(entered).collect::<Vec<_>>()
+    });
+    let answers = answers.map_err(|error| Failure::of_book(&shown(file), error))?;
+    let mut refused = false;
+    for answer in answers {
+        match answer {
+            Ok(line) => print(line.as_bytes())?,
+            Err(failure) => {
+                failure.tell();
+                refused = true;
+            }
+        }
+    }
+    if refused {
+        Err(Failure::ToldBefore)
+    } else {
+        Ok(Status::Done)
+    }
+}
+
+/// Lists the sheets of a book.
+pub fn list(arguments: &Arguments) -> Result<Status, Failure> {
+    let (registry, _) = open(&arguments.plain[0])?;
+    let sheets = count(registry.held(), "sheet", "sheets");
+    let (used, area, answered) = (registry.used(), registry.area(), registry.answered());
+    let mut lines = format!("# {sheets}, {used} of {area} bytes used, entries answered: {answered}\n");
+    for (number, form) in (1..=registry.held()).filter_map(|number| Some((number, registry.normal_form(number)?))) {
+        let size = format!("{}, {}", count(form.states(), "pass", "passes"), count(form.marks(), "mark", "marks"));
+        lines += &format!("{number}: {size}\n");
+    }
+    print(lines.as_bytes())?;
+    Ok(Status::Done)
+}
+
+/// Shows the sheet of a number, or the stock.
+pub fn show(arguments: &Arguments) -> Result<Status, Failure> {
+    let (registry, stock) = open(&arguments.plain[0])?;
+    let number: Option<usize> = arguments.plain[1].to_str().and_then(|text| text.parse().ok());
+    let content = match number {
+        Some(0) => Content::stock(&stock),
+        _ => match number.and_then(|number| registry.normal_form(number)) {
+            Some(form) => Content::numbered(&form, &stock.names),
+            None => return Err(not_held(arguments, &registry)),
+        },
+    };
+    content.deliver(arguments)?;
+    Ok(Status::Done)
+}
+
+/// A number under which the book holds nothing.
+fn not_held(arguments: &Arguments, registry: &Registry) -> Failure {
+    let asked = shown(&arguments.plain[1]);
+    let why = match registry.held() {
+        0 => format!("there is no number {asked}: the book holds no sheet yet"),
+        held => format!("there is no number {asked}: the book holds the numbers 1 to {held}, and its stock is 0"),
+    };
+    Failure::of_file(&shown(&arguments.plain[0]), why)
+}

@@ -1,0 +1,362 @@
+//! The commands: what each takes, does and says of itself.
+use crate::arguments::{Arguments, Choice};
+use crate::failure::Failure;
+use crate::files::{print, shown, Content, Either, Inputs, Stock};
+use crate::{book, comparing, Status};
+use caplune::{text, Address};
+use std::ffi::OsString;
+use std::fmt::Write;
+
+/// A command of the program.
+pub struct Command {
+    name: &'static str,
+    takes: &'static str,
+    /// How many words it takes that are no options: at least, and at most.
+    words: (usize, usize),
+    choices: &'static [Choice],
+    does: &'static str,
+    more: &'static str,
+    example: &'static str,
+    run: fn(&Arguments) -> Result<Status, Failure>,
+}
+
+const OUTPUT: Choice = Choice { name: "-o", takes: Some("FILE"), says: "write to FILE, not to standard output" };
+const BYTES: Choice =
+    Choice { name: "--bytes", takes: None, says: "write bytes, and the table FILE.names beside FILE; else text" };
+const PLAN: Choice = Choice { name: "--bytes", takes: None, says: "write bytes; else text" };
+const AS: Choice = Choice { name: "--as", takes: Some("KIND"), says: "read bytes as `sheet` or as `design`" };
+const MOST: Choice =
+    Choice { name: "--most", takes: Some("N"), says: "refuse a plan of over N blocks (else 16777216)" };
+const SVG: Choice =
+    Choice { name: "--svg", takes: Some("FILE"), says: "draw the difference of two sheets as a picture" };
+const STOCK: Choice = Choice { name: "--stock", takes: Some("FILE"), says: "write the joined sheet's stock to FILE" };
+const AREA: Choice =
+    Choice { name: "--area", takes: Some("N"), says: "the book has room for N bytes (else for any 32 sheets)" };
+
+/// As many words as a command line can have.
+const ANY: usize = usize::MAX;
+
+const COMMANDS: &[Command] = &[
+    Command {
+        name: "show",
+        takes: "STOCK [FILE...]",
+        words: (1, ANY),
+        choices: &[AS],
+        does: "show a stock, or sheets and designs under it, as text",
+        more: "A comment before each sheet or design says how large it is.",
+        example: "caplune show stock t",
+        run: show,
+    },
+    Command {
+        name: "convert",
+        takes: "STOCK [FILE]",
+        words: (1, 2),
+        choices: &[OUTPUT, AS],
+        does: "turn a stock, or a sheet or design under it, from text into bytes, or from bytes into text",
+        more: "Bytes that go to FILE get the table FILE.names beside them, and names are read from there again.",
+        example: "caplune convert -o t stock.txt t.txt",
+        run: convert,
+    },
+    Command {
+        name: "sew",
+        takes: "STOCK SHEET DESIGN",
+        words: (3, 3),
+        choices: &[MOST, OUTPUT, PLAN],
+        does: "give the plan that a sheet gives on a design",
+        more: "",
+        example: "caplune sew stock.txt t.txt design.txt",
+        run: sew,
+    },
+    Command {
+        name: "place",
+        takes: "STOCK SHEET DESIGN PLACE",
+        words: (4, 4),
+        choices: &[],
+        does: "give the block at a place of the plan, however large the plan is",
+        more: "A place is written 2.1, from the top on, and the top itself is `-`. Where the plan has no such place, the answer is `none`.",
+        example: "caplune place stock.txt t.txt design.txt 2.1",
+        run: place,
+    },
+    Command {
+        name: "single",
+        takes: "STOCK SHEET",
+        words: (2, 2),
+        choices: &[],
+        does: "tell whether a sheet is single: in its opening, and in each line, no sub-part stands twice",
+        more: "The answer is `single` or `not single`.",
+        example: "caplune single stock.txt t.txt",
+        run: single,
+    },
+    Command {
+        name: "clean",
+        takes: "STOCK SHEET",
+        words: (2, 2),
+        choices: &[OUTPUT, BYTES],
+        does: "give the clean sheet: the same for two sheets exactly if they sew alike",
+        more: "Its passes are q0, q1 and so on, as they are first met.",
+        example: "caplune clean stock.txt t.txt",
+        run: clean,
+    },
+    Command {
+        name: "compare",
+        takes: "STOCK SHEET SHEET...",
+        words: (3, ANY),
+        choices: &[SVG],
+        does: "tell whether sheets give equal plans on every design",
+        more: "Of two sheets that do not, it shows a design, a place, and the plans around it; of more than two it lists the classes of \
+               alike ones. The status is 0 if all are alike, and 1 if not.",
+        example: "caplune compare --svg difference.svg stock.txt t.txt u.txt",
+        run: comparing::compare,
+    },
+    Command {
+        name: "join",
+        takes: "STOCK SHEET STOCK SHEET",
+        words: (4, 4),
+        choices: &[OUTPUT, BYTES, STOCK],
+        does: "give one sheet for two: its plan is the second's plan for the first's plan",
+        more: "Each sheet stands behind its stock. The part kinds of the second stock are the block kinds of the first.",
+        example: "caplune join layout.stock layout.sheet fabric.stock fabric.sheet",
+        run: join,
+    },
+    Command {
+        name: "book make",
+        takes: "BOOK STOCK",
+        words: (2, 2),
+        choices: &[AREA],
+        does: "make a book for sheets under a stock",
+        more: "The names of the kinds go to the table BOOK.names. A file that is there already is not overwritten.",
+        example: "caplune book make book stock.txt",
+        run: book::make,
+    },
+    Command {
+        name: "book enter",
+        takes: "BOOK SHEET...",
+        words: (2, ANY),
+        choices: &[],
+        does: "enter sheets into a book: two get one number exactly if they sew alike",
+        more: "The numbers are printed when the book is on disk. A sheet that is refused leaves the book as it was, and the others are entered.",
+        example: "caplune book enter book t.txt u.txt",
+        run: book::enter,
+    },
+    Command {
+        name: "book list",
+        takes: "BOOK",
+        words: (1, 1),
+        choices: &[],
+        does: "list the sheets of a book by number",
+        more: "",
+        example: "caplune book list book",
+        run: book::list,
+    },
+    Command {
+        name: "book show",
+        takes: "BOOK NUMBER",
+        words: (2, 2),
+        choices: &[OUTPUT, BYTES],
+        does: "give the clean sheet of a number, or the stock for 0",
+        more: "",
+        example: "caplune book show book 1",
+        run: book::show,
+    },
+];
+
+/// Runs the command that the words name.
+pub fn run(words: &[OsString]) -> Result<Status, Failure> {
+    let is = |word: &OsString, names: &[&str]| names.iter().any(|name| word == name);
+    let Some(first) = words.first() else { return Err(wrong("no command is given", None)) };
+    if is(first, &["--help", "-h", "help"]) {
+        return print(overview(COMMANDS).as_bytes()).map(|()| Status::Done);
+    }
+    if is(first, &["--version"]) {
+        return print(concat!("caplune ", env!("CARGO_PKG_VERSION"), "\n").as_bytes()).map(|()| Status::Done);
+    }
+    let helped = |word: &OsString| is(word, &["--help", "-h"]);
+    let group: Vec<&Command> =
+        COMMANDS.iter().filter(|command| command.name.split(' ').next() == first.to_str()).collect();
+    if group.len() > 1 && words.get(1).is_some_and(helped) {
+        return print(overview(group).as_bytes()).map(|()| Status::Done);
+    }
+    let (command, rest) = find(words)?;
+    if rest.iter().take_while(|word| *word != "--").any(helped) {
+        return print(command.help().as_bytes()).map(|()| Status::Done);
+    }
+    let arguments = Arguments::read(rest, command.choices).map_err(|why| wrong(&why, Some(command)))?;
+    let (least, most) = command.words;
+    if !(least..=most).contains(&arguments.plain.len()) {
+        return Err(wrong(&format!("it takes {}", command.takes), Some(command)));
+    }
+    (command.run)(&arguments)
+}
+
+/// The command of the first one or two words, and the words behind it.
+fn find(words: &[OsString]) -> Result<(&'static Command, &[OsString]), Failure> {
+    for count in [1, 2] {
+        let name = words.iter().take(count).map(|word| word.to_string_lossy()).collect::<Vec<_>>().join(" ");
+        if let Some(command) = COMMANDS.iter().find(|command| command.name == name) {
+            return Ok((command, &words[count.min(words.len())..]));
+        }
+    }
+    let first = words.first().map(|word| shown(word)).unwrap_or_default();
+    let why = match first.as_str() {
+        "book" => "book is followed by make, enter, list or show".to_string(),
+        _ => format!("there is no command `{first}`"),
+    };
+    Err(wrong(&why, None))
+}
+
+/// A command line that is wrong, and where to read how it is right.
+fn wrong(why: &str, command: Option<&Command>) -> Failure {
+    Failure::Told(match command {
+        Some(Command { name, .. }) => format!("{name}: {why}; `caplune {name} --help` tells more"),
+        None => format!("{why}; `caplune --help` tells more"),
+    })
+}
+
+/// All commands, a line each.
+fn overview<'a>(commands: impl IntoIterator<Item = &'a Command>) -> String {
+    let mut text = "usage: caplune COMMAND ...\n\n".to_string();
+    for Command { name, takes, does, .. } in commands {
+        let _ = writeln!(text, "  caplune {name} {takes}\n      {does}");
+    }
+    text + "\nA file is text or bytes, told by what is in it; `-` is standard input. `caplune COMMAND --help` tells more of a command.\n\
+            The status is 0 if it is done or the sheets are alike, 1 if they differ, 2 if something is refused or asked for wrongly.\n"
+}
+
+impl Command {
+    fn help(&self) -> String {
+        let Command { name, takes, choices, does, more, example, .. } = self;
+        let options = if choices.is_empty() { "" } else { "[OPTION...] " };
+        let mut text = format!("usage: caplune {name} {options}{takes}\n\nTo {does}.\n");
+        if !more.is_empty() {
+            let _ = writeln!(text, "{more}");
+        }
+        if !choices.is_empty() {
+            text.push('\n');
+        }
+        for Choice { name, takes, says } in *choices {
+            let _ = writeln!(text, "  {:14} {says}", format!("{name} {}", takes.unwrap_or_default()));
+        }
+        text + &format!("\nexample: {example}\n")
+    }
+}
+
+/// A number of things.
+pub fn count(number: usize, one: &str, more: &str) -> String {
+    format!("{number} {}", if number == 1 { one } else { more })
+}
+
+fn show(arguments: &Arguments) -> Result<Status, Failure> {
+    let mut inputs = Inputs::default();
+    let stock = inputs.stock(&arguments.plain[0])?;
+    if arguments.plain.len() == 1 {
+        print(&Content::stock(&stock).text)?;
+    }
+    for file in &arguments.plain[1..] {
+        let input = inputs.read(file)?;
+        let (size, content) = match input.either(&stock, arguments.value("--as"))? {
+            Either::Sheet(sheet) => {
+                let (states, marks) = (sheet.transducer.states(), sheet.transducer.marks());
+                let size = format!("{}, {}", count(states, "pass", "passes"), count(marks, "mark", "marks"));
+                (size, Content::sheet(&sheet.transducer, &stock.names, &sheet.states))
+            }
+            Either::Design(design) => {
+                let (nodes, levels) = (design.nodes(), design.levels());
+                let size = format!("{}, {}", count(nodes, "part", "parts"), count(levels, "level", "levels"));
+                (size, Content::design(&design, &stock.names))
+            }
+        };
+        print(format!("# {}: {size}\n", input.name).as_bytes())?;
+        print(&content.text)?;
+    }
+    Ok(Status::Done)
+}
+
+fn convert(arguments: &Arguments) -> Result<Status, Failure> {
+    let mut inputs = Inputs::default();
+    let (input, content) = match &arguments.plain[..] {
+        [stock] => {
+            let input = inputs.read(stock)?;
+            let content = Content::stock(&input.stock()?);
+            (input, content)
+        }
+        files => {
+            let stock = inputs.stock(&files[0])?;
+            let input = inputs.read(&files[1])?;
+            let content = match input.either(&stock, arguments.value("--as"))? {
+                Either::Sheet(sheet) => Content::sheet(&sheet.transducer, &stock.names, &sheet.states),
+                Either::Design(design) => Content::design(&design, &stock.names),
+            };
+            (input, content)
+        }
+    };
+    content.write(arguments.value("-o"), input.is_text())?;
+    Ok(Status::Done)
+}
+
+fn sew(arguments: &Arguments) -> Result<Status, Failure> {
+    let most = arguments.number("--most", 1 << 24, 1 << 30)?;
+    let mut inputs = Inputs::default();
+    let stock = inputs.stock(&arguments.plain[0])?;
+    let sheet = inputs.sheet(&arguments.plain[1], &stock)?;
+    let design = inputs.design(&arguments.plain[2], &stock)?;
+    let plan = sheet.transducer.translate(&design, most);
+    let plan = plan.map_err(|refusal| Failure::refused(&shown(&arguments.plain[2]), refusal))?;
+    let mut text = Vec::new();
+    text::write_output_tree(&plan, &stock.names, &mut text).map_err(Failure::of_output)?;
+    Content { text, bytes: plan.as_bytes().to_vec(), names: None }.deliver(arguments)?;
+    Ok(Status::Done)
+}
+
+fn place(arguments: &Arguments) -> Result<Status, Failure> {
+    let mut inputs = Inputs::default();
+    let stock = inputs.stock(&arguments.plain[0])?;
+    let sheet = inputs.sheet(&arguments.plain[1], &stock)?;
+    let design = inputs.design(&arguments.plain[2], &stock)?;
+    let place = arguments.plain[3].to_string_lossy();
+    let address: Address = place.parse().map_err(|error| Failure::of_file(&shown(&arguments.plain[3]), error))?;
+    let found = sheet.transducer.symbol_at(&design, &address);
+    let found = found.map_err(|refusal| Failure::refused(&shown(&arguments.plain[2]), refusal))?;
+    let block = found.map_or("none", |symbol| block(&stock, symbol));
+    print(format!("{block}\n").as_bytes())?;
+    Ok(Status::Done)
+}
+
+/// The name of a block kind.
+pub fn block(stock: &Stock, symbol: u8) -> &str {
+    stock.names.outputs().get(usize::from(symbol)).map_or("?", String::as_str)
+}
+
+fn single(arguments: &Arguments) -> Result<Status, Failure> {
+    let mut inputs = Inputs::default();
+    let stock = inputs.stock(&arguments.plain[0])?;
+    let sheet = inputs.sheet(&arguments.plain[1], &stock)?;
+    print(if sheet.transducer.is_linear() { b"single\n" } else { b"not single\n" })?;
+    Ok(Status::Done)
+}
+
+fn clean(arguments: &Arguments) -> Result<Status, Failure> {
+    let mut inputs = Inputs::default();
+    let stock = inputs.stock(&arguments.plain[0])?;
+    let sheet = inputs.sheet(&arguments.plain[1], &stock)?;
+    let form = sheet.transducer.normal_form().map_err(|refusal| Failure::refused(&sheet.name, refusal))?;
+    Content::numbered(&form, &stock.names).deliver(arguments)?;
+    Ok(Status::Done)
+}
+
+fn join(arguments: &Arguments) -> Result<Status, Failure> {
+    let mut inputs = Inputs::default();
+    let [first_stock, second_stock] = [inputs.stock(&arguments.plain[0])?, inputs.stock(&arguments.plain[2])?];
+    let both =
+        |one: usize, two: usize| format!("{} and {}", shown(&arguments.plain[one]), shown(&arguments.plain[two]));
+    let alphabets = first_stock.alphabets.joined(&second_stock.alphabets);
+    let alphabets = alphabets.map_err(|refusal| Failure::refused(&both(0, 2), refusal))?;
+    let stock = Stock { alphabets, names: first_stock.names.joined(&second_stock.names) };
+    let first = inputs.sheet(&arguments.plain[1], &first_stock)?;
+    let second = inputs.sheet(&arguments.plain[3], &second_stock)?;
+    let joined = first.transducer.then(&second.transducer).map_err(|refusal| Failure::refused(&both(1, 3), refusal))?;
+    if let Some(file) = arguments.value("--stock") {
+        Content::stock(&stock).write(Some(file), arguments.has("--bytes"))?;
+    }
+    Content::numbered(&joined, &stock.names).deliver(arguments)?;
+    Ok(Status::Done)
+}

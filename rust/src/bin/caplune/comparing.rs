@@ -1,0 +1,111 @@
+//! The command `compare`.
+use crate::arguments::Arguments;
+use crate::commands::block;
+use crate::failure::Failure;
+use crate::files::{print, write_file, Content, Inputs, Sheet, Stock};
+use crate::Status;
+use caplune::drawing::{short, svg, Drawn};
+use caplune::{Comparison, Difference, Refusal, Transducer};
+use std::path::Path;
+
+/// How many parts of a design are drawn.
+const MOST_PARTS: usize = 60;
+/// How far from the place blocks are drawn.
+const DISTANCE: usize = 3;
+
+/// Compares two sheets, or sorts more of them into classes.
+pub fn compare(arguments: &Arguments) -> Result<Status, Failure> {
+    let mut inputs = Inputs::default();
+    let stock = inputs.stock(&arguments.plain[0])?;
+    let files = &arguments.plain[1..];
+    if arguments.has("--svg") && files.len() != 2 {
+        return Err(Failure::Told("--svg draws the difference of two sheets, and more are given".to_string()));
+    }
+    let sheets = files.iter().map(|file| inputs.sheet(file, &stock)).collect::<Result<Vec<_>, _>>()?;
+    match &sheets[..] {
+        [first, second] => two(&stock, first, second, arguments),
+        many => classes(many),
+    }
+}
+
+fn two(stock: &Stock, first: &Sheet, second: &Sheet, arguments: &Arguments) -> Result<Status, Failure> {
+    let comparison = first.transducer.compare(&second.transducer).map_err(|refusal| {
+        // 7 is the first sheet's if that has no earliest form
+        let sheet = if first.transducer.earliest_form().is_err() { first } else { second };
+        Failure::refused(&sheet.name, refusal)
+    })?;
+    let Comparison::Differ(shown) = comparison else {
+        print(b"alike\n")?;
+        return Ok(Status::Done);
+    };
+    let drawn =
+        Drawings::of(stock, [first, second], &shown).map_err(|refusal| Failure::refused(&first.name, refusal))?;
+    let text = drawn.text(stock, [first, second], &shown);
+    if let Some(file) = arguments.value("--svg") {
+        write_file(Path::new(file), drawn.picture(stock, [first, second], &shown).as_bytes())?;
+    }
+    print(text.as_bytes())?;
+    Ok(Status::Differing)
+}
+
+/// A difference, drawn: the design, and the two plans around the place.
+struct Drawings {
+    design: Drawn,
+    plans: [Drawn; 2],
+}
+
+impl Drawings {
+    fn of(stock: &Stock, sheets: [&Sheet; 2], shown: &Difference) -> Result<Self, Refusal> {
+        let names = stock.names.outputs();
+        let plan = |transducer: &Transducer| Drawn::around(transducer, &shown.tree, &shown.address, names, DISTANCE);
+        Ok(Drawings {
+            design: Drawn::input_tree(&shown.tree, stock.names.inputs(), MOST_PARTS),
+            plans: [plan(&sheets[0].transducer)?, plan(&sheets[1].transducer)?],
+        })
+    }
+
+    fn text(&self, stock: &Stock, sheets: [&Sheet; 2], shown: &Difference) -> String {
+        let design = String::from_utf8_lossy(&Content::design(&shown.tree, &stock.names).text).into_owned();
+        let held = [shown.first, shown.second].map(|symbol| block(stock, symbol));
+        let mut text = format!("differ\n{design}place {}\n", shown.address);
+        for (sheet, block) in sheets.iter().zip(held) {
+            text += &format!("{} holds {block} there\n", sheet.name);
+        }
+        text += &format!("\nthe design:\n{}", self.design.to_text());
+        if self.design.left_out() > 0 {
+            text += &format!("({} parts are left out)\n", self.design.left_out());
+        }
+        for (sheet, plan) in sheets.iter().zip(&self.plans) {
+            text += &format!("\nthe plan of {} around the place:\n{}", sheet.name, plan.to_text());
+        }
+        text
+    }
+
+    fn picture(self, stock: &Stock, sheets: [&Sheet; 2], shown: &Difference) -> String {
+        let title = |sheet: &Sheet, symbol| {
+            format!("plan of {}: {} at place {}", sheet.name, block(stock, symbol), short(&shown.address))
+        };
+        let [first, second] = self.plans;
+        svg(&[
+            ("design".to_string(), self.design),
+            (title(sheets[0], shown.first), first),
+            (title(sheets[1], shown.second), second),
+        ])
+    }
+}
+
+/// Prints the classes of alike sheets, a line each, in the order of their first sheets.
+fn classes(sheets: &[Sheet]) -> Result<Status, Failure> {
+    let mut classes: Vec<(Transducer, Vec<&str>)> = Vec::new();
+    for Sheet { name, transducer, .. } in sheets {
+        let form = transducer.normal_form().map_err(|refusal| Failure::refused(name, refusal))?;
+        match classes.iter_mut().find(|(other, _)| *other == form) {
+            Some((_, names)) => names.push(name),
+            None => classes.push((form, vec![name])),
+        }
+    }
+    for (number, (_, names)) in (1..).zip(&classes) {
+        print(format!("{number}: {}\n", names.join(" ")).as_bytes())?;
+    }
+    Ok(if classes.len() > 1 { Status::Differing } else { Status::Done })
+}

@@ -1,0 +1,67 @@
+//! What a command ends with that cannot do what was asked.
+use caplune::{store, text, Refusal};
+use std::io::{self, Write};
+
+/// Why a command ends with status 2.
+#[derive(Debug)]
+pub enum Failure {
+    /// What to tell on standard error, in one line.
+    Told(String),
+    /// Nobody reads standard output any more.
+    NoReader,
+    /// It was told on standard error before.
+    ToldBefore,
+}
+
+impl Failure {
+    /// Something is wrong with a file.
+    pub fn of_file(file: &str, why: impl std::fmt::Display) -> Self {
+        Failure::Told(format!("{file}: {why}"))
+    }
+
+    /// The library refuses a file: its number, and what to do.
+    pub fn refused(file: &str, refusal: Refusal) -> Self {
+        Failure::of_file(file, refused(refusal))
+    }
+
+    /// A text is not read.
+    pub fn of_text(file: &str, error: text::Error) -> Self {
+        match error {
+            text::Error::Refused(refusal) => Failure::refused(file, refusal),
+            unexpected => Failure::Told(format!("{file}:{unexpected}")),
+        }
+    }
+
+    /// A book is not made, read or changed.
+    pub fn of_book(file: &str, error: store::Error) -> Self {
+        match error {
+            store::Error::Refused(refusal) => Failure::refused(file, refusal),
+            store::Error::Damaged(damaged) => Failure::of_file(
+                file,
+                format!("refused by 9: {damaged}; what to do: put back a copy of it, or make the book anew"),
+            ),
+            store::Error::System(error) => Failure::of_file(file, error),
+        }
+    }
+
+    /// Standard output cannot be written.
+    pub fn of_output(error: io::Error) -> Self {
+        match error.kind() {
+            io::ErrorKind::BrokenPipe => Failure::NoReader,
+            _ => Failure::of_file("standard output", error),
+        }
+    }
+
+    /// Tells it on standard error.
+    pub fn tell(&self) {
+        if let Failure::Told(line) = self {
+            // where that cannot be written either, the status is all that is left
+            let _ = writeln!(io::stderr(), "caplune: {line}");
+        }
+    }
+}
+
+/// A refusal with its number and what to do.
+pub fn refused(refusal: Refusal) -> String {
+    format!("{refusal}; what to do: {}", refusal.remedy())
+}

@@ -1,0 +1,521 @@
+//! Runs the program `caplune` in folders of its own, as people do: every command, what it prints and writes, how it ends, and what it
+//! says of files that it cannot use.
+mod folder;
+mod generate;
+
+use caplune::{text, Alphabets, InputTree, Refusal, Registry, Transducer};
+use folder::{Ended, Folder};
+use generate::samples::*;
+use generate::{joins, Random};
+use std::fs;
+use std::path::{Path, PathBuf};
+
+const PROGRAM: &str = env!("CARGO_BIN_EXE_caplune");
+
+/// A path of the repository.
+fn repository(path: &str) -> PathBuf {
+    Path::new(env!("CARGO_MANIFEST_DIR")).join("..").join(path)
+}
+
+/// A folder with the files of examples/first.
+fn first() -> Folder {
+    let folder = Folder::new();
+    for entry in fs::read_dir(repository("examples/first")).expect("it is there") {
+        let path = entry.unwrap().path();
+        fs::copy(&path, folder.0.join(path.file_name().unwrap())).unwrap();
+    }
+    folder
+}
+
+impl Folder {
+    fn caplune(&self, line: &str) -> Ended {
+        self.caplune_with(line, b"")
+    }
+
+    fn caplune_with(&self, line: &str, input: &[u8]) -> Ended {
+        self.run(Path::new(PROGRAM), &line.split_whitespace().collect::<Vec<_>>(), input)
+    }
+
+    /// What it prints where it is done.
+    fn prints(&self, line: &str) -> String {
+        let ended = self.caplune(line);
+        assert_eq!((ended.status, &ended.err[..]), (Some(0), ""), "{line}");
+        ended.text().to_string()
+    }
+
+    /// The one line that it says where it is not.
+    fn says(&self, line: &str) -> String {
+        told(&self.caplune(line), line)
+    }
+}
+
+/// The one line of a command that ended with status 2 and printed nothing.
+fn told(ended: &Ended, line: &str) -> String {
+    assert_eq!((ended.status, ended.out.len()), (Some(2), 0), "{line}: {ended:?}");
+    let said = ended.err.strip_prefix("caplune: ").and_then(|said| said.strip_suffix('\n'));
+    let said = said.unwrap_or_else(|| panic!("{line}: {ended:?}"));
+    assert!(!said.chars().any(char::is_control), "{line}: {said:?}");
+    said.to_string()
+}
+
+/// The transcript of the README, command by command.
+#[test]
+fn readme() {
+    let readme = fs::read_to_string(repository("README.md")).unwrap();
+    let transcript =
+        readme.split("## First use").nth(1).and_then(|rest| rest.split("\n## ").next()).expect("a transcript");
+    let folder = first();
+    let path = format!("{}:{}", Path::new(PROGRAM).parent().unwrap().display(), std::env::var("PATH").unwrap());
+    let mut commands: Vec<(&str, String)> = Vec::new();
+    let begun = transcript.lines().skip_while(|line| !line.starts_with("    $ "));
+    for line in begun.take_while(|line| line.is_empty() || line.starts_with("    ")) {
+        match (line.strip_prefix("    $ "), commands.last_mut()) {
+            (Some(command), _) => commands.push((command, String::new())),
+            (None, Some((_, output))) => *output += &format!("{}\n", line.strip_prefix("    ").unwrap_or("")),
+            (None, None) => {}
+        }
+    }
+    assert!(commands.len() > 10);
+    let last = commands.len() - 1;
+    for (number, (command, output)) in commands.iter().enumerate() {
+        let script = format!("PATH='{path}'; exec 2>&1; {command}");
+        let ended = folder.run(Path::new("/bin/sh"), &["-c", &script], b"");
+        // behind the last one stands the empty line before the next paragraph
+        let output = if number == last { format!("{}\n", output.trim_end()) } else { output.clone() };
+        assert_eq!(ended.text(), output, "{command}");
+    }
+}
+
+/// docs/REFUSALS.md and the library's sentences are the same, row by row.
+#[test]
+fn remedies() {
+    let document = fs::read_to_string(repository("docs/REFUSALS.md")).unwrap();
+    let rows: Vec<Vec<&str>> = document
+        .lines()
+        .filter(|line| line.starts_with("| ") && line.as_bytes()[2].is_ascii_digit())
+        .map(|line| line.trim_matches('|').split(" | ").map(str::trim).collect())
+        .collect();
+    assert_eq!(rows.len(), Refusal::ALL.len());
+    for (row, refusal) in rows.iter().zip(Refusal::ALL) {
+        assert_eq!((row[0], row[1]), (&refusal.number().to_string()[..], &format!("`{refusal:?}`")[..]));
+        assert_eq!(*row.last().unwrap(), refusal.remedy());
+    }
+}
+
+/// Every command tells of itself, with an example that works.
+#[test]
+fn help() {
+    let folder = first();
+    let overview = folder.prints("--help");
+    assert_eq!((folder.prints("help"), folder.prints("-h")), (overview.clone(), overview.clone()));
+    let commands: Vec<&str> = overview.lines().filter_map(|line| line.strip_prefix("  caplune ")).collect();
+    assert_eq!(commands.len(), 12);
+    folder.caplune("convert -o stock stock.txt");
+    folder.caplune("convert -o t stock.txt t.txt");
+    folder.write("layout.stock", b"stock parts a/1 e/0 blocks f/2 e/0");
+    folder.write("fabric.stock", b"stock parts f/2 e/0 blocks g/1 h/0");
+    folder.write("layout.sheet", &folder.read("t.txt"));
+    folder.write("fabric.sheet", b"sheet opening p(x1) p(f(x1, x2)) -> g(p(x2)) p(e) -> h");
+    let mut tried = 0;
+    for line in commands {
+        let name =
+            line.split(' ').take_while(|word| word.chars().all(char::is_lowercase)).collect::<Vec<_>>().join(" ");
+        let text = folder.prints(&format!("{name} --help"));
+        assert_eq!(text, folder.prints(&format!("{name} -h")));
+        assert!(text.starts_with(&format!("usage: caplune {name} ")), "{text}");
+        let example = text.lines().last().and_then(|line| line.strip_prefix("example: caplune ")).expect("an example");
+        let ended = folder.caplune(example);
+        assert!(matches!(ended.status, Some(0 | 1)) && ended.err.is_empty(), "{example}: {ended:?}");
+        tried += 1;
+    }
+    assert_eq!(tried, 12);
+    assert_eq!(folder.prints("book --help").lines().filter(|line| line.starts_with("  caplune book ")).count(), 4);
+    assert_eq!(folder.prints("--version"), "caplune 0.1.0\n");
+}
+
+#[test]
+fn wrong_usage() {
+    let folder = first();
+    let before = folder.names();
+    for (line, said) in [
+        ("", "no command is given; `caplune --help` tells more"),
+        ("sewing", "there is no command `sewing`; `caplune --help` tells more"),
+        ("book", "book is followed by make, enter, list or show; `caplune --help` tells more"),
+        ("book makes", "book is followed by make, enter, list or show; `caplune --help` tells more"),
+        ("sew stock.txt t.txt", "sew: it takes STOCK SHEET DESIGN; `caplune sew --help` tells more"),
+        ("sew --fast stock.txt t.txt design.txt", "sew: there is no option --fast; `caplune sew --help` tells more"),
+        ("sew -o", "sew: -o takes FILE; `caplune sew --help` tells more"),
+        ("sew --bytes=1 stock.txt t.txt design.txt", "sew: --bytes takes nothing; `caplune sew --help` tells more"),
+        ("sew -o a -o b stock.txt t.txt design.txt", "sew: -o is given twice; `caplune sew --help` tells more"),
+        ("sew --most many stock.txt t.txt design.txt", "--most takes a number, at most 1073741824"),
+        ("sew --most 1073741825 stock.txt t.txt design.txt", "--most takes a number, at most 1073741824"),
+        ("book make --area 655539 book stock.txt", "--area takes a number, at most 655538"),
+        ("show --as plan stock.txt t.txt", "--as takes `sheet` or `design`"),
+        (
+            "compare --svg x stock.txt t.txt t2.txt u.txt",
+            "--svg draws the difference of two sheets, and more are given",
+        ),
+        ("compare stock.txt t.txt", "compare: it takes STOCK SHEET SHEET...; `caplune compare --help` tells more"),
+        (
+            "place stock.txt t.txt design.txt 1,2",
+            "1,2: an address (a place) is `-` for the root or numbers from 0 to 255 with dots between, as in 1.2",
+        ),
+    ] {
+        assert_eq!(folder.says(line), said, "{line}");
+    }
+    assert_eq!(folder.names(), before);
+    assert_eq!(folder.prints("sew -- stock.txt t.txt design.txt"), "plan f(f(e, e), f(e, e))\n");
+    assert_eq!(folder.prints("sew --most=7 stock.txt t.txt design.txt"), "plan f(f(e, e), f(e, e))\n");
+}
+
+/// Each refusal that a command can meet: the file, the number and what to do.
+#[test]
+fn refusals() {
+    let folder = first();
+    let long = joins::doubling(true, 1, 6);
+    for (name, bytes) in [
+        ("stock", S),
+        ("no_stock", &[1, 1, 1, 0]),
+        ("t", T),
+        ("cut", &[1, 0, 3]),
+        ("no_pass", &[0, 0, 1, 1, 0]),
+        ("no_design", &[0]),
+        ("design", &[0, 1]),
+        ("over", &ring(65)),
+        ("one", &long.stocks[0]),
+        ("two", &long.stocks[1]),
+        ("first", &long.files[0]),
+        ("second", &long.files[1]),
+    ] {
+        folder.write(name, bytes);
+    }
+    assert_eq!(folder.prints("book make --area 26 small stock"), "");
+    assert_eq!(folder.prints("book make book stock"), "");
+    let before = folder.names();
+    for (line, file, number) in [
+        ("show no_stock", "no_stock", 2),
+        ("sew stock t no_design", "no_design", 3),
+        ("single stock cut", "cut", 4),
+        ("clean stock no_pass", "no_pass", 5),
+        ("sew --most 6 stock t design", "design", 6),
+        ("clean stock over", "over", 7),
+        ("compare stock over over", "over", 7),
+        ("compare stock t over", "over", 7),
+        ("compare stock t t over", "over", 7),
+        ("book enter book over", "over", 7),
+        ("book enter small t", "t", 8),
+        ("book make --area 5 other stock", "other", 8),
+        ("join stock t stock t", "stock and stock", 16),
+        ("join one first two second", "first and second", 17),
+        // in order: the stocks, 16, the first sheet, the second
+        ("join stock cut no_stock cut", "no_stock", 2),
+        ("join stock cut stock cut", "stock and stock", 16),
+        ("join one cut two no_pass", "cut", 4),
+        ("compare stock cut no_pass", "cut", 4),
+        ("compare stock no_pass cut", "no_pass", 5),
+        ("sew stock cut no_design", "cut", 4),
+    ] {
+        let refusal = Refusal::ALL.into_iter().find(|refusal| refusal.number() == number).unwrap();
+        let said = format!("{file}: refused by {number}: {}; what to do: {}", refusal.meaning(), refusal.remedy());
+        assert_eq!(folder.says(line), said, "{line}");
+    }
+    assert_eq!(folder.names(), before);
+    folder.write("book", b"caplune book 1\n");
+    assert_eq!(
+        folder.says("book list book"),
+        "book: refused by 9: the file of the book ends too early; what to do: put back a copy of it, or make the book anew"
+    );
+    assert!(folder.says("book enter t t").starts_with("t: refused by 9: not the file of a book"));
+    assert!(folder.says("show t").starts_with("t: refused by 2: "));
+    assert!(folder.says("show missing").starts_with("missing: "));
+    assert!(folder.says("sew stock . design").starts_with(".: "));
+}
+
+/// What is not told apart, or is something else.
+#[test]
+fn kinds_of_files() {
+    let folder = first();
+    folder.write("names", b"names parts a e blocks f e");
+    assert_eq!(folder.says("show stock.txt stock.txt"), "stock.txt: a stock, where a sheet or a design was expected");
+    assert_eq!(folder.says("show stock.txt names"), "names: a table of names, where a sheet or a design was expected");
+    assert!(folder.says("sew stock.txt design.txt design.txt").starts_with("design.txt:1:1: expected `sheet`"));
+    folder.write("neither", &[9]);
+    let said = folder.says("show stock.txt neither");
+    assert!(said.starts_with("neither: no sheet (refused by 4: ") && said.contains(") and no design (refused by 3: "));
+    // 0(0(1(0(2)))), and an opening of one block
+    folder.write("wide", b"stock parts a/1 b/1 e/0 blocks f/0 g/0 e/0");
+    folder.write("both", &[0, 0, 1, 0, 2]);
+    assert_eq!(folder.says("show wide both"), "both: a sheet and a design at once: say which by --as");
+    assert_eq!(folder.prints("show --as sheet wide both"), "# both: 0 passes, 1 mark\nsheet\nopening e\n");
+    assert_eq!(folder.prints("show --as design wide both"), "# both: 5 parts, 5 levels\ndesign a(a(b(a(e))))\n");
+    assert!(folder.says("show --as design stock.txt t.txt").starts_with("t.txt:2:1: expected `design`"));
+}
+
+/// Standard input in every place of a file.
+#[test]
+fn standard_input() {
+    let folder = first();
+    let input = |name: &str| folder.read(name);
+    let plan = "plan f(f(e, e), f(e, e))\n";
+    assert_eq!(folder.caplune_with("sew - t.txt design.txt", &input("stock.txt")).text(), plan);
+    assert_eq!(folder.caplune_with("sew stock.txt - design.txt", &input("t.txt")).text(), plan);
+    assert_eq!(folder.caplune_with("sew stock.txt t.txt -", &[0, 1]).text(), plan);
+    assert_eq!(folder.caplune_with("compare stock.txt t.txt -", T_PRIME).text(), "alike\n");
+    assert_eq!(folder.caplune_with("convert -o - -", S).text(), "stock\nparts  a1/1 a2/0\nblocks A1/2 A2/0\n");
+    let twice = folder.caplune_with("sew stock.txt - -", &input("t.txt"));
+    assert_eq!(told(&twice, "twice"), "standard input: it can be read once, so only one file can be `-`");
+    folder.prints("book make book stock.txt");
+    assert_eq!(folder.caplune_with("book enter book -", T).text(), "standard input: 1\n");
+}
+
+/// Text and bytes into each other, with names and without.
+#[test]
+fn converting() {
+    let folder = first();
+    folder.prints("convert -o stock stock.txt");
+    folder.prints("convert -o t stock.txt t.txt");
+    folder.prints("convert -o design stock design.txt");
+    assert_eq!((&folder.read("stock")[..], &folder.read("t")[..], &folder.read("design")[..]), (S, T, &[0, 1][..]));
+    let names =
+        ["design", "design.txt", "stock", "stock.names", "stock.txt", "t", "t.names", "t.txt", "t2.txt", "u.txt"];
+    assert_eq!(folder.names(), names);
+    // the names come back, and without the tables there are codes
+    assert_eq!(folder.prints("convert stock"), "stock\nparts  a/1 e/0\nblocks f/2 e/0\n");
+    let sheet = "sheet\nopening f(q(x1), q(x1))\nq(a(x1)) -> f(q(x1), q(x1))\nq(e) -> e\n";
+    assert_eq!(folder.prints("convert stock t"), sheet);
+    fs::remove_file(folder.file("t.names")).unwrap();
+    assert_eq!(folder.prints("convert stock t"), sheet.replace('q', "q0"));
+    fs::remove_file(folder.file("stock.names")).unwrap();
+    let coded = "sheet\nopening A1(q0(x1), q0(x1))\nq0(a1(x1)) -> A1(q0(x1), q0(x1))\nq0(a2) -> A2\n";
+    assert_eq!(folder.prints("convert stock t"), coded);
+    // a table that does not fit is told, by its own name
+    folder.write("stock.names", b"names\nparts a e\nblocks f");
+    assert!(folder.says("show stock").starts_with("stock.names:3:9: expected "), "{}", folder.says("show stock"));
+    folder.write("stock.names", b"stock");
+    assert!(folder.says("show stock").starts_with("stock.names:1:1: expected `names`"));
+    // bytes that are written anew have their own table
+    folder.prints("convert -o stock stock.txt");
+    assert_eq!(folder.read("stock.names"), b"names\nparts a e\nblocks f e\n");
+    folder.prints("clean --bytes -o t stock t2.txt");
+    assert_eq!((folder.read("t"), folder.read("t.names")), (T.to_vec(), b"names\npasses q0\n".to_vec()));
+    folder.prints("sew --bytes -o plan stock t design");
+    assert_eq!(folder.read("plan"), [0, 0, 1, 1, 0, 1, 1]);
+    assert!(!folder.file("plan.names").exists());
+}
+
+/// Generated files: what is shown is read again, and is the same file.
+#[test]
+fn shown_and_read() {
+    let folder = Folder::new();
+    for seed in 0..40 {
+        let mut random = Random::new(seed + 72_000_000);
+        let (alphabets, transducer) = generate::alike::any(&mut random);
+        let within = |tree: &Vec<u8>| caplune::slices::read_tree(&alphabets.file(), tree).is_ok();
+        let tree = std::iter::repeat_with(|| generate::input_tree(&mut random, &alphabets)).find(within).unwrap();
+        let files = [("stock", alphabets.file()), ("sheet", transducer.file()), ("design", tree)];
+        files.iter().for_each(|(name, bytes)| folder.write(name, bytes));
+        folder.prints("convert -o stock.txt stock");
+        folder.prints("convert --as sheet -o sheet.txt stock sheet");
+        folder.prints("convert --as design -o design.txt stock.txt design");
+        folder.prints("convert -o stock.again stock.txt");
+        folder.prints("convert -o sheet.again stock sheet.txt");
+        folder.prints("convert -o design.again stock design.txt");
+        for (name, bytes) in files {
+            assert_eq!(folder.read(&format!("{name}.again")), bytes, "{seed}");
+        }
+    }
+}
+
+#[test]
+fn single() {
+    let folder = first();
+    folder.write("once", b"sheet opening q(x1) q(a(x1)) -> f(q(x1), e) q(e) -> e");
+    assert_eq!(folder.prints("single stock.txt t.txt"), "not single\n");
+    assert_eq!(folder.prints("single stock.txt once"), "single\n");
+}
+
+#[test]
+fn comparing() {
+    let folder = first();
+    assert_eq!(folder.prints("compare stock.txt t.txt t2.txt"), "alike\n");
+    assert_eq!(folder.prints("compare stock.txt t.txt t2.txt t.txt"), "1: t.txt t2.txt t.txt\n");
+    let ended = folder.caplune("compare stock.txt t.txt u.txt t2.txt u.txt");
+    assert_eq!((ended.status, ended.text()), (Some(1), "1: t.txt t2.txt\n2: u.txt u.txt\n"));
+    folder.prints("compare --svg alike.svg stock.txt t.txt t2.txt");
+    assert!(!folder.file("alike.svg").exists());
+    let ended = folder.caplune("compare --svg differ.svg stock.txt u.txt t.txt");
+    assert_eq!((ended.status, &ended.err[..]), (Some(1), ""));
+    assert!(ended.text().starts_with("differ\ndesign e\nplace 1\nu.txt holds f there\nt.txt holds e there\n"));
+    let picture = String::from_utf8(folder.read("differ.svg")).unwrap();
+    assert!(picture.contains("<svg ") && picture.trim_end().ends_with("</svg>"));
+    for title in ["design", "plan of u.txt: f at place 1", "plan of t.txt: e at place 1"] {
+        assert!(picture.contains(title), "{title}");
+    }
+}
+
+/// The largest differences are drawn in parts, and their design and place can be given to `place`.
+#[test]
+fn late_differences() {
+    let folder = Folder::new();
+    folder.write("stock", &generate::alike::chain_alphabets().file());
+    for (name, last) in [("one", 1), ("two", 2)] {
+        folder.write(name, &generate::alike::chain(128, 2, last).file());
+    }
+    let ended = folder.caplune("compare --svg difference.svg stock one two");
+    assert_eq!((ended.status, &ended.err[..]), (Some(1), ""));
+    let lines: Vec<&str> = ended.text().lines().collect();
+    assert!(lines.len() < 400, "{}", lines.len());
+    folder.write("design.txt", lines[1].as_bytes());
+    let place = lines[2].strip_prefix("place ").unwrap();
+    for (sheet, line) in [("one", lines[3]), ("two", lines[4])] {
+        let found = folder.prints(&format!("place stock {sheet} design.txt {place}"));
+        assert_eq!(format!("{sheet} holds {} there", found.trim_end()), line);
+    }
+}
+
+#[test]
+fn joining() {
+    let folder = Folder::new();
+    folder.write("one", b"stock parts a/1 e/0 blocks f/2 e/0");
+    folder.write("two", b"stock parts top/2 end/0 blocks g/1 h/0");
+    folder.write("first", b"sheet opening q(x1) q(a(x1)) -> f(q(x1), q(x1)) q(e) -> e");
+    folder.write("second", b"sheet opening p(x1) p(top(x1, x2)) -> g(p(x2)) p(end) -> h");
+    let joined = "sheet\nopening q0(x1)\nq0(a(x1)) -> g(q0(x1))\nq0(e) -> h\n";
+    assert_eq!(folder.prints("join --stock both one first two second"), joined);
+    assert_eq!(folder.read("both"), b"stock\nparts  a/1 e/0\nblocks g/1 h/0\n");
+    folder.prints("join --bytes --stock stock -o sheet one first two second");
+    assert_eq!(folder.read("stock"), [2, 1, 0, 2, 1, 0]);
+    assert_eq!(folder.prints("convert stock sheet"), joined);
+    folder.write("design", b"design a(a(e))");
+    let after = folder.prints("sew one first design").replace("plan", "design").replace('f', "top").replace('e', "end");
+    folder.write("plan", after.replace("dendsign", "design").as_bytes());
+    assert_eq!(folder.prints("sew stock sheet design"), folder.prints("sew two second plan"));
+}
+
+#[test]
+fn books() {
+    let folder = first();
+    assert_eq!(folder.prints("book make --area 60 book stock.txt"), "");
+    assert_eq!(folder.prints("book list book"), "# 0 sheets, 6 of 60 bytes used, entries answered: 0\n");
+    assert_eq!(folder.says("book show book 1"), "book: there is no number 1: the book holds no sheet yet");
+    assert!(folder.says("book make book stock.txt").starts_with("book: "));
+    assert_eq!(folder.prints("book enter book t.txt t2.txt"), "t.txt: 1\nt2.txt: 1\n");
+    // what is refused is told, and the others are entered
+    folder.write("bad", b"sheet opening g");
+    let ended = folder.caplune("book enter book missing u.txt bad t.txt");
+    assert_eq!((ended.status, ended.text()), (Some(2), "u.txt: 2\nt.txt: 1\n"));
+    let said: Vec<&str> = ended.err.lines().collect();
+    assert_eq!(said.len(), 2);
+    assert!(
+        said[0].starts_with("caplune: missing: ") && said[1].starts_with("caplune: bad:1:15: expected "),
+        "{said:?}"
+    );
+    let listed = "# 2 sheets, 56 of 60 bytes used, entries answered: 4\n1: 1 pass, 7 marks\n2: 1 pass, 11 marks\n";
+    assert_eq!(folder.prints("book list book"), listed);
+    assert_eq!(folder.prints("book show book 0"), "stock\nparts  a/1 e/0\nblocks f/2 e/0\n");
+    let sheet = "sheet\nopening f(q0(x1), q0(x1))\nq0(a(x1)) -> f(q0(x1), q0(x1))\nq0(e) -> e\n";
+    assert_eq!(folder.prints("book show book 1"), sheet);
+    folder.prints("book show --bytes -o two book 2");
+    assert_eq!(folder.prints("compare stock.txt u.txt two"), "alike\n");
+    for number in ["3", "33", "-1", "99999999999999999999", "two"] {
+        let said = folder.caplune(&format!("book show book -- {number}"));
+        let expected =
+            format!("book: there is no number {number}: the book holds the numbers 1 to 2, and its stock is 0");
+        assert_eq!(told(&said, number), expected);
+    }
+    // a full book: what it holds gets its number, what it does not is refused
+    folder.write("other", b"sheet opening e");
+    let ended = folder.caplune("book enter book other t.txt");
+    assert_eq!((ended.status, ended.text()), (Some(2), "t.txt: 1\n"));
+    assert!(ended.err.starts_with("caplune: other: refused by 8: "));
+    let registry = Registry::from_bytes(&folder.read("book")).unwrap();
+    assert_eq!((registry.held(), registry.answered()), (2, 5));
+}
+
+/// Nothing is left of a result that cannot be written, and what was there stays.
+#[test]
+fn outputs_that_fail() {
+    let folder = first();
+    let before = folder.names();
+    assert!(folder.says("clean -o no/such stock.txt t.txt").starts_with("no/such: "));
+    assert!(folder.says("clean --bytes -o no/such stock.txt t.txt").starts_with("no/such"));
+    assert!(folder.says("clean -o . stock.txt t.txt").starts_with(".: "));
+    folder.says("clean -o u.txt stock.txt missing");
+    assert_eq!(folder.read("u.txt"), fs::read(repository("examples/first/u.txt")).unwrap());
+    assert_eq!(folder.names(), before);
+    if Path::new("/dev/full").exists() {
+        assert!(folder.says("clean -o /dev/full stock.txt t.txt").starts_with("/dev/full: "));
+        let ended = folder.run(Path::new("/bin/sh"), &["-c", "\"$0\" clean stock.txt t.txt > /dev/full", PROGRAM], b"");
+        assert!(told(&ended, "full").starts_with("standard output: "));
+    }
+    // a reader that has gone ends it without a word
+    let script = "{ \"$0\" sew stock.txt t.txt long; echo $? >&2; } | true";
+    folder.write("long", &[vec![0; 17], vec![1]].concat());
+    let ended = folder.run(Path::new("/bin/sh"), &["-c", script, PROGRAM], b"");
+    assert_eq!(ended.err, "2\n");
+}
+
+/// Damaged files by seed, text and bytes, given to every command: it ends with 0, 1 or 2, says one line exactly where it ends with 2,
+/// and leaves no other file behind.
+#[test]
+fn damaged_files() {
+    let folder = first();
+    let [stock, t, design] = ["stock.txt", "t.txt", "design.txt"].map(|name| folder.read(name));
+    folder.prints("book make made stock.txt");
+    folder.prints("book enter made t.txt u.txt");
+    let (book, bytes) = (folder.read("made"), [S.to_vec(), T.to_vec(), vec![0, 1]]);
+    let lines = [
+        "show stock sheet design",
+        "sew stock sheet design",
+        "place stock sheet design 1.1",
+        "single stock sheet",
+        "clean stock sheet",
+        "compare stock sheet t.txt",
+        "compare stock sheet t.txt sheet",
+        "join stock sheet stock t.txt",
+        "convert stock sheet",
+        "book list book",
+        "book enter book sheet",
+        "book show book 1",
+    ];
+    let mut ends = [0; 3];
+    for seed in 0..360 {
+        let mut random = Random::new(seed + 73_000_000);
+        let mut files = if seed % 3 == 0 { bytes.clone() } else { [stock.clone(), t.clone(), design.clone()] };
+        let mut damaged_book = book.clone();
+        generate::damage(&mut random, if seed % 2 == 0 { &mut files[1] } else { &mut damaged_book });
+        if seed % 5 == 0 {
+            let which = random.below(3);
+            generate::damage(&mut random, &mut files[which]);
+        }
+        for (name, bytes) in ["stock", "sheet", "design"].iter().zip(&files) {
+            folder.write(name, bytes);
+        }
+        folder.write("book", &damaged_book);
+        let line = lines[seed as usize % lines.len()];
+        let ended = folder.caplune(line);
+        match ended.status {
+            Some(2) => assert_eq!((ended.err.lines().count(), &ended.err[..9]), (1, "caplune: "), "{seed}: {ended:?}"),
+            Some(0 | 1) => assert_eq!(ended.err, "", "{seed}"),
+            _ => panic!("{seed}: {line}: {ended:?}"),
+        }
+        ends[ended.status.unwrap() as usize] += 1;
+    }
+    println!("{ends:?} ended with 0, 1 and 2");
+    assert!(ends[0] > 30 && ends[2] > 100, "{ends:?}");
+    assert!(folder.names().iter().all(|name| !name.contains(".new")), "{:?}", folder.names());
+}
+
+/// The tables of names that the program writes are those of the library.
+#[test]
+fn typed() {
+    let alphabets = Alphabets::read(S).unwrap();
+    let names = text::Names::codes(&alphabets);
+    let transducer = Transducer::read(&alphabets, T).unwrap();
+    let states = text::StateNames::numbered(1);
+    let folder = Folder::with(&[("stock", S), ("t", T), ("design", &[0, 1])]);
+    assert_eq!(folder.prints("convert stock"), text::write_alphabets(&alphabets, &names));
+    assert_eq!(folder.prints("convert stock t"), text::write_transducer(&transducer, &names, &states));
+    let tree = InputTree::read(&alphabets, &[0, 1]).unwrap();
+    assert_eq!(folder.prints("convert stock design"), text::write_input_tree(&tree, &names));
+}
