@@ -1,0 +1,767 @@
+/*
+ * The samples of document 01, and of document 02 what is built, through include/caplune.h alone.
+ *
+ * Prints `ok NAME` or `FAILED NAME` for each sample and at last `N samples, M failed`; ends with status 1 if any
+ * failed. Every call is lent areas that hold a pattern. After it all of their bytes are looked at: those written,
+ * those that follow, those around what was lent, and after a refusal every one. `.ci/c` builds and runs it.
+ */
+#include "caplune.h"
+
+#include <stdbool.h>
+#include <stdio.h>
+#include <string.h>
+
+/* Some bytes that are lent for reading. */
+struct bytes {
+    const uint8_t *at;
+    size_t length;
+};
+
+#define ARRAY(...) ((const uint8_t[]){__VA_ARGS__})
+#define BYTES(...) ((struct bytes){ARRAY(__VA_ARGS__), sizeof ARRAY(__VA_ARGS__)})
+/* No byte: the pointer is not null. */
+#define NOTHING ((struct bytes){ARRAY(0), 0})
+
+/* a of rank 1 and e; f of rank 2 and e. */
+#define S BYTES(2, 1, 0, 2, 2, 0)
+/* f and e of S as input symbols, and again as output symbols; for M they are a, e and d, e. */
+#define PAIRS BYTES(2, 2, 0, 2, 2, 0)
+#define T BYTES(1, 0, 3, 0, 3, 0, 1, 0, 0, 1, 0, 1, 0, 0, 0, 1, 0, 1, 0, 0, 1)
+#define T_PRIME BYTES(1, 0, 1, 0, 3, 0, 3, 1, 0, 0, 0, 1, 0, 1, 0, 0, 0, 0, 1, 0, 1)
+#define U BYTES(1, 0, 3, 0, 3, 0, 3, 0, 0, 1, 0, 1, 0, 0, 0, 1, 0, 1, 0, 0, 0, 0, 1, 0, 1)
+/* q(a(x1, x2)) = d(q(x1), d(q(x1), e)), q(e) = d(d(e, e), d(e, e)). */
+#define M BYTES(1, 0, 1, 0, 5, 0, 7, 1, 0, 0, 0, 1, 0, 0, 0, 1, 0, 0, 1, 0, 0, 0, 0, 0, 1, 0, 1, 0, 0, 0, 1, 0, 1)
+#define CONSTANT BYTES(0, 0, 1, 0, 1)
+/* Over PAIRS: the initial term f(q(x1), q(x1)), q(f(x1, x2)) = f(q(x1), q(x2)), q(e) = e. */
+#define DOUBLE BYTES(1, 0, 3, 0, 3, 0, 1, 0, 0, 1, 0, 1, 0, 0, 0, 1, 0, 2, 0, 0, 1)
+/* The small inputs of the rows 2, 3, 4 and 5. */
+#define NO_STOCK BYTES(1, 1, 1, 0)
+#define NO_TREE BYTES(0)
+#define NO_CONTENTS BYTES(1, 0, 3)
+#define NO_BODY BYTES(0, 0, 1, 1, 0)
+
+enum {
+    /* What a number holds before a call. */
+    BEFORE = 7777,
+    /* Bytes and records on each side of what is lent. */
+    AROUND = 24,
+    LONGEST_AREA = CAPLUNE_LONGEST_SHEET + 1
+};
+
+/* An area that is lent for writing, in the middle of bytes that have to stay. */
+struct area {
+    size_t length;
+    uint8_t all[AROUND + LONGEST_AREA + AROUND];
+};
+
+/* The area of every call that writes, for caplune_compare that of the tree; and that of the address. */
+static struct area area, address_area;
+
+static size_t samples, failures;
+
+static void check(const char *name, bool holds)
+{
+    samples++;
+    failures += holds ? 0 : 1;
+    printf("%s %s\n", holds ? "ok" : "FAILED", name);
+}
+
+/* The pattern has no byte that a file, a tree or an address can have: all of theirs are below 129. */
+static uint8_t pattern(size_t index)
+{
+    return (uint8_t)(index * 38) | 0x81;
+}
+
+static void fill(uint8_t *bytes, size_t length)
+{
+    for (size_t index = 0; index < length; index++)
+        bytes[index] = pattern(index);
+}
+
+/* Whether the bytes from `from` on and before `to` are as `fill` left them. */
+static bool filled(const uint8_t *bytes, size_t from, size_t to)
+{
+    for (size_t index = from; index < to; index++)
+        if (bytes[index] != pattern(index))
+            return false;
+    return true;
+}
+
+/* Makes both areas ready for a call: of these lengths, and holding the pattern. */
+static void lend(size_t length, size_t address_length)
+{
+    area.length = length;
+    address_area.length = address_length;
+    fill(area.all, sizeof area.all);
+    fill(address_area.all, sizeof address_area.all);
+}
+
+static uint8_t *start_of(struct area *lent)
+{
+    return lent->all + AROUND;
+}
+
+/* Whether `lent` has changed in its first `written` bytes at most. */
+static bool kept_behind(const struct area *lent, size_t written)
+{
+    return written <= lent->length && filled(lent->all, 0, AROUND) &&
+           filled(lent->all, AROUND + written, sizeof lent->all);
+}
+
+/* Whether `lent` has these bytes at its start, and else what it had. */
+static bool holds(const struct area *lent, struct bytes written)
+{
+    return kept_behind(lent, written.length) && memcmp(lent->all + AROUND, written.at, written.length) == 0;
+}
+
+/* What a call returned, and its numbers; those that it does not have are BEFORE. */
+struct answer {
+    uint32_t refusal;
+    size_t numbers[5];
+};
+
+static struct answer no_answer(void)
+{
+    return (struct answer){0, {BEFORE, BEFORE, BEFORE, BEFORE, BEFORE}};
+}
+
+#define NUMBERS(...) sizeof((size_t[]){__VA_ARGS__}) / sizeof(size_t), (size_t[]){__VA_ARGS__}
+
+/* Whether the first numbers are these and the others as before. */
+static bool told(struct answer answer, size_t count, const size_t *numbers)
+{
+    for (size_t index = 0; index < 5; index++)
+        if (answer.numbers[index] != (index < count ? numbers[index] : BEFORE))
+            return false;
+    return true;
+}
+
+/* Whether the call was accepted with these numbers, `first` in one area and `second` in the other. */
+static bool shows(struct answer answer, size_t count, const size_t *numbers, struct bytes first, struct bytes second)
+{
+    return answer.refusal == CAPLUNE_OK && told(answer, count, numbers) && holds(&area, first) &&
+           holds(&address_area, second);
+}
+
+/* Whether the call was accepted with these numbers and wrote these bytes. */
+static bool writes(struct bytes written, struct answer answer, size_t count, const size_t *numbers)
+{
+    return shows(answer, count, numbers, written, NOTHING);
+}
+
+/* Whether the call was accepted with these numbers, and wrote no area. */
+static bool gives(struct answer answer, size_t count, const size_t *numbers)
+{
+    return shows(answer, count, numbers, NOTHING, NOTHING);
+}
+
+/* Whether the call was refused by this number, and left all as it was. */
+static bool refuses(struct answer answer, uint32_t refusal)
+{
+    return answer.refusal == refusal && told(answer, 0, NULL) && holds(&area, NOTHING) &&
+           holds(&address_area, NOTHING);
+}
+
+/* One function for each of the header, with areas and numbers that are looked at. */
+
+static struct answer read_alphabets(struct bytes stock)
+{
+    struct answer answer = no_answer();
+    lend(0, 0);
+    answer.refusal = caplune_read_alphabets(stock.at, stock.length, &answer.numbers[0], &answer.numbers[1]);
+    return answer;
+}
+
+static struct answer read_tree(struct bytes stock, struct bytes tree)
+{
+    struct answer answer = no_answer();
+    size_t *numbers = answer.numbers;
+    lend(0, 0);
+    answer.refusal = caplune_read_tree(stock.at, stock.length, tree.at, tree.length, &numbers[0], &numbers[1]);
+    return answer;
+}
+
+static struct answer read_transducer(struct bytes stock, struct bytes file)
+{
+    struct answer answer = no_answer();
+    size_t *numbers = answer.numbers;
+    lend(0, 0);
+    answer.refusal = caplune_read_transducer(stock.at, stock.length, file.at, file.length, &numbers[0], &numbers[1],
+                                             &numbers[2]);
+    return answer;
+}
+
+static struct answer write_transducer(struct bytes stock, size_t states, struct bytes counts, struct bytes marks,
+                                      size_t length)
+{
+    struct answer answer = no_answer();
+    lend(length, 0);
+    answer.refusal = caplune_write_transducer(stock.at, stock.length, states, counts.at, counts.length, marks.at,
+                                              marks.length, start_of(&area), area.length, &answer.numbers[0]);
+    return answer;
+}
+
+static struct answer is_linear(struct bytes stock, struct bytes file)
+{
+    struct answer answer = no_answer();
+    lend(0, 0);
+    answer.refusal = caplune_is_linear(stock.at, stock.length, file.at, file.length, &answer.numbers[0]);
+    return answer;
+}
+
+static struct answer translate(struct bytes stock, struct bytes file, struct bytes tree, size_t length)
+{
+    struct answer answer = no_answer();
+    lend(length, 0);
+    answer.refusal = caplune_translate(stock.at, stock.length, file.at, file.length, tree.at, tree.length,
+                                       start_of(&area), area.length, &answer.numbers[0]);
+    return answer;
+}
+
+static struct answer symbol_at(struct bytes stock, struct bytes file, struct bytes tree, struct bytes address)
+{
+    struct answer answer = no_answer();
+    lend(0, 0);
+    answer.refusal = caplune_symbol_at(stock.at, stock.length, file.at, file.length, tree.at, tree.length, address.at,
+                                       address.length, &answer.numbers[0], &answer.numbers[1]);
+    return answer;
+}
+
+static struct answer earliest_form(struct bytes stock, struct bytes file, size_t length)
+{
+    struct answer answer = no_answer();
+    size_t *numbers = answer.numbers;
+    lend(length, 0);
+    answer.refusal = caplune_earliest_form(stock.at, stock.length, file.at, file.length, start_of(&area), area.length,
+                                           &numbers[0], &numbers[1], &numbers[2]);
+    return answer;
+}
+
+static struct answer clean(struct bytes stock, struct bytes file, size_t length)
+{
+    struct answer answer = no_answer();
+    size_t *numbers = answer.numbers;
+    lend(length, 0);
+    answer.refusal = caplune_clean(stock.at, stock.length, file.at, file.length, start_of(&area), area.length,
+                                   &numbers[0], &numbers[1], &numbers[2]);
+    return answer;
+}
+
+static struct answer join(struct bytes first_stock, struct bytes second_stock, struct bytes first,
+                          struct bytes second, size_t length)
+{
+    struct answer answer = no_answer();
+    size_t *numbers = answer.numbers;
+    lend(length, 0);
+    answer.refusal = caplune_join(first_stock.at, first_stock.length, second_stock.at, second_stock.length, first.at,
+                                  first.length, second.at, second.length, start_of(&area), area.length, &numbers[0],
+                                  &numbers[1], &numbers[2]);
+    return answer;
+}
+
+static struct answer compare_in(struct bytes stock, struct bytes first, struct bytes second, size_t length,
+                                size_t address_length)
+{
+    struct answer answer = no_answer();
+    size_t *numbers = answer.numbers;
+    lend(length, address_length);
+    answer.refusal = caplune_compare(stock.at, stock.length, first.at, first.length, second.at, second.length,
+                                     start_of(&area), area.length, start_of(&address_area), address_area.length,
+                                     &numbers[0], &numbers[1], &numbers[2], &numbers[3], &numbers[4]);
+    return answer;
+}
+
+static struct answer compare(struct bytes stock, struct bytes first, struct bytes second)
+{
+    return compare_in(stock, first, second, CAPLUNE_DESIGN_AREA, CAPLUNE_PLACE_AREA);
+}
+
+/* The file, start and size that caplune_shorter gives; it returns no refusal. */
+static struct answer shorter(struct bytes first, struct bytes second)
+{
+    struct answer answer = no_answer();
+    size_t *numbers = answer.numbers;
+    lend(0, 0);
+    numbers[0] = caplune_shorter(S.at, S.length, first.at, first.length, second.at, second.length, &numbers[1],
+                                 &numbers[2]);
+    return answer;
+}
+
+/* Files of any size, each in memory of its own. */
+
+static void append(struct bytes *file, uint8_t *memory, struct bytes part)
+{
+    memcpy(memory + file->length, part.at, part.length);
+    file->length += part.length;
+}
+
+/* A ring of states with the right-hand sides of T', each calling the next. */
+static struct bytes ring(uint8_t states)
+{
+    static uint8_t memory[CAPLUNE_LONGEST_SHEET];
+    struct bytes file = {memory, 0};
+    append(&file, memory, BYTES(states, 0, 1));
+    for (uint8_t state = 0; state < states; state++)
+        append(&file, memory, BYTES(0, 3, 0, 3));
+    append(&file, memory, BYTES(1, 0));
+    for (uint8_t state = 0; state < states; state++) {
+        uint8_t next = (uint8_t)((state + 1) % states);
+        append(&file, memory, BYTES(0, 0, 1, next, 1, next, 0, 0, 0, 1, 0, 1));
+    }
+    return file;
+}
+
+/* An initial term of so many calls of the state of T', joined by f. */
+static struct bytes open_ends(uint8_t calls)
+{
+    static uint8_t memory[CAPLUNE_LONGEST_SHEET];
+    struct bytes file = {memory, 0};
+    append(&file, memory, BYTES(1, 0, (uint8_t)(2 * calls - 1), 0, 3, 0, 3));
+    for (uint8_t call = 1; call < calls; call++)
+        append(&file, memory, BYTES(0, 0, 1, 0));
+    append(&file, memory, BYTES(1, 0, 0, 0, 1, 0, 1, 0, 0, 0, 0, 1, 0, 1));
+    return file;
+}
+
+/* a over a over ... over e, of so many levels. */
+static struct bytes chain(size_t levels)
+{
+    static uint8_t memory[600];
+    memset(memory, 0, levels - 1);
+    memory[levels - 1] = 1;
+    return (struct bytes){memory, levels};
+}
+
+/* So many input symbols and output symbols, all of rank 0. */
+static struct bytes leaves(uint8_t inputs, uint8_t outputs)
+{
+    static uint8_t memory[100];
+    memset(memory, 0, sizeof memory);
+    memory[0] = inputs;
+    memory[1 + inputs] = outputs;
+    return (struct bytes){memory, (size_t)2 + inputs + outputs};
+}
+
+/* The file that a call wrote, numbers[2] being its length, kept past the next call; nothing if it was refused. */
+static struct bytes keep(struct answer answer)
+{
+    static uint8_t memory[LONGEST_AREA];
+    bool written = answer.refusal == CAPLUNE_OK && answer.numbers[2] <= area.length;
+    size_t length = written ? answer.numbers[2] : 0;
+    memcpy(memory, start_of(&area), length);
+    return (struct bytes){memory, length};
+}
+
+/* The samples. */
+
+static void reading(void)
+{
+    check("stock S: 2 part kinds, 2 block kinds", gives(read_alphabets(S), NUMBERS(2, 2)));
+    check("the longest stock", leaves(16, 64).length == CAPLUNE_LONGEST_STOCK &&
+                                   gives(read_alphabets(leaves(16, 64)), NUMBERS(16, 64)));
+    check("stock of 17 part kinds: 2", refuses(read_alphabets(leaves(17, 64)), CAPLUNE_BAD_ALPHABETS));
+    check("stock of 65 block kinds: 2", refuses(read_alphabets(leaves(16, 65)), CAPLUNE_BAD_ALPHABETS));
+    check("row 2: stock 1 1 1 0", refuses(read_alphabets(NO_STOCK), CAPLUNE_BAD_ALPHABETS));
+    check("the empty stock: 2", refuses(read_alphabets(NOTHING), CAPLUNE_BAD_ALPHABETS));
+    check("design 0 1: 2 parts, 2 levels", gives(read_tree(S, BYTES(0, 1)), NUMBERS(2, 2)));
+    check("design of three parts on two levels", gives(read_tree(PAIRS, BYTES(0, 1, 1)), NUMBERS(3, 2)));
+    check("design of 512 levels", gives(read_tree(S, chain(512)), NUMBERS(512, 512)));
+    check("design of 513 levels: 3", refuses(read_tree(S, chain(513)), CAPLUNE_BAD_TREE));
+    check("row 3: design 0", refuses(read_tree(S, NO_TREE), CAPLUNE_BAD_TREE));
+    check("a design: 2 before 3", refuses(read_tree(NO_STOCK, NO_TREE), CAPLUNE_BAD_ALPHABETS));
+    check("T: 1 pass, 3 counts, 7 marks", gives(read_transducer(S, T), NUMBERS(1, 6, 14)));
+    check("U: 1 pass, 3 counts, 9 marks", gives(read_transducer(S, U), NUMBERS(1, 6, 18)));
+    check("M: 1 pass, 3 counts, 13 marks", gives(read_transducer(PAIRS, M), NUMBERS(1, 6, 26)));
+    check("0 0 1 0 1: no pass, 1 count, 1 mark", gives(read_transducer(S, CONSTANT), NUMBERS(0, 2, 2)));
+    check("row 4: sheet 1 0 3", refuses(read_transducer(S, NO_CONTENTS), CAPLUNE_BAD_CONTENTS));
+    check("row 5: sheet 0 0 1 1 0", refuses(read_transducer(S, NO_BODY), CAPLUNE_BAD_BODY));
+    check("a sheet: 2 before 4", refuses(read_transducer(NO_STOCK, NO_CONTENTS), CAPLUNE_BAD_ALPHABETS));
+    check("T is not single", gives(is_linear(S, T), NUMBERS(0)));
+    check("0 0 1 0 1 is single", gives(is_linear(S, CONSTANT), NUMBERS(1)));
+    check("single: 5", refuses(is_linear(S, NO_BODY), CAPLUNE_BAD_BODY));
+}
+
+/* Writes `file` from its parts, which start at the bytes 1 and `marks`. */
+static struct answer write_parts(struct bytes file, size_t marks, size_t length)
+{
+    struct bytes first = {file.at + 1, marks - 1};
+    struct bytes second = {file.at + marks, file.length - marks};
+    return write_transducer(S, file.at[0], first, second, length);
+}
+
+static void writing(void)
+{
+    const size_t enough = CAPLUNE_LONGEST_SHEET;
+    struct bytes counts = BYTES(0, 3, 0, 3, 0, 1);
+    struct bytes marks = BYTES(0, 0, 1, 0, 1, 0, 0, 0, 1, 0, 1, 0, 0, 1);
+    struct bytes two_counts = {counts.at, 4};
+    struct bytes one_mark_less = {marks.at, marks.length - 2};
+    struct bytes two_ends = BYTES(0, 0, 1, 0, 2, 0, 0, 0, 1, 0, 1, 0, 0, 1);
+    check("writing T", writes(T, write_parts(T, 7, enough), NUMBERS(21)));
+    check("writing T in a longer area", writes(T, write_parts(T, 7, enough + 1), NUMBERS(21)));
+    check("writing T'", writes(T_PRIME, write_parts(T_PRIME, 7, enough), NUMBERS(21)));
+    check("writing 0 0 1 0 1", writes(CONSTANT, write_parts(CONSTANT, 3, enough), NUMBERS(5)));
+    check("row 1: written area of 20,482", refuses(write_parts(T, 7, enough - 1), CAPLUNE_SHORT_AREA));
+    check("writing: 1 before 2",
+          refuses(write_transducer(NO_STOCK, 1, counts, marks, enough - 1), CAPLUNE_SHORT_AREA));
+    check("writing: 2 before 4",
+          refuses(write_transducer(NO_STOCK, 2, counts, marks, enough), CAPLUNE_BAD_ALPHABETS));
+    check("writing 2 passes with the counts of one: 4",
+          refuses(write_transducer(S, 2, counts, marks, enough), CAPLUNE_BAD_CONTENTS));
+    check("writing too few counts: 4",
+          refuses(write_transducer(S, 1, two_counts, marks, enough), CAPLUNE_BAD_CONTENTS));
+    check("writing too few marks: 4",
+          refuses(write_transducer(S, 1, counts, one_mark_less, enough), CAPLUNE_BAD_CONTENTS));
+    check("writing an opening with sub-part 2: 5",
+          refuses(write_transducer(S, 1, counts, two_ends, enough), CAPLUNE_BAD_BODY));
+}
+
+static void translating(void)
+{
+    struct bytes seven = BYTES(0, 0, 1, 1, 0, 1, 1);
+    check("T on 1 gives 0 1 1", writes(BYTES(0, 1, 1), translate(S, T, BYTES(1), 100), NUMBERS(3)));
+    check("T on 0 1 gives 0 0 1 1 0 1 1", writes(seven, translate(S, T, BYTES(0, 1), 100), NUMBERS(7)));
+    check("T on 0 1: area 7 is enough", writes(seven, translate(S, T, BYTES(0, 1), 7), NUMBERS(7)));
+    check("row 6: T on 0 1, area 6", refuses(translate(S, T, BYTES(0, 1), 6), CAPLUNE_LONG_OUTPUT));
+    check("T' on 0 1 gives the same", writes(seven, translate(S, T_PRIME, BYTES(0, 1), 7), NUMBERS(7)));
+    check("0 0 1 0 1 on 0 0 1 gives 1", writes(BYTES(1), translate(S, CONSTANT, BYTES(0, 0, 1), 1), NUMBERS(1)));
+    check("T on 512 levels: 6", refuses(translate(S, T, chain(512), LONGEST_AREA), CAPLUNE_LONG_OUTPUT));
+    check("sewing: 2 before 4", refuses(translate(NO_STOCK, NO_CONTENTS, NO_TREE, 0), CAPLUNE_BAD_ALPHABETS));
+    check("sewing: 4 before 3", refuses(translate(S, NO_CONTENTS, NO_TREE, 0), CAPLUNE_BAD_CONTENTS));
+    check("sewing: 5 before 3", refuses(translate(S, NO_BODY, NO_TREE, 0), CAPLUNE_BAD_BODY));
+    check("sewing: 3 before 6", refuses(translate(S, T, NO_TREE, 0), CAPLUNE_BAD_TREE));
+}
+
+static void places(void)
+{
+    static uint8_t second[513];
+    struct bytes two = BYTES(0, 1);
+    memset(second, 2, sizeof second);
+    check("T on 0 1 at the top: f", gives(symbol_at(S, T, two, NOTHING), NUMBERS(1, 0)));
+    check("T on 0 1 at 2.1: e", gives(symbol_at(S, T, two, BYTES(2, 1)), NUMBERS(1, 1)));
+    check("T on 0 1 at 2.1.1: no such place", gives(symbol_at(S, T, two, BYTES(2, 1, 1)), NUMBERS(0)));
+    check("T on 0 1 at 0: no such place", gives(symbol_at(S, T, two, BYTES(0)), NUMBERS(0)));
+    check("T on 0 1 at 5: no such place", gives(symbol_at(S, T, two, BYTES(5)), NUMBERS(0)));
+    check("T on 1 at 1: e", gives(symbol_at(S, T, BYTES(1), BYTES(1)), NUMBERS(1, 1)));
+    check("U on 1 at 1: f", gives(symbol_at(S, U, BYTES(1), BYTES(1)), NUMBERS(1, 0)));
+    check("T on 512 levels, 512 down: e",
+          gives(symbol_at(S, T, chain(512), (struct bytes){second, 512}), NUMBERS(1, 1)));
+    check("T on 512 levels, 513 down: no such place",
+          gives(symbol_at(S, T, chain(512), (struct bytes){second, 513}), NUMBERS(0)));
+    check("a place: 4 before 3", refuses(symbol_at(S, NO_CONTENTS, NO_TREE, NOTHING), CAPLUNE_BAD_CONTENTS));
+    check("a place: 3", refuses(symbol_at(S, T, NO_TREE, NOTHING), CAPLUNE_BAD_TREE));
+}
+
+/* Whether the call wrote `form`, a file of so many states and marks; two input symbols, or no states. */
+static bool sized(struct bytes stock, struct bytes form, struct answer answer, size_t states, size_t marks)
+{
+    size_t counts = 2 * (1 + 2 * states);
+    return writes(form, answer, NUMBERS(states, marks, 1 + counts + 2 * marks)) &&
+           gives(read_transducer(stock, form), NUMBERS(states, counts, 2 * marks));
+}
+
+/* Whether the normal form has so many states and marks, and is its own normal form. */
+static bool cleans_to_size(struct bytes stock, struct bytes file, size_t states, size_t marks)
+{
+    struct answer answer = clean(stock, file, CAPLUNE_LONGEST_SHEET);
+    struct bytes form = keep(answer);
+    return sized(stock, form, answer, states, marks) &&
+           writes(form, clean(stock, form, CAPLUNE_LONGEST_SHEET), 3, answer.numbers);
+}
+
+/* Whether the earliest form has so many states and marks, and so many marks in its initial term. */
+static bool trims_to_size(struct bytes stock, struct bytes file, size_t states, size_t marks, size_t initial)
+{
+    struct answer answer = earliest_form(stock, file, CAPLUNE_LONGEST_SHEET);
+    struct bytes form = keep(answer);
+    return sized(stock, form, answer, states, marks) && form.at[1] == 0 && form.at[2] == initial;
+}
+
+/* Whether the initial term of the earliest form of M is the largest common prefix, d(d(o, o), d(o, e)). */
+static bool prefix_of_m(void)
+{
+    struct bytes prefix = BYTES(0, 0, 0, 0, 1, 0, 1, 1, 0, 0, 1, 2, 0, 1);
+    struct answer answer = earliest_form(PAIRS, M, CAPLUNE_LONGEST_SHEET);
+    struct bytes form = keep(answer);
+    return sized(PAIRS, form, answer, 3, 23) && form.at[2] == 7 && memcmp(form.at + 15, prefix.at, prefix.length) == 0;
+}
+
+static void cleaning(void)
+{
+    const size_t enough = CAPLUNE_LONGEST_SHEET;
+    check("T cleans to itself", writes(T, clean(S, T, enough), NUMBERS(1, 7, 21)));
+    check("T cleans to itself in a longer area", writes(T, clean(S, T, enough + 1), NUMBERS(1, 7, 21)));
+    check("T' cleans to T", writes(T, clean(S, T_PRIME, enough), NUMBERS(1, 7, 21)));
+    check("T' has 2 trimmed passes", trims_to_size(S, T_PRIME, 2, 11, 3));
+    check("clean U: 1 pass, 11 marks", cleans_to_size(S, U, 1, 11));
+    check("clean M: 3 passes, 23 marks", cleans_to_size(PAIRS, M, 3, 23));
+    check("the head of M", prefix_of_m());
+    check("0 0 1 0 1 cleans to itself", writes(CONSTANT, clean(S, CONSTANT, enough), NUMBERS(0, 1, 5)));
+    check("16 open ends: 63 trimmed marks in the opening", trims_to_size(S, open_ends(16), 2, 71, 63));
+    check("16 open ends are cleaned", cleans_to_size(S, open_ends(16), 1, 67));
+    check("row 7: 17 open ends", refuses(clean(S, open_ends(17), enough), CAPLUNE_OVER_LIMITS));
+    check("17 open ends, trimmed: 7", refuses(earliest_form(S, open_ends(17), enough), CAPLUNE_OVER_LIMITS));
+    check("a ring of 64 passes: 128 trimmed", trims_to_size(S, ring(64), 128, 515, 3));
+    check("a ring of 64 passes cleans to T", writes(T, clean(S, ring(64), enough), NUMBERS(1, 7, 21)));
+    check("a ring of 65 passes: 7", refuses(clean(S, ring(65), enough), CAPLUNE_OVER_LIMITS));
+    check("a ring of 65 passes, trimmed: 7", refuses(earliest_form(S, ring(65), enough), CAPLUNE_OVER_LIMITS));
+    check("row 1: clean area of 20,482", refuses(clean(S, T, enough - 1), CAPLUNE_SHORT_AREA));
+    check("row 1: trimmed area of 20,482", refuses(earliest_form(S, T, enough - 1), CAPLUNE_SHORT_AREA));
+    check("cleaning: 1 before 2", refuses(clean(NO_STOCK, NO_CONTENTS, enough - 1), CAPLUNE_SHORT_AREA));
+    check("cleaning: 2 before 4", refuses(clean(NO_STOCK, NO_CONTENTS, enough), CAPLUNE_BAD_ALPHABETS));
+    check("cleaning: 4", refuses(clean(S, NO_CONTENTS, enough), CAPLUNE_BAD_CONTENTS));
+    check("cleaning: 5", refuses(clean(S, NO_BODY, enough), CAPLUNE_BAD_BODY));
+    check("trimming: 2 before 4", refuses(earliest_form(NO_STOCK, NO_CONTENTS, enough), CAPLUNE_BAD_ALPHABETS));
+    check("trimming: 5", refuses(earliest_form(S, NO_BODY, enough), CAPLUNE_BAD_BODY));
+}
+
+static void comparing(void)
+{
+    const size_t enough = CAPLUNE_DESIGN_AREA, place = CAPLUNE_PLACE_AREA;
+    check("T and T' are alike", gives(compare(S, T, T_PRIME), NUMBERS(1)));
+    check("T and a ring of 64 passes are alike", gives(compare(S, T, ring(64)), NUMBERS(1)));
+    check("T and U differ: design 1, place 1, e and f",
+          shows(compare(S, T, U), NUMBERS(0, 1, 1, 1, 0), BYTES(1), BYTES(1)));
+    check("U and T differ: design 1, place 1, f and e",
+          shows(compare(S, U, T), NUMBERS(0, 1, 1, 0, 1), BYTES(1), BYTES(1)));
+    check("row 1: design area of 1,535", refuses(compare_in(S, T, U, enough - 1, place), CAPLUNE_SHORT_AREA));
+    check("row 1: place area of 16,127", refuses(compare_in(S, T, U, enough, place - 1), CAPLUNE_SHORT_AREA));
+    check("comparing: 1 before 2", refuses(compare_in(NO_STOCK, T, U, enough - 1, place), CAPLUNE_SHORT_AREA));
+    check("comparing: 2 before 4", refuses(compare(NO_STOCK, NO_CONTENTS, T), CAPLUNE_BAD_ALPHABETS));
+    check("comparing: the first's 5 before the second's 4",
+          refuses(compare(S, NO_BODY, NO_CONTENTS), CAPLUNE_BAD_BODY));
+    check("comparing: the second's 4 before the first's 7",
+          refuses(compare(S, open_ends(17), NO_CONTENTS), CAPLUNE_BAD_CONTENTS));
+    check("comparing: the second's 5", refuses(compare(S, T, NO_BODY), CAPLUNE_BAD_BODY));
+    check("comparing: the first's 7", refuses(compare(S, ring(65), T), CAPLUNE_OVER_LIMITS));
+    check("comparing: the second's 7", refuses(compare(S, T, ring(65)), CAPLUNE_OVER_LIMITS));
+}
+
+static void shorter_of_two(void)
+{
+    struct answer answer = clean(S, open_ends(16), CAPLUNE_LONGEST_SHEET);
+    struct bytes longer = keep(answer);
+    check("the shorter of T and T': the first on a tie", gives(shorter(T, T_PRIME), NUMBERS(1, 7, 14)));
+    check("the shorter is the second", gives(shorter(longer, open_ends(16)), NUMBERS(2, 7, 74)));
+    check("the shorter is the first", gives(shorter(open_ends(16), longer), NUMBERS(1, 7, 74)));
+    check("the shorter of T and U: an empty part", gives(shorter(T, U), NUMBERS(0, 0, 0)));
+    check("the shorter on 4: an empty part", gives(shorter(T, NO_CONTENTS), NUMBERS(0, 0, 0)));
+    check("the shorter on 7: an empty part", gives(shorter(ring(65), T), NUMBERS(0, 0, 0)));
+}
+
+static void joining(void)
+{
+    const size_t enough = CAPLUNE_LONGEST_SHEET;
+    struct bytes unary = BYTES(1, 0, 2, 1, 0);
+    struct bytes four = BYTES(0, 0, 5, 0, 0, 0, 0, 0, 0, 0, 0, 0, 1);
+    struct bytes five = BYTES(0, 0, 6, 0, 0, 0, 0, 0, 0, 0, 0, 0, 0, 0, 1);
+    struct answer answer = join(unary, S, four, T, enough);
+    check("joining a chain of 4 blocks with T: 63 marks",
+          sized(BYTES(1, 0, 2, 2, 0), keep(answer), answer, 0, 63));
+    check("joining T' with a sheet gives U", writes(U, join(S, PAIRS, T_PRIME, DOUBLE, enough), NUMBERS(1, 9, 25)));
+    check("row 17: a chain of 5 blocks, then T", refuses(join(unary, S, five, T, enough), CAPLUNE_JOIN_OVER_LIMITS));
+    check("row 16: two sheets under S and S", refuses(join(S, S, T_PRIME, T, enough), CAPLUNE_OTHER_ALPHABET));
+    check("row 1: joined area of 20,482", refuses(join(S, PAIRS, T_PRIME, DOUBLE, enough - 1), CAPLUNE_SHORT_AREA));
+    check("joining: 1 before 2", refuses(join(NO_STOCK, S, T, T, enough - 1), CAPLUNE_SHORT_AREA));
+    check("joining: the first stock's 2", refuses(join(NO_STOCK, S, T, T, enough), CAPLUNE_BAD_ALPHABETS));
+    check("joining: the second stock's 2", refuses(join(S, NO_STOCK, T, T, enough), CAPLUNE_BAD_ALPHABETS));
+    check("joining: 16 before 4", refuses(join(S, S, NO_CONTENTS, T, enough), CAPLUNE_OTHER_ALPHABET));
+    check("joining: the first's 5 before the second's 4",
+          refuses(join(S, PAIRS, NO_BODY, NO_CONTENTS, enough), CAPLUNE_BAD_BODY));
+    check("joining: the first's 4 before the second's 5",
+          refuses(join(S, PAIRS, NO_CONTENTS, NO_BODY, enough), CAPLUNE_BAD_CONTENTS));
+    check("joining: the second's 4", refuses(join(S, PAIRS, T, NO_CONTENTS, enough), CAPLUNE_BAD_CONTENTS));
+    check("joining: the second's 5", refuses(join(S, PAIRS, T, NO_BODY, enough), CAPLUNE_BAD_BODY));
+}
+
+/* A registry, with a record more than it has, and an area in the middle of bytes that have to stay. */
+enum { LONGEST_BOOK = 300 };
+struct book {
+    struct caplune_head head;
+    struct caplune_record records[CAPLUNE_RECORDS + 1];
+    size_t length;
+    uint8_t all[AROUND + LONGEST_BOOK + AROUND];
+};
+
+/* What no registry holds, and an area of this length. */
+static struct book no_book(size_t length)
+{
+    struct book book = {.head = {.held = 77, .used = 78, .answered = 79}, .length = length};
+    for (size_t index = 0; index <= CAPLUNE_RECORDS; index++)
+        book.records[index] = (struct caplune_record){.start = 1000 + index, .size = 2000 + index};
+    fill(book.all, sizeof book.all);
+    return book;
+}
+
+static bool same(const struct book *first, const struct book *second)
+{
+    for (size_t index = 0; index <= CAPLUNE_RECORDS; index++)
+        if (first->records[index].start != second->records[index].start ||
+            first->records[index].size != second->records[index].size)
+            return false;
+    return first->head.held == second->head.held && first->head.used == second->head.used &&
+           first->head.answered == second->head.answered && memcmp(first->all, second->all, sizeof first->all) == 0;
+}
+
+/* Writes a file into the book that is expected, as the next record; not one that has no room, which is an error. */
+static void expect(struct book *book, size_t record, struct bytes file)
+{
+    if (file.length > book->length - book->head.used)
+        return;
+    book->records[record] = (struct caplune_record){.start = book->head.used, .size = file.length};
+    memcpy(book->all + AROUND + book->head.used, file.at, file.length);
+    book->head.held = record;
+    book->head.used += file.length;
+}
+
+/* The book of this length that holds the alphabets alone. */
+static struct book expected_book(size_t length, struct bytes stock)
+{
+    struct book book = no_book(length);
+    for (size_t index = 0; index < CAPLUNE_RECORDS; index++)
+        book.records[index] = (struct caplune_record){.start = 0, .size = 0};
+    book.head = (struct caplune_head){.held = 0, .used = 0, .answered = 0};
+    expect(&book, 0, stock);
+    return book;
+}
+
+static struct answer make(struct book *book, size_t records, struct bytes stock)
+{
+    struct answer answer = no_answer();
+    lend(0, 0);
+    answer.refusal = caplune_make_registry(&book->head, book->records, records, book->all + AROUND, book->length,
+                                           stock.at, stock.length);
+    return answer;
+}
+
+static struct answer enter(struct book *book, size_t records, struct bytes file)
+{
+    struct answer answer = no_answer();
+    lend(0, 0);
+    answer.refusal = caplune_enter(&book->head, book->records, records, book->all + AROUND, book->length, file.at,
+                                   file.length, &answer.numbers[0]);
+    return answer;
+}
+
+/* The size and the start that caplune_body gives; it returns no refusal. */
+static struct answer body(const struct book *book, size_t records, size_t number)
+{
+    struct answer answer = no_answer();
+    lend(0, 0);
+    answer.numbers[0] = caplune_body(&book->head, book->records, records, book->all + AROUND, book->length, number,
+                                     &answer.numbers[1]);
+    return answer;
+}
+
+/* A sample by itself: the book of this length that is made, whatever stood there. */
+static struct book book_of(const char *name, size_t length, struct bytes stock)
+{
+    struct book book = no_book(length), expected = expected_book(length, stock);
+    check(name, gives(make(&book, CAPLUNE_RECORDS + 1, stock), 0, NULL) && same(&book, &expected));
+    return book;
+}
+
+/* Whether this entry is answered with `number`, and leaves `expected`. */
+static bool enters(struct book *book, struct bytes file, size_t number, const struct book *expected)
+{
+    return gives(enter(book, CAPLUNE_RECORDS, file), NUMBERS(number)) && same(book, expected);
+}
+
+/* Whether making is refused by this number, and leaves all. */
+static bool refuses_making(size_t length, size_t records, struct bytes stock, uint32_t refusal)
+{
+    struct book book = no_book(length), before = book;
+    return refuses(make(&book, records, stock), refusal) && same(&book, &before);
+}
+
+/* Whether an entry is refused by this number, and leaves all. */
+static bool refuses_entry(struct book book, size_t records, struct bytes file, uint32_t refusal)
+{
+    struct book before = book;
+    return refuses(enter(&book, records, file), refusal) && same(&book, &before);
+}
+
+static void books(void)
+{
+    struct answer answer = clean(S, U, CAPLUNE_LONGEST_SHEET);
+    struct bytes clean_u = keep(answer);
+    struct book book = book_of("making a book of area 60", 60, S), expected = expected_book(60, S);
+    expect(&expected, 1, T);
+    expected.head.answered = 1;
+    check("book of area 60: T gets 1", enters(&book, T, 1, &expected));
+    expected.head.answered = 2;
+    check("book of area 60: T' gets 1", enters(&book, T_PRIME, 1, &expected));
+    expect(&expected, 2, clean_u);
+    expected.head.answered = 3;
+    check("book of area 60: U gets 2", enters(&book, U, 2, &expected));
+    check("book of area 60: 56 bytes used, 3 answered",
+          book.head.held == 2 && book.head.used == 56 && book.head.answered == 3);
+    check("body 1 is T", gives(body(&book, CAPLUNE_RECORDS, 1), NUMBERS(21, 6)));
+    check("body 2 is the clean U", gives(body(&book, CAPLUNE_RECORDS, 2), NUMBERS(29, 27)));
+    check("body 0 is empty", gives(body(&book, CAPLUNE_RECORDS, 0), NUMBERS(0, 0)));
+    check("body 3 is empty", gives(body(&book, CAPLUNE_RECORDS, 3), NUMBERS(0, 0)));
+    check("a body of 32 records is empty", gives(body(&book, CAPLUNE_RECORDS - 1, 1), NUMBERS(0, 0)));
+    check("bodies leave the book", same(&book, &expected));
+    book.head.held = 33;
+    check("row 9: a head saying 33 sheets", refuses_entry(book, CAPLUNE_RECORDS, T, CAPLUNE_BAD_REGISTRY));
+    check("a body of a head saying 33 sheets is empty", gives(body(&book, CAPLUNE_RECORDS, 1), NUMBERS(0, 0)));
+}
+
+static void short_books(void)
+{
+    struct book book = book_of("making a book of area 55", 55, S), expected = expected_book(55, S);
+    expect(&expected, 1, T);
+    expected.head.answered = 1;
+    check("book of area 55: T gets 1", enters(&book, T, 1, &expected));
+    expected.head.answered = 2;
+    check("book of area 55: T' gets 1", enters(&book, T_PRIME, 1, &expected));
+    check("book of area 55: U is refused by 8", refuses_entry(book, CAPLUNE_RECORDS, U, CAPLUNE_FULL_REGISTRY));
+    check("row 8: T, area 26", refuses_entry(expected_book(26, S), CAPLUNE_RECORDS, T, CAPLUNE_FULL_REGISTRY));
+    check("making, area 5: 8", refuses_making(5, CAPLUNE_RECORDS, S, CAPLUNE_FULL_REGISTRY));
+    check("making: 2 before 8", refuses_making(3, CAPLUNE_RECORDS, NO_STOCK, CAPLUNE_BAD_ALPHABETS));
+    check("making: 9 before 2", refuses_making(3, CAPLUNE_RECORDS - 1, NO_STOCK, CAPLUNE_BAD_REGISTRY));
+    check("entry with 32 records: 9", refuses_entry(book, CAPLUNE_RECORDS - 1, T, CAPLUNE_BAD_REGISTRY));
+    check("entry: 4", refuses_entry(book, CAPLUNE_RECORDS, NO_CONTENTS, CAPLUNE_BAD_CONTENTS));
+    check("entry: 5", refuses_entry(book, CAPLUNE_RECORDS, NO_BODY, CAPLUNE_BAD_BODY));
+    check("entry: 7 before 8", refuses_entry(book, CAPLUNE_RECORDS, open_ends(17), CAPLUNE_OVER_LIMITS));
+    book.head.answered = UINT64_MAX - 1;
+    expected.head.answered = UINT64_MAX;
+    check("the last entry that can be counted", enters(&book, T, 1, &expected));
+    check("entry after it: 9 before 4", refuses_entry(book, CAPLUNE_RECORDS, NO_CONTENTS, CAPLUNE_BAD_REGISTRY));
+}
+
+/* 32 initial terms of one output symbol each, and another one. */
+static void full_book(void)
+{
+    struct bytes stock = leaves(1, 64);
+    struct book book = book_of("making a book of 64 block kinds", LONGEST_BOOK, stock);
+    struct book expected = expected_book(LONGEST_BOOK, stock);
+    bool entered = true;
+    for (uint8_t number = 1; number <= 32; number++) {
+        expect(&expected, number, BYTES(0, 0, 1, 0, number));
+        expected.head.answered++;
+        entered = enters(&book, BYTES(0, 0, 1, 0, number), number, &expected) && entered;
+    }
+    check("32 sheets get 1 to 32", entered);
+    check("the 33rd is refused by 8",
+          refuses_entry(book, CAPLUNE_RECORDS, BYTES(0, 0, 1, 0, 33), CAPLUNE_FULL_REGISTRY));
+    expected.head.answered++;
+    check("the 32nd once more gets 32", enters(&book, BYTES(0, 0, 1, 0, 32), 32, &expected));
+}
+
+int main(void)
+{
+    reading();
+    writing();
+    translating();
+    places();
+    cleaning();
+    comparing();
+    shorter_of_two();
+    joining();
+    books();
+    short_books();
+    full_book();
+    printf("%zu samples, %zu failed\n", samples, failures);
+    return failures > 0 ? 1 : 0;
+}
