@@ -159,7 +159,7 @@ fn files_around() {
     assert_eq!(fs::metadata(&path).unwrap().modified().unwrap(), before);
     // a file that is far too long is not read to its end
     let long = fs::File::create(folder.file("long")).unwrap();
-    long.set_len(1 << 40).unwrap();
+    long.set_len(1 << 30).unwrap();
     assert!(matches!(store::read(&folder.file("long")), Err(store::Error::Damaged(_))));
 }
 
@@ -223,8 +223,9 @@ fn writers_at_once() {
     assert_eq!(numbers, [Some(1), Some(2), Some(3), Some(4)]);
 }
 
-/// 200 writers are stopped while they write: half of them by the system, at a byte of the new file that is not written any more, and
-/// half by a signal, at any moment. Each time the book is the old one or the new one, to the byte, and the next writer goes on.
+/// 200 writers are stopped in the middle of a write by the system, each at some byte of the new file that is not written any more, and
+/// 100 by a signal, at any moment. Each time the book is the old one or, after a signal, the new one, to the byte, and the next writer
+/// goes on.
 #[cfg(unix)]
 #[test]
 fn stopped_writers() {
@@ -234,13 +235,13 @@ fn stopped_writers() {
     let mut random = Random::new(71_000_000);
     let (mut cut, mut old, mut new, mut left) = (0, 0, 0, 0);
     let mut longest = Duration::from_millis(2);
-    for stop in 0..200 {
+    for stop in 0..300 {
         let sheet = stop % sheets.len();
         let mut entered = book.clone();
         entered.enter(&sheets[sheet]).unwrap();
-        if stop % 2 == 0 {
+        if stop % 3 > 0 {
             // the shell's limit counts 512 bytes; the new file is longer
-            let blocks = random.below(entered.to_bytes().len() / 512 + 1);
+            let blocks = random.below(entered.to_bytes().len().div_ceil(512));
             let script = format!("ulimit -c 0; ulimit -f {blocks}; exec \"$0\" book enter book {sheet}");
             let ended = folder.run(Path::new("/bin/sh"), &["-c", &script, PROGRAM], b"");
             assert_eq!((ended.status, &ended.out[..]), (None, &[][..]), "{ended:?}");
@@ -254,7 +255,7 @@ fn stopped_writers() {
         }
         left += usize::from(folder.file("book.new").exists());
         let bytes = folder.read("book");
-        assert!(bytes == book.to_bytes() || bytes == entered.to_bytes() && stop % 2 == 1, "stop {stop}");
+        assert!(bytes == book.to_bytes() || bytes == entered.to_bytes() && stop % 3 == 0, "stop {stop}");
         if bytes == entered.to_bytes() {
             (new, book) = (new + 1, entered);
         } else {
@@ -269,7 +270,7 @@ fn stopped_writers() {
         assert_eq!(folder.read("book"), book.to_bytes());
     }
     println!("{cut} cut, {left} with an unfinished file, {old} left the old book, {new} the new");
-    assert!(cut == 100 && left >= 100 && old >= 110);
+    assert!(cut == 200 && left >= 200 && old >= 200);
     assert_eq!(store::read(&path).unwrap(), book);
 }
 

@@ -84,6 +84,8 @@ fn readme() {
         let output = if number == last { format!("{}\n", output.trim_end()) } else { output.clone() };
         assert_eq!(ended.text(), output, "{command}");
     }
+    // the picture that the README shows
+    assert_eq!(folder.read("difference.svg"), fs::read(repository("docs/difference.svg")).unwrap());
 }
 
 /// docs/REFUSALS.md and the library's sentences are the same, row by row.
@@ -155,10 +157,12 @@ fn wrong_usage() {
             "compare --svg x stock.txt t.txt t2.txt u.txt",
             "--svg draws the difference of two sheets, and more are given",
         ),
+        ("book make - stock.txt", "a book is a file, and cannot be `-`"),
+        ("book enter - t.txt", "a book is a file, and cannot be `-`"),
         ("compare stock.txt t.txt", "compare: it takes STOCK SHEET SHEET...; `caplune compare --help` tells more"),
         (
             "place stock.txt t.txt design.txt 1,2",
-            "1,2: an address (a place) is `-` for the root or numbers from 0 to 255 with dots between, as in 1.2",
+            "`1,2`: an address (a place) is `-` for the root or numbers from 0 to 255 with dots between, as in 1.2",
         ),
     ] {
         assert_eq!(folder.says(line), said, "{line}");
@@ -347,6 +351,8 @@ fn comparing() {
     assert_eq!((ended.status, &ended.err[..]), (Some(1), ""));
     assert!(ended.text().starts_with("differ\ndesign e\nplace 1\nu.txt holds f there\nt.txt holds e there\n"));
     let picture = String::from_utf8(folder.read("differ.svg")).unwrap();
+    // on standard output it stands alone
+    assert_eq!(folder.caplune("compare --svg - stock.txt u.txt t.txt").text(), picture);
     assert!(picture.contains("<svg ") && picture.trim_end().ends_with("</svg>"));
     for title in ["design", "plan of u.txt: f at place 1", "plan of t.txt: e at place 1"] {
         assert!(picture.contains(title), "{title}");

@@ -11,16 +11,24 @@ use std::path::Path;
 /// Makes a book.
 pub fn make(arguments: &Arguments) -> Result<Status, Failure> {
     let area = arguments.number("--area", Registry::LONGEST_AREA, Registry::LONGEST_AREA)?;
-    let path = Path::new(&arguments.plain[0]);
+    let path = path_of(&arguments.plain[0])?;
     let stock = Inputs::default().stock(&arguments.plain[1])?;
     store::make(path, &stock.alphabets, area).map_err(|error| Failure::of_book(&shown(path.as_os_str()), error))?;
     write_table(path, &text::write_names(&stock.names))?;
     Ok(Status::Done)
 }
 
+/// The path of a book, which standard input cannot be.
+fn path_of(file: &OsStr) -> Result<&Path, Failure> {
+    match file == "-" {
+        true => Err(Failure::Told("a book is a file, and cannot be `-`".to_string())),
+        false => Ok(Path::new(file)),
+    }
+}
+
 /// A book on disk, with the stock that it was made for.
 fn open(file: &OsStr) -> Result<(Registry, Stock), Failure> {
-    let path = Path::new(file);
+    let path = path_of(file)?;
     let registry = store::read(path).map_err(|error| Failure::of_book(&shown(file), error))?;
     let alphabets = registry.alphabets().clone();
     let names = names_beside(Some(path), &alphabets)?;

@@ -301,9 +301,13 @@ fn sew(arguments: &Arguments) -> Result<Status, Failure> {
     let design = inputs.design(&arguments.plain[2], &stock)?;
     let plan = sheet.transducer.translate(&design, most);
     let plan = plan.map_err(|refusal| Failure::refused(&shown(&arguments.plain[2]), refusal))?;
-    let mut text = Vec::new();
-    text::write_output_tree(&plan, &stock.names, &mut text).map_err(Failure::of_output)?;
-    Content { text, bytes: plan.as_bytes().to_vec(), names: None }.deliver(arguments)?;
+    let (mut text, mut bytes) = (Vec::new(), Vec::new());
+    // a plan can be long, so it is written in one form only
+    match arguments.has("--bytes") {
+        true => bytes.extend(plan.as_bytes()),
+        false => text::write_output_tree(&plan, &stock.names, &mut text).map_err(Failure::of_output)?,
+    }
+    Content { text, bytes, names: None }.deliver(arguments)?;
     Ok(Status::Done)
 }
 
@@ -313,7 +317,8 @@ fn place(arguments: &Arguments) -> Result<Status, Failure> {
     let sheet = inputs.sheet(&arguments.plain[1], &stock)?;
     let design = inputs.design(&arguments.plain[2], &stock)?;
     let place = arguments.plain[3].to_string_lossy();
-    let address: Address = place.parse().map_err(|error| Failure::of_file(&shown(&arguments.plain[3]), error))?;
+    let address: Address =
+        place.parse().map_err(|error| Failure::of_file(&format!("`{}`", shown(&arguments.plain[3])), error))?;
     let found = sheet.transducer.symbol_at(&design, &address);
     let found = found.map_err(|refusal| Failure::refused(&shown(&arguments.plain[2]), refusal))?;
     let block = found.map_or("none", |symbol| block(&stock, symbol));

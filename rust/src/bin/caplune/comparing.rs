@@ -41,10 +41,12 @@ fn two(stock: &Stock, first: &Sheet, second: &Sheet, arguments: &Arguments) -> R
     let drawn =
         Drawings::of(stock, [first, second], &shown).map_err(|refusal| Failure::refused(&first.name, refusal))?;
     let text = drawn.text(stock, [first, second], &shown);
-    if let Some(file) = arguments.value("--svg") {
-        write_file(Path::new(file), drawn.picture(stock, [first, second], &shown).as_bytes())?;
+    let picture = drawn.picture(stock, [first, second], &shown);
+    match arguments.value("--svg") {
+        Some(file) if file == "-" => print(picture.as_bytes())?,
+        Some(file) => write_file(Path::new(file), picture.as_bytes()).and_then(|()| print(text.as_bytes()))?,
+        None => print(text.as_bytes())?,
     }
-    print(text.as_bytes())?;
     Ok(Status::Differing)
 }
 
