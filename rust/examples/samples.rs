@@ -1,4 +1,5 @@
-//! The samples of document 01, by the types of this crate: prints each, and ends with an error where one is not as the paper says.
+//! The samples of document 01, by the types of this crate: prints each, and ends with an error where one is not as the
+//! paper says.
 //!
 //! `cargo run --release --offline --example samples`
 use caplune::text::{self, Names, StateNames};

@@ -1,8 +1,8 @@
 //! Two ranked alphabets.
 use crate::{slices, Refusal};
 
-/// Two ranked alphabets (the paper: a stock): input symbols (part kinds) and output symbols (block kinds), each with its rank
-/// (its places). Symbols count from 0.
+/// Two ranked alphabets (the paper: a stock): input symbols (part kinds) and output symbols (block kinds), each with
+/// its rank (its places). Symbols count from 0.
 ///
 /// ```
 /// use caplune::Alphabets;
@@ -34,16 +34,17 @@ impl Alphabets {
         Ok(Alphabets { file: file.to_vec(), inputs: symbols.inputs })
     }
 
-    /// The alphabets of these ranks. Refuses by 2: there are 1 to 16 input symbols, one of them of rank 0, and 1 to 64 output
-    /// symbols, and no rank is over 4.
+    /// The alphabets of these ranks. Refuses by 2: there are 1 to 16 input symbols, one of them of rank 0, and 1 to 64
+    /// output symbols, and no rank is over 4.
     pub fn new(input_ranks: &[u8], output_ranks: &[u8]) -> Result<Self, Refusal> {
         let count = |ranks: &[u8]| u8::try_from(ranks.len()).map_err(|_| Refusal::BadAlphabets);
         let (inputs, outputs) = (count(input_ranks)?, count(output_ranks)?);
         Self::read(&[&[inputs], input_ranks, &[outputs], output_ranks].concat())
     }
 
-    /// The alphabets of the composition of a transducer under these and one under `second`: the input symbols of these, the
-    /// output symbols of the second. Refuses by 16 where the output symbols of these are not the input symbols of the second.
+    /// The alphabets of the composition of a transducer under these and one under `second`: the input symbols of these,
+    /// the output symbols of the second. Refuses by 16 where the output symbols of these are not the input symbols of
+    /// the second.
     pub fn joined(&self, second: &Alphabets) -> Result<Self, Refusal> {
         if self.output_ranks() != second.input_ranks() {
             return Err(Refusal::OtherAlphabet);

@@ -1,19 +1,19 @@
 //! The C functions of the proved library, as they stand in `libexports.a`: the one module with `unsafe` in it.
 //!
-//! Each function here calls the C function of its name and does nothing else. It returns 0, or the number that the paper's
-//! table gives the refusal, and gives its values through its last parameters. A refusal leaves these, and every area, as they
-//! were. The two that hand out a part of what is lent, [`shorter`] and [`body`], tell where it is.
+//! Each function here calls the C function of its name and does nothing else. It returns 0, or the number that the
+//! paper's table gives the refusal, and gives its values through its last parameters. A refusal leaves these, and every
+//! area, as they were. The two that hand out a part of what is lent, [`shorter`] and [`body`], tell where it is.
 //!
-//! A slice passes as a pointer and a length, two parameters of their own. They are declared so, and not as `&[u8]`: that type
-//! passes as one aggregate of two words, which goes on the stack whole where one register is left for it, as for `marks` of
-//! [`write_transducer`], while the library expects its pointer in that register.
+//! A slice passes as a pointer and a length, two parameters of their own. They are declared so, and not as `&[u8]`:
+//! that type passes as one aggregate of two words, which goes on the stack whole where one register is left for it, as
+//! for `marks` of [`write_transducer`], while the library expects its pointer in that register.
 //!
 //! # Safety
 //!
-//! What the C functions ask is that every pointer with a length is to so many bytes, or records for `records`, initialised,
-//! none of them null even where the length is 0; that an area is lent to nobody else; and that the other pointers are to one
-//! number each, or one head, distinct and outside of the areas. A shared or exclusive borrow of a slice, a number or a head is
-//! all of that, so each call below is sound for every argument.
+//! What the C functions ask is that every pointer with a length is to so many bytes, or records for `records`,
+//! initialised, none of them null even where the length is 0; that an area is lent to nobody else; and that the other
+//! pointers are to one number each, or one head, distinct and outside of the areas. A shared or exclusive borrow of a
+//! slice, a number or a head is all of that, so each call below is sound for every argument.
 #![allow(unsafe_code)]
 // they are the parameters of the C functions
 #![allow(clippy::too_many_arguments)]

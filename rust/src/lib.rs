@@ -1,9 +1,9 @@
 //! Top-down tree transducers over the proved library.
 //!
-//! The proved library is `target/staticlib/libexports.a` of the repository, which `rt staticlib exports` writes. What it answers is
-//! proved for every input (docs/PROMISES.md); this crate hands it memory and gives its answers types. [`slices`] has its functions
-//! over lent memory, [`ffi`] the C functions themselves and the only `unsafe` code. [`text`] is the text form of the files, [`store`]
-//! keeps a registry on disk, and [`drawing`] draws trees.
+//! The proved library is `target/staticlib/libexports.a` of the repository, which `rt staticlib exports` writes. What
+//! it answers is proved for every input (docs/PROMISES.md); this crate hands it memory and gives its answers types.
+//! [`slices`] has its functions over lent memory, [`ffi`] the C functions themselves and the only `unsafe` code.
+//! [`text`] is the text form of the files, [`store`] keeps a registry on disk, and [`drawing`] draws trees.
 //!
 //! The paper's words, and the types here:
 //!
@@ -30,11 +30,12 @@
 //!
 //! # Threads and stack
 //!
-//! The library has no state of its own and allocates nothing: calls from several threads at once do not touch each other, and every
-//! type here can be sent to another thread and shared. Work memory is on the stack: measured on x86-64, a call takes at most 258,624
-//! bytes ([`Transducer::translate`] on 512 levels; [`Registry::enter`] 121,344, [`Transducer::compare`] 105,232,
-//! [`Transducer::normal_form`] 100,768, [`Transducer::symbol_at`] 78,128, [`InputTree::read`] 65,584, [`Transducer::then`] 52,488;
-//! docs/AREAS.md). A thread of Rust's usual 2 MiB is long enough; one of 512 KiB is too.
+//! The library has no state of its own and allocates nothing: calls from several threads at once do not touch each
+//! other, and every type here can be sent to another thread and shared. Work memory is on the stack: measured on
+//! x86-64, a call takes at most 258,624 bytes ([`Transducer::translate`] on 512 levels; [`Registry::enter`] 121,344,
+//! [`Transducer::compare`] 105,232, [`Transducer::normal_form`] 100,768, [`Transducer::symbol_at`] 78,128,
+//! [`InputTree::read`] 65,584, [`Transducer::then`] 52,488; docs/AREAS.md). A thread of Rust's usual 2 MiB is long
+//! enough; one of 512 KiB is too.
 
 mod alphabets;
 pub mod drawing;

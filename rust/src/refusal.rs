@@ -59,8 +59,8 @@ impl Refusal {
         self as u32
     }
 
-    /// The refusal of this number, which a function of the library returned: by the contracts of crate `exports` it is a
-    /// number of the table.
+    /// The refusal of this number, which a function of the library returned: by the contracts of crate `exports` it is
+    /// a number of the table.
     pub(crate) fn of(number: u32) -> Self {
         let found = Self::ALL.into_iter().find(|refusal| refusal.number() == number);
         found.unwrap_or_else(|| unreachable!("the library refuses by {number}, which no contract allows"))
@@ -94,18 +94,25 @@ impl Refusal {
             Refusal::BadAlphabets => {
                 "P (1 to 16), P ranks (0 to 4), B (1 to 64), B ranks, nothing more; some input rank is 0"
             }
-            Refusal::BadTree => "one symbol for each node in preorder, nothing behind the tree",
-            Refusal::BadContents => "N, two bytes for each body's mark count, two bytes for each mark, nothing more",
+            Refusal::BadTree => {
+                "one symbol for each node in preorder, nothing behind the tree; at most 4,096 nodes and 512 levels"
+            }
+            Refusal::BadContents => {
+                "N (at most 128), two bytes for each body's mark count (1 to 64, at most 8,192 in all), two bytes for \
+                 each mark, nothing more"
+            }
             Refusal::BadBody => {
                 "each body is one tree; symbols below B, states below N, children up to the rank of the body's symbol \
                  (1 in the initial term)"
             }
             Refusal::LongOutput => {
-                "lend a longer area (`caplune sew --most N`); the symbol at one address can be had without any (`caplune place`)"
-            },
+                "lend a longer area (`caplune sew --most N`); the symbol at one address can be had without any \
+                 (`caplune place`)"
+            }
             Refusal::OverLimits => "split the sheet: what it lays at once is too large for one line",
             Refusal::FullRegistry => {
-                "make another book with a longer area (`caplune book make --area N`), or one for the further sheets: numbers given stay"
+                "make another book with a longer area (`caplune book make --area N`), or one for the further sheets: \
+                 numbers given stay"
             }
             Refusal::BadRegistry => {
                 "lend head, records and area as the last call left them; make the book anew if they are lost"

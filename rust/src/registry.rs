@@ -3,8 +3,8 @@ use crate::slices::{self, Head, Record, RECORDS};
 use crate::{Alphabets, Refusal, Transducer};
 use std::fmt;
 
-/// A registry of the normal forms of transducers over the same alphabets (the paper: a book). It owns its head, its records and
-/// its area.
+/// A registry of the normal forms of transducers over the same alphabets (the paper: a book). It owns its head, its
+/// records and its area.
 ///
 /// ```
 /// use caplune::{Alphabets, Refusal, Registry, Transducer};
@@ -35,8 +35,8 @@ impl Registry {
     pub const LONGEST_AREA: usize =
         2 + Alphabets::MOST_INPUTS + Alphabets::MOST_OUTPUTS + (RECORDS - 1) * Transducer::LONGEST_FILE;
 
-    /// A registry that holds no normal form, with an area of so many bytes, at most [`LONGEST_AREA`](Self::LONGEST_AREA). Refuses
-    /// by 8 an area that is shorter than the file of the alphabets.
+    /// A registry that holds no normal form, with an area of so many bytes, at most
+    /// [`LONGEST_AREA`](Self::LONGEST_AREA). Refuses by 8 an area that is shorter than the file of the alphabets.
     pub fn new(alphabets: &Alphabets, area: usize) -> Result<Self, Refusal> {
         let mut registry = Registry {
             alphabets: alphabets.clone(),
@@ -49,9 +49,10 @@ impl Registry {
         Ok(registry)
     }
 
-    /// Enters a transducer: the number, from 1 on, under which its normal form is held, which is the next number if it was not held
-    /// before. So two transducers get one number exactly if they are equivalent. Refuses by 4 and 5 what is no transducer under these
-    /// alphabets, by 7, by 8, and by 9 where 18,446,744,073,709,551,615 entries are answered; nothing has changed then.
+    /// Enters a transducer: the number, from 1 on, under which its normal form is held, which is the next number if it
+    /// was not held before. So two transducers get one number exactly if they are equivalent. Refuses by 4 and 5 what
+    /// is no transducer under these alphabets, by 7, by 8, and by 9 where 18,446,744,073,709,551,615 entries are
+    /// answered; nothing has changed then.
     pub fn enter(&mut self, transducer: &Transducer) -> Result<usize, Refusal> {
         slices::enter(&mut self.head, &mut self.records, &mut self.area, transducer.as_bytes())
     }
@@ -103,8 +104,8 @@ impl Registry {
         bytes
     }
 
-    /// Reads the bytes of a file. Whatever they are, the answer is a registry as [`new`](Self::new) and [`enter`](Self::enter) make
-    /// them, or why they are none.
+    /// Reads the bytes of a file. Whatever they are, the answer is a registry as [`new`](Self::new) and
+    /// [`enter`](Self::enter) make them, or why they are none.
     pub fn from_bytes(bytes: &[u8]) -> Result<Self, DamagedRegistry> {
         let rest = bytes.strip_prefix(FIRST_LINE).ok_or(DamagedRegistry::NotARegistry)?;
         let (numbers, rest) = rest.split_at_checked(8 * NUMBERS).ok_or(DamagedRegistry::Cut)?;
@@ -152,8 +153,8 @@ fn number(bytes: &[u8]) -> u64 {
     bytes.iter().fold(0, |number, &byte| number << 8 | u64::from(byte))
 }
 
-/// The last number of the file: FNV-1a of all bytes before it. Each step takes different sums to different sums, so a file of which
-/// one byte was altered has another sum.
+/// The last number of the file: FNV-1a of all bytes before it. Each step takes different sums to different sums, so a
+/// file of which one byte was altered has another sum.
 fn check(bytes: &[u8]) -> u64 {
     bytes.iter().fold(0xcbf2_9ce4_8422_2325, |sum, &byte| (sum ^ u64::from(byte)).wrapping_mul(0x0100_0000_01b3))
 }

@@ -1,7 +1,7 @@
 //! The functions of the proved library over files of bytes and lent memory: nothing is allocated.
 //!
-//! All of them read slices, and those that write do so into an area that the caller lends. A refusal leaves all that was
-//! lent as it was. The types of the crate's root call them and own their memory.
+//! All of them read slices, and those that write do so into an area that the caller lends. A refusal leaves all that
+//! was lent as it was. The types of the crate's root call them and own their memory.
 //!
 //! ```
 //! use caplune::slices;

@@ -1,8 +1,8 @@
 //! Files that are replaced as a whole, and a registry on disk (the paper: a book), which is one such file.
 //!
-//! A file is written beside the old one and then renamed, so that a stop at any moment leaves the old one or the new one. Those who
-//! change a registry keep each other waiting by a lock on a file beside it, which the system frees when a process ends, however it
-//! ends; those who only read it need none.
+//! A file is written beside the old one and then renamed, so that a stop at any moment leaves the old one or the new
+//! one. Those who change a registry keep each other waiting by a lock on a file beside it, which the system frees when
+//! a process ends, however it ends; those who only read it need none.
 use crate::{Alphabets, DamagedRegistry, Refusal, Registry};
 use std::ffi::OsString;
 use std::fmt;
@@ -48,8 +48,8 @@ pub fn read(path: &Path) -> Result<Registry, Error> {
     Ok(Registry::from_bytes(&bytes)?)
 }
 
-/// Changes a registry on disk: what `change` answers, once the changed registry is on disk. A registry that it leaves as it was is
-/// not written.
+/// Changes a registry on disk: what `change` answers, once the changed registry is on disk. A registry that it leaves
+/// as it was is not written.
 ///
 /// ```
 /// use caplune::{store, Alphabets, Transducer};
@@ -91,8 +91,8 @@ fn with_end(path: &Path, end: &str) -> PathBuf {
     name.into()
 }
 
-/// Waits until nobody else changes the registry of this path. The file of the lock stays: if it were removed, one process could hold
-/// the removed file and another a new one.
+/// Waits until nobody else changes the registry of this path. The file of the lock stays: if it were removed, one
+/// process could hold the removed file and another a new one.
 fn lock(path: &Path) -> io::Result<File> {
     let file = File::options().create(true).truncate(false).write(true).open(with_end(path, ".lock"))?;
     file.lock()?;

@@ -9,8 +9,8 @@ type WriteForm = fn(&[u8], &[u8], &mut [u8]) -> Result<slices::Form, Refusal>;
 pub enum Mark {
     /// An output symbol (the paper: a block).
     Symbol(u8),
-    /// A state that goes on with a child of the node (the paper: an open end). In the initial term the child is 1: the whole
-    /// input tree.
+    /// A state that goes on with a child of the node (the paper: an open end). In the initial term the child is 1: the
+    /// whole input tree.
     Call {
         /// The number of the child, from 1 on.
         child: u8,
@@ -80,8 +80,8 @@ impl Transducer {
     /// The length of the longest file: one byte, two for each count and two for each mark.
     pub const LONGEST_FILE: usize = 1 + 2 * (1 + Self::MOST_STATES * Alphabets::MOST_INPUTS) + 2 * Self::MOST_MARKS;
 
-    /// Reads the file of a transducer. Refuses by 4 one whose number of states, counts or length are wrong, and by 5 one with a
-    /// term that is not one tree of known marks.
+    /// Reads the file of a transducer. Refuses by 4 one whose number of states, counts or length are wrong, and by 5
+    /// one with a term that is not one tree of known marks.
     pub fn read(alphabets: &Alphabets, file: &[u8]) -> Result<Self, Refusal> {
         let parts = slices::read_transducer(alphabets.as_bytes(), file)?;
         let mut starts = vec![1 + parts.counts.len()];
@@ -92,8 +92,8 @@ impl Transducer {
         Ok(Transducer { alphabets: alphabets.clone(), file: file.to_vec(), starts })
     }
 
-    /// The transducer of this initial term and these right-hand sides, those of state 0 by input symbol first, then those of
-    /// state 1, and so on. Refuses by 4 and 5 as [`read`](Self::read) does.
+    /// The transducer of this initial term and these right-hand sides, those of state 0 by input symbol first, then
+    /// those of state 1, and so on. Refuses by 4 and 5 as [`read`](Self::read) does.
     ///
     /// ```
     /// use caplune::{Alphabets, Mark, Refusal, Transducer};
@@ -150,8 +150,8 @@ impl Transducer {
         self.term(0)
     }
 
-    /// The right-hand side (the paper: the line) of a state and an input symbol, in preorder; `None` where there is no such state
-    /// or symbol.
+    /// The right-hand side (the paper: the line) of a state and an input symbol, in preorder; `None` where there is no
+    /// such state or symbol.
     #[must_use]
     pub fn right_hand_side(&self, state: usize, symbol: usize) -> Option<Vec<Mark>> {
         let inputs = self.alphabets.input_ranks().len();
@@ -162,7 +162,8 @@ impl Transducer {
         self.file[self.starts[number]..self.starts[number + 1]].chunks_exact(2).map(Mark::of).collect()
     }
 
-    /// Whether in its initial term and in each right-hand side no child is called twice (the paper: whether the sheet is single).
+    /// Whether in its initial term and in each right-hand side no child is called twice (the paper: whether the sheet
+    /// is single).
     #[must_use]
     pub fn is_linear(&self) -> bool {
         slices::is_linear(self.alphabets.as_bytes(), &self.file) == Ok(true)
@@ -177,8 +178,8 @@ impl Transducer {
         Ok(OutputTree::new(&self.alphabets, area))
     }
 
-    /// The symbol at an address of the output tree on an input tree, or `None` where the output tree has no such address. The
-    /// output tree is not built, and may be of any size. Refuses by 3.
+    /// The symbol at an address of the output tree on an input tree, or `None` where the output tree has no such
+    /// address. The output tree is not built, and may be of any size. Refuses by 3.
     pub fn symbol_at(&self, tree: &InputTree, address: &Address) -> Result<Option<u8>, Refusal> {
         slices::symbol_at(self.alphabets.as_bytes(), &self.file, tree.as_bytes(), address.as_bytes())
     }
@@ -188,8 +189,8 @@ impl Transducer {
         self.form(slices::earliest_form)
     }
 
-    /// The normal form (the paper: the clean sheet): two transducers over the same alphabets have the same exactly if their
-    /// output trees are equal on every input tree. Refuses by 7.
+    /// The normal form (the paper: the clean sheet): two transducers over the same alphabets have the same exactly if
+    /// their output trees are equal on every input tree. Refuses by 7.
     pub fn normal_form(&self) -> Result<Self, Refusal> {
         self.form(slices::clean)
     }
@@ -200,8 +201,8 @@ impl Transducer {
         Self::read(&self.alphabets, &area[..form.length])
     }
 
-    /// The composition (the paper: the joined sheet): its output tree is that of `second` on the output tree of this one.
-    /// Refuses by 16 and 17.
+    /// The composition (the paper: the joined sheet): its output tree is that of `second` on the output tree of this
+    /// one. Refuses by 16 and 17.
     ///
     /// ```
     /// use caplune::{Alphabets, Refusal, Transducer};
@@ -221,8 +222,9 @@ impl Transducer {
         Self::read(&self.alphabets.joined(&second.alphabets)?, &area[..form.length])
     }
 
-    /// Whether this and `second` give equal output trees on every input tree (the paper: whether two sheets sew alike); if not, an
-    /// input tree and an address that show it. Refuses by 7, and by 4 and 5 a second that is no transducer under these alphabets.
+    /// Whether this and `second` give equal output trees on every input tree (the paper: whether two sheets sew alike);
+    /// if not, an input tree and an address that show it. Refuses by 7, and by 4 and 5 a second that is no transducer
+    /// under these alphabets.
     pub fn compare(&self, second: &Transducer) -> Result<Comparison, Refusal> {
         let (mut tree, mut address) = (vec![0; slices::TREE_AREA], vec![0; slices::ADDRESS_AREA]);
         let stock = self.alphabets.as_bytes();
@@ -237,8 +239,8 @@ impl Transducer {
         })
     }
 
-    /// The marks of the shorter of two equivalent transducers, of this one if both have as many, as a part of its file; `None`
-    /// where the two are not equivalent or [`compare`](Self::compare) refuses.
+    /// The marks of the shorter of two equivalent transducers, of this one if both have as many, as a part of its file;
+    /// `None` where the two are not equivalent or [`compare`](Self::compare) refuses.
     #[must_use]
     pub fn shorter<'a>(&'a self, second: &'a Transducer) -> Option<&'a [u8]> {
         slices::shorter(self.alphabets.as_bytes(), &self.file, &second.file)

@@ -23,8 +23,8 @@ pub struct InputTree {
 }
 
 impl InputTree {
-    /// Reads the file of an input tree: its symbols in preorder. Refuses by 3 what is not one tree over the input symbols or has
-    /// more than 4,096 nodes or 512 levels.
+    /// Reads the file of an input tree: its symbols in preorder. Refuses by 3 what is not one tree over the input
+    /// symbols or has more than 4,096 nodes or 512 levels.
     pub fn read(alphabets: &Alphabets, file: &[u8]) -> Result<Self, Refusal> {
         let size = slices::read_tree(alphabets.as_bytes(), file)?;
         Ok(InputTree { alphabets: alphabets.clone(), file: file.to_vec(), levels: size.levels })

@@ -1,4 +1,5 @@
-//! A registry on disk (the paper: a book): damaged files, writers at once, and writers that are stopped while they write.
+//! A registry on disk (the paper: a book): damaged files, writers at once, and writers that are stopped while they
+//! write.
 mod folder;
 mod generate;
 
@@ -223,9 +224,9 @@ fn writers_at_once() {
     assert_eq!(numbers, [Some(1), Some(2), Some(3), Some(4)]);
 }
 
-/// 200 writers are stopped in the middle of a write by the system, each at some byte of the new file that is not written any more, and
-/// 100 by a signal, at any moment. Each time the book is the old one or, after a signal, the new one, to the byte, and the next writer
-/// goes on.
+/// 200 writers are stopped in the middle of a write by the system, each at some byte of the new file that is not
+/// written any more, and 100 by a signal, at any moment. Each time the book is the old one or, after a signal, the new
+/// one, to the byte, and the next writer goes on.
 #[cfg(unix)]
 #[test]
 fn stopped_writers() {

@@ -1,5 +1,5 @@
-//! Runs the program `caplune` in folders of its own, as people do: every command, what it prints and writes, how it ends, and what it
-//! says of files that it cannot use.
+//! Runs the program `caplune` in folders of its own, as people do: every command, what it prints and writes, how it
+//! ends, and what it says of files that it cannot use.
 mod folder;
 mod generate;
 
@@ -227,7 +227,8 @@ fn refusals() {
     folder.write("book", b"caplune book 1\n");
     assert_eq!(
         folder.says("book list book"),
-        "book: refused by 9: the file of the book ends too early; what to do: put back a copy of it, or make the book anew"
+        "book: refused by 9: the file of the book ends too early; \
+         what to do: put back a copy of it, or make the book anew"
     );
     assert!(folder.says("book enter t t").starts_with("t: refused by 9: not the file of a book"));
     assert!(folder.says("show t").starts_with("t: refused by 2: "));
@@ -461,8 +462,8 @@ fn outputs_that_fail() {
     assert_eq!(ended.err, "2\n");
 }
 
-/// Damaged files by seed, text and bytes, given to every command: it ends with 0, 1 or 2, says one line exactly where it ends with 2,
-/// and leaves no other file behind.
+/// Damaged files by seed, text and bytes, given to every command: it ends with 0, 1 or 2, says one line exactly where
+/// it ends with 2, and leaves no other file behind.
 #[test]
 fn damaged_files() {
     let folder = first();

@@ -20,7 +20,8 @@ pub struct Arguments {
 }
 
 impl Arguments {
-    /// Takes the words apart: the options among `choices`, each at most once, and the others. What follows `--` is no option.
+    /// Takes the words apart: the options among `choices`, each at most once, and the others. What follows `--` is no
+    /// option.
     pub fn read(words: &[OsString], choices: &[Choice]) -> Result<Self, String> {
         let mut arguments = Arguments { plain: Vec::new(), chosen: Vec::new() };
         let mut words = words.iter();

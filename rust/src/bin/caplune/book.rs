@@ -35,8 +35,8 @@ fn open(file: &OsStr) -> Result<(Registry, Stock), Failure> {
     Ok((registry, Stock { alphabets, names }))
 }
 
-/// Enters sheets into a book. Those that are refused are told one by one; the numbers of the others are printed once the book is on
-/// disk.
+/// Enters sheets into a book. Those that are refused are told one by one; the numbers of the others are printed once
+/// the book is on disk.
 pub fn enter(arguments: &Arguments) -> Result<Status, Failure> {
     let file = &arguments.plain[0];
     // the stock of a book never changes, so it can be read before the book is kept from others

@@ -53,7 +53,8 @@ const COMMANDS: &[Command] = &[
         words: (1, 2),
         choices: &[OUTPUT, AS],
         does: "turn a stock, or a sheet or design under it, from text into bytes, or from bytes into text",
-        more: "Bytes that go to FILE get the table FILE.names beside them, and names are read from there again.",
+        more: "Bytes that go to FILE get the table FILE.names beside them, and names are read from there\n\
+               again.",
         example: "caplune convert -o t stock.txt t.txt",
         run: convert,
     },
@@ -73,7 +74,8 @@ const COMMANDS: &[Command] = &[
         words: (4, 4),
         choices: &[],
         does: "give the block at a place of the plan, however large the plan is",
-        more: "A place is written 2.1, from the top on, and the top itself is `-`. Where the plan has no such place, the answer is `none`.",
+        more: "A place is written 2.1, from the top on, and the top itself is `-`.\n\
+               Where the plan has no such place, the answer is `none`.",
         example: "caplune place stock.txt t.txt design.txt 2.1",
         run: place,
     },
@@ -103,8 +105,8 @@ const COMMANDS: &[Command] = &[
         words: (3, ANY),
         choices: &[SVG],
         does: "tell whether sheets give equal plans on every design",
-        more: "Of two sheets that do not, it shows a design, a place, and the plans around it; of more than two it lists the classes of \
-               alike ones. The status is 0 if all are alike, and 1 if not.",
+        more: "Of two sheets that do not, it shows a design, a place, and the plans around it; of more\n\
+               than two it lists the classes of alike ones. The status is 0 if all are alike, and 1 if not.",
         example: "caplune compare --svg difference.svg stock.txt t.txt u.txt",
         run: comparing::compare,
     },
@@ -114,7 +116,8 @@ const COMMANDS: &[Command] = &[
         words: (4, 4),
         choices: &[OUTPUT, BYTES, STOCK],
         does: "give one sheet for two: its plan is the second's plan for the first's plan",
-        more: "Each sheet stands behind its stock. The part kinds of the second stock are the block kinds of the first.",
+        more: "Each sheet stands behind its stock. The part kinds of the second stock are the block kinds\n\
+               of the first.",
         example: "caplune join layout.stock layout.sheet fabric.stock fabric.sheet",
         run: join,
     },
@@ -124,7 +127,7 @@ const COMMANDS: &[Command] = &[
         words: (2, 2),
         choices: &[AREA],
         does: "make a book for sheets under a stock",
-        more: "The names of the kinds go to the table BOOK.names. A file that is there already is not overwritten.",
+        more: "The names of the kinds go to the table BOOK.names. A book that is there already stays.",
         example: "caplune book make book stock.txt",
         run: book::make,
     },
@@ -134,7 +137,8 @@ const COMMANDS: &[Command] = &[
         words: (2, ANY),
         choices: &[],
         does: "enter sheets into a book: two get one number exactly if they sew alike",
-        more: "The numbers are printed when the book is on disk. A sheet that is refused leaves the book as it was, and the others are entered.",
+        more: "The numbers are printed when the book is on disk. A sheet that is refused leaves the book as\n\
+               it was, and the others are entered.",
         example: "caplune book enter book t.txt u.txt",
         run: book::enter,
     },
@@ -218,15 +222,20 @@ fn overview<'a>(commands: impl IntoIterator<Item = &'a Command>) -> String {
     for Command { name, takes, does, .. } in commands {
         let _ = writeln!(text, "  caplune {name} {takes}\n      {does}");
     }
-    text + "\nA file is text or bytes, told by what is in it; `-` is standard input. `caplune COMMAND --help` tells more of a command.\n\
-            The status is 0 if it is done or the sheets are alike, 1 if they differ, 2 if something is refused or asked for wrongly.\n"
+    text + "
+A file is text or bytes, told by what is in it; `-` is standard input.
+`caplune COMMAND --help` tells more of a command.
+The status is 0 if it is done or the sheets are alike, 1 if they differ,
+2 if something is refused or asked for wrongly.
+"
 }
 
 impl Command {
     fn help(&self) -> String {
         let Command { name, takes, choices, does, more, example, .. } = self;
         let options = if choices.is_empty() { "" } else { "[OPTION...] " };
-        let mut text = format!("usage: caplune {name} {options}{takes}\n\nTo {does}.\n");
+        let (first, rest) = does.split_at(1);
+        let mut text = format!("usage: caplune {name} {options}{takes}\n\n{}{rest}.\n", first.to_uppercase());
         if !more.is_empty() {
             let _ = writeln!(text, "{more}");
         }

@@ -260,8 +260,8 @@ impl Content {
     }
 }
 
-/// Writes a file of bytes and the table of names beside it. The old table goes first, so that a stop leaves a file without one and
-/// never a file with another's.
+/// Writes a file of bytes and the table of names beside it. The old table goes first, so that a stop leaves a file
+/// without one and never a file with another's.
 pub fn write_with_table(path: &Path, bytes: &[u8], names: &str) -> Result<(), Failure> {
     remove_table(path)?;
     write_file(path, bytes)?;

@@ -1,7 +1,7 @@
 //! The program `caplune`: reads, sews, cleans, joins and compares sheets, and keeps a book of them.
 //!
-//! It ends with status 0 if it did what was asked or the sheets are alike, 1 if they differ, and 2 if something is refused, cannot be
-//! read or written, or was asked for wrongly; then one line on standard error says what.
+//! It ends with status 0 if it did what was asked or the sheets are alike, 1 if they differ, and 2 if something is
+//! refused, cannot be read or written, or was asked for wrongly; then one line on standard error says what.
 mod arguments;
 mod book;
 mod commands;
