@@ -25,9 +25,9 @@
  * to one call at a time.
  *
  * Stack. All work memory is local. Bytes of stack of one call, measured on x86-64 (docs/AREAS.md, which has the
- * local arrays of each function): translate 258,624 and read_tree 65,584 on a chain of 512 levels, make_registry and
- * enter 121,344, compare 105,232, clean 100,768, symbol_at 78,128, join 52,488. shorter is compare with the two areas
- * (17,664) as local arrays, and was not measured. Mind this where a thread's stack is made small.
+ * local arrays of each function): translate 258,687, symbol_at 78,111 and read_tree 65,647 on a chain of 512 levels,
+ * shorter 123,023, enter 121,407, compare 105,295, clean 100,831, earliest_form 68,151, join 55,519, is_linear 8,535;
+ * the others under 4,500. Mind this where a thread's stack is made small.
  */
 #ifndef CAPLUNE_H
 #define CAPLUNE_H

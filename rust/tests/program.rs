@@ -104,6 +104,19 @@ fn remedies() {
     }
 }
 
+/// The figures of docs/AREAS.md on the stack are those of the crate's documentation and of the C header.
+#[test]
+fn stack_figures() {
+    let read = |path: &str| fs::read_to_string(repository(path)).unwrap();
+    let (document, crate_, header) = (read("docs/AREAS.md"), read("rust/src/lib.rs"), read("include/caplune.h"));
+    let table = document.split("## Stack").nth(1).expect("a table");
+    let figures: Vec<&str> = table.lines().filter_map(|line| line.strip_suffix(" |")?.rsplit("| ").next()).collect();
+    assert_eq!(figures.len(), 10);
+    for figure in &figures[1..] {
+        assert!(crate_.contains(figure) && header.contains(figure), "{figure}");
+    }
+}
+
 /// Every command tells of itself, with an example that works.
 #[test]
 fn help() {
