@@ -53,3 +53,16 @@ pub use refusal::Refusal;
 pub use registry::{DamagedRegistry, Registry};
 pub use transducer::{Comparison, Difference, Mark, Transducer};
 pub use tree::{Address, InputTree, NoAddress, OutputTree};
+
+/// The bytes of a type's file, or the numbers of an address, where bytes are asked for.
+macro_rules! as_ref {
+    ($($name:ident),*) => {
+        $(impl AsRef<[u8]> for $name {
+            fn as_ref(&self) -> &[u8] {
+                self.as_bytes()
+            }
+        })*
+    };
+}
+
+as_ref!(Alphabets, InputTree, OutputTree, Address, Transducer);

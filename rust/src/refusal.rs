@@ -39,7 +39,7 @@ pub enum Refusal {
 
 impl Refusal {
     /// Every refusal, by number.
-    pub const ALL: [Refusal; 11] = [
+    pub const ALL: &'static [Refusal] = &[
         Refusal::ShortArea,
         Refusal::BadAlphabets,
         Refusal::BadTree,
@@ -62,7 +62,7 @@ impl Refusal {
     /// The refusal of this number, which a function of the library returned: by the contracts of crate `exports` it is
     /// a number of the table.
     pub(crate) fn of(number: u32) -> Self {
-        let found = Self::ALL.into_iter().find(|refusal| refusal.number() == number);
+        let found = Self::ALL.iter().copied().find(|refusal| refusal.number() == number);
         found.unwrap_or_else(|| unreachable!("the library refuses by {number}, which no contract allows"))
     }
 

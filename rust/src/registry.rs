@@ -111,9 +111,11 @@ impl Registry {
         let (numbers, rest) = rest.split_at_checked(8 * NUMBERS).ok_or(DamagedRegistry::Cut)?;
         let mut numbers = numbers.chunks_exact(8).map(number);
         let mut next = || numbers.next().unwrap_or(0);
-        let [area, held, used] = [next(), next(), next()];
-        let head = Head { held: held as usize, used: used as usize, answered: next() };
-        let records = std::array::from_fn(|_| Record { start: next() as usize, size: next() as usize });
+        let [area, held, used, answered] = std::array::from_fn(|_| next());
+        // a number that no address can be is none of a registry
+        let size = |number: u64| usize::try_from(number).unwrap_or(usize::MAX);
+        let head = Head { held: size(held), used: size(used), answered };
+        let records = std::array::from_fn(|_| Record { start: size(next()), size: size(next()) });
         let stored = rest.len().checked_sub(8).ok_or(DamagedRegistry::Cut)?;
         if used != stored as u64 {
             return Err(if used > stored as u64 { DamagedRegistry::Cut } else { DamagedRegistry::Altered });
@@ -148,6 +150,9 @@ const FIRST_LINE: &[u8] = b"caplune book 1\n";
 /// The numbers of the file: the length of the area, the head's three, and two of each record.
 const NUMBERS: usize = 4 + 2 * RECORDS;
 
+/// The length of the longest file: the first line, the numbers, the longest area, and the sum.
+pub(crate) const LONGEST_FILE: u64 = (FIRST_LINE.len() + 8 * (NUMBERS + 1) + Registry::LONGEST_AREA) as u64;
+
 /// Eight bytes, the high one first.
 fn number(bytes: &[u8]) -> u64 {
     bytes.iter().fold(0, |number, &byte| number << 8 | u64::from(byte))
@@ -160,6 +165,7 @@ fn check(bytes: &[u8]) -> u64 {
 }
 
 /// Why bytes are not those of a registry's file.
+#[non_exhaustive]
 #[derive(Clone, Copy, Debug, PartialEq, Eq)]
 pub enum DamagedRegistry {
     /// They do not begin as such a file does.

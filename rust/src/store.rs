@@ -3,20 +3,31 @@
 //! A file is written beside the old one and then renamed, so that a stop at any moment leaves the old one or the new
 //! one. Those who change a registry keep each other waiting by a lock on a file beside it, which the system frees when
 //! a process ends, however it ends; those who only read it need none.
+use crate::registry::LONGEST_FILE;
 use crate::{Alphabets, DamagedRegistry, Refusal, Registry};
 use std::ffi::OsString;
 use std::fmt;
 use std::fs::{self, File};
 use std::io::{self, Read, Write};
 use std::path::{Path, PathBuf};
+use std::sync::atomic::{AtomicU64, Ordering};
 
-/// Replaces the file by one of these bytes; what is no regular file, as a terminal or `/dev/null`, is written to.
-pub fn replace(path: &Path, bytes: &[u8]) -> io::Result<()> {
+/// Replaces a file by what `write` writes; what is no regular file, as a terminal or `/dev/null`, is written to.
+/// `ready` is called when all is written, just before the new file takes the place of the old one.
+pub fn replace(
+    path: &Path,
+    write: impl FnOnce(&mut dyn Write) -> io::Result<()>,
+    ready: impl FnOnce() -> io::Result<()>,
+) -> io::Result<()> {
     match fs::metadata(path) {
-        Ok(found) if !found.is_file() && !found.is_dir() => File::options().write(true).open(path)?.write_all(bytes),
+        Ok(found) if !found.is_file() && !found.is_dir() => write(&mut File::options().write(true).open(path)?),
         _ => {
-            let path = real(path);
-            write_and_rename(&path, &with_end(&path, &format!(".{}.new", std::process::id())), bytes)
+            // no other thread and no other process has this name
+            static MADE: AtomicU64 = AtomicU64::new(0);
+            let number = MADE.fetch_add(1, Ordering::Relaxed);
+            let path = resolved(path);
+            let beside = beside(&path, &format!(".{}.{number}.new~", std::process::id()));
+            write_and_rename(&path, &beside, write, ready)
         }
     }
 }
@@ -24,12 +35,12 @@ pub fn replace(path: &Path, bytes: &[u8]) -> io::Result<()> {
 /// Makes a registry on disk that holds no normal form. There must be no such file.
 pub fn make(path: &Path, alphabets: &Alphabets, area: usize) -> Result<(), Error> {
     let registry = Registry::new(alphabets, area)?;
-    let path = real(path);
+    let path = resolved(path);
     // before there is a lock beside what may be no registry, and again when nobody else makes one
     still_free(&path)?;
     let _lock = lock(&path)?;
     still_free(&path)?;
-    Ok(write_and_rename(&path, &with_end(&path, ".new"), &registry.to_bytes())?)
+    write_registry(&path, &registry)
 }
 
 /// There is no such file.
@@ -40,20 +51,31 @@ fn still_free(path: &Path) -> io::Result<()> {
     }
 }
 
+/// There is such a file, and no folder or pipe.
+fn regular(path: &Path) -> io::Result<()> {
+    match fs::metadata(path)?.is_file() {
+        true => Ok(()),
+        false => Err(io::Error::new(io::ErrorKind::InvalidInput, "not a regular file, as a book is")),
+    }
+}
+
 /// Reads a registry on disk.
 pub fn read(path: &Path) -> Result<Registry, Error> {
     let mut bytes = Vec::new();
+    regular(path)?;
     // a longer file is none, and is not read to its end
     File::open(path)?.take(LONGEST_FILE + 1).read_to_end(&mut bytes)?;
     Ok(Registry::from_bytes(&bytes)?)
 }
 
 /// Changes a registry on disk: what `change` answers, once the changed registry is on disk. A registry that it leaves
-/// as it was is not written.
+/// as it was is not written. Another change of the same registry waits until this one is done, so `change` must not
+/// begin one itself.
 ///
 /// ```
 /// use caplune::{store, Alphabets, Transducer};
 /// # let folder = std::env::temp_dir().join(format!("caplune-doc-{}", std::process::id()));
+/// # let _ = std::fs::remove_dir_all(&folder);
 /// # std::fs::create_dir_all(&folder)?;
 /// let path = folder.join("book");
 /// let alphabets = Alphabets::new(&[1, 0], &[2, 0])?;
@@ -65,66 +87,108 @@ pub fn read(path: &Path) -> Result<Registry, Error> {
 /// # Ok::<(), Box<dyn std::error::Error>>(())
 /// ```
 pub fn change<T>(path: &Path, change: impl FnOnce(&mut Registry) -> T) -> Result<T, Error> {
-    let path = real(path);
+    let path = resolved(path);
+    // where there is no registry, there is to be no lock beside it
+    regular(&path)?;
     let _lock = lock(&path)?;
     let old = read(&path)?;
     let mut new = old.clone();
     let answer = change(&mut new);
     if new != old {
-        write_and_rename(&path, &with_end(&path, ".new"), &new.to_bytes())?;
+        write_registry(&path, &new)?;
     }
     Ok(answer)
 }
 
-/// The length of the longest file of a registry: its first line, 70 numbers, the longest area and one number more.
-const LONGEST_FILE: u64 = 15 + 8 * 71 + Registry::LONGEST_AREA as u64;
-
-/// The file that a path leads to: a link stays one, and what it leads to is replaced.
-fn real(path: &Path) -> PathBuf {
-    fs::canonicalize(path).unwrap_or_else(|_| path.to_path_buf())
+/// Replaces the file of a registry, whose lock is held. What an earlier stop left beside it goes.
+fn write_registry(path: &Path, registry: &Registry) -> Result<(), Error> {
+    let beside = beside(path, ".new~");
+    match fs::remove_file(&beside) {
+        Err(error) if error.kind() != io::ErrorKind::NotFound => Err(named(&beside, error).into()),
+        _ => Ok(write_and_rename(path, &beside, |file| file.write_all(&registry.to_bytes()), || Ok(()))?),
+    }
 }
 
-/// The path with this behind its name.
-fn with_end(path: &Path, end: &str) -> PathBuf {
+/// The file that a path leads to, over links, even if there is none yet: it is replaced, and the links stay.
+#[must_use]
+pub fn resolved(path: &Path) -> PathBuf {
+    let mut path = path.to_path_buf();
+    // as many links as systems follow
+    for _ in 0..40 {
+        if let Ok(found) = fs::canonicalize(&path) {
+            return found;
+        }
+        match fs::read_link(&path) {
+            Ok(target) => path = path.parent().unwrap_or(Path::new("")).join(target),
+            Err(_) => break,
+        }
+    }
+    path
+}
+
+/// The path of a file beside another: this stands behind its name.
+#[must_use]
+pub fn beside(path: &Path, end: &str) -> PathBuf {
     let mut name = OsString::from(path);
     name.push(end);
     name.into()
 }
 
-/// Waits until nobody else changes the registry of this path. The file of the lock stays: if it were removed, one
-/// process could hold the removed file and another a new one.
-fn lock(path: &Path) -> io::Result<File> {
-    let file = File::options().create(true).truncate(false).write(true).open(with_end(path, ".lock"))?;
-    file.lock()?;
-    Ok(file)
+/// An error that says with which file it has to do.
+fn named(path: &Path, error: io::Error) -> io::Error {
+    let name = path.file_name().unwrap_or(path.as_os_str()).to_string_lossy().into_owned();
+    io::Error::new(error.kind(), format!("{}: {error}", name.escape_debug()))
 }
 
-/// Writes the bytes to `beside` and renames that to `path`.
-fn write_and_rename(path: &Path, beside: &Path, bytes: &[u8]) -> io::Result<()> {
-    let written = write_through(path, beside, bytes).and_then(|()| fs::rename(beside, path));
+/// Waits until nobody else changes the registry of this path. The file of the lock stays: if it were removed, one
+/// process could hold the removed file and another a new one. One that may not be written is still locked.
+fn lock(path: &Path) -> io::Result<File> {
+    let path = beside(path, ".lock");
+    let file =
+        File::options().create(true).truncate(false).write(true).open(&path).or_else(|error| match error.kind() {
+            io::ErrorKind::PermissionDenied => File::open(&path),
+            _ => Err(error),
+        });
+    file.and_then(|file| file.lock().map(|()| file)).map_err(|error| named(&path, error))
+}
+
+/// Writes `beside`, which there is not yet, calls `ready` and renames it to `path`.
+fn write_and_rename(
+    path: &Path,
+    beside: &Path,
+    write: impl FnOnce(&mut dyn Write) -> io::Result<()>,
+    ready: impl FnOnce() -> io::Result<()>,
+) -> io::Result<()> {
+    let folder = path.parent().filter(|folder| !folder.as_os_str().is_empty()).unwrap_or(Path::new("."));
+    // opened first, so that nothing has changed where it cannot be
+    let folder = File::open(folder)?;
+    let mut file = File::options().write(true).create_new(true).open(beside).map_err(|error| named(beside, error))?;
+    let written = write_through(path, &mut file, write).and_then(|()| ready()).and_then(|()| fs::rename(beside, path));
     if let Err(error) = written {
         // what is left of it is of no use, and why is told
         let _ = fs::remove_file(beside);
         return Err(error);
     }
     // the new name, too, is on disk before anything is answered
-    let folder = path.parent().filter(|folder| !folder.as_os_str().is_empty()).unwrap_or(Path::new("."));
-    File::open(folder)?.sync_all()
+    folder.sync_all()
 }
 
-/// Writes the bytes to `beside`, with the permissions of what is at `path`, and through to the disk.
-fn write_through(path: &Path, beside: &Path, bytes: &[u8]) -> io::Result<()> {
-    // what an earlier stop left; a file made here is never another's
-    let _ = fs::remove_file(beside);
-    let mut file = File::options().write(true).create_new(true).open(beside)?;
+/// Writes a new file, with the permissions of what is at `path`, and through to the disk.
+fn write_through(path: &Path, file: &mut File, write: impl FnOnce(&mut dyn Write) -> io::Result<()>) -> io::Result<()> {
     if let Ok(old) = fs::metadata(path) {
+        // the system would let it be replaced, since it asks only who may write in the folder
+        if old.is_file() && old.permissions().readonly() {
+            return Err(io::Error::new(io::ErrorKind::PermissionDenied, "the file is write-protected"));
+        }
         file.set_permissions(old.permissions())?;
     }
-    file.write_all(bytes)?;
+    write(file)?;
     file.sync_all()
 }
 
-/// Why a registry on disk is not made, read or changed. What is on disk has not changed.
+/// Why a registry on disk is not made, read or changed. What is on disk has not changed, unless the disk itself fails
+/// when it is told to keep the new name.
+#[non_exhaustive]
 #[derive(Debug)]
 pub enum Error {
     /// The system cannot read or write a file.
@@ -163,4 +227,12 @@ impl fmt::Display for Error {
     }
 }
 
-impl std::error::Error for Error {}
+impl std::error::Error for Error {
+    fn source(&self) -> Option<&(dyn std::error::Error + 'static)> {
+        match self {
+            Error::System(error) => Some(error),
+            Error::Damaged(damaged) => Some(damaged),
+            Error::Refused(refusal) => Some(refusal),
+        }
+    }
+}

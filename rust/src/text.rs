@@ -19,8 +19,9 @@
 //! assert_eq!(error.to_string(), "1:10: expected a part kind (a, e), found `b`");
 //! # Ok::<(), Box<dyn std::error::Error>>(())
 //! ```
-use crate::{Alphabets, Refusal};
+use crate::{Alphabets, Refusal, Transducer};
 use std::borrow::Cow;
+use std::collections::HashSet;
 use std::fmt;
 
 mod reader;
@@ -28,6 +29,8 @@ mod reading;
 mod rules;
 mod words;
 mod writing;
+
+use words::is_name;
 
 pub use reading::{kind, read_alphabets, read_input_tree, read_names, read_state_names, read_transducer};
 pub use writing::{
@@ -43,6 +46,20 @@ pub struct Names {
 }
 
 impl Names {
+    /// These names of input symbols and of output symbols. `None` where one is not a name in a text (docs/FORMATS.md),
+    /// or stands twice in its list.
+    ///
+    /// ```
+    /// use caplune::text::Names;
+    /// let strings = |names: &[&str]| names.iter().map(|name| name.to_string()).collect();
+    /// assert!(Names::new(strings(&["a", "e"]), strings(&["f", "e"])).is_some());
+    /// assert!(Names::new(strings(&["a", "a"]), vec![]).is_none() && Names::new(strings(&["x1"]), vec![]).is_none());
+    /// ```
+    #[must_use]
+    pub fn new(inputs: Vec<String>, outputs: Vec<String>) -> Option<Names> {
+        (are_names(&inputs) && are_names(&outputs)).then_some(Names { inputs, outputs })
+    }
+
     /// The names that are used where there are no others: `a1` to `b8` for the input symbols, `A1` to `H8` for the
     /// output symbols.
     ///
@@ -83,9 +100,15 @@ impl Names {
 pub struct StateNames(Vec<String>);
 
 impl StateNames {
+    /// These names. `None` where one is not a name in a text (docs/FORMATS.md), or stands twice.
+    #[must_use]
+    pub fn new(names: Vec<String>) -> Option<Self> {
+        are_names(&names).then_some(StateNames(names))
+    }
+
     /// The names that are used where there are no others: `q0`, `q1` and so on.
     pub fn numbered(states: usize) -> Self {
-        StateNames((0..states).map(state_code).collect())
+        StateNames((0..states.min(Transducer::MOST_STATES)).map(state_code).collect())
     }
 
     /// The names, by number.
@@ -93,6 +116,12 @@ impl StateNames {
     pub fn as_slice(&self) -> &[String] {
         &self.0
     }
+}
+
+/// Whether all of these are names, and no two the same.
+fn are_names(names: &[String]) -> bool {
+    let mut used = HashSet::new();
+    names.iter().all(|name| is_name(name) && used.insert(name))
 }
 
 fn input_code(symbol: usize) -> String {
@@ -116,8 +145,10 @@ fn state_code(state: usize) -> String {
 /// The names of so many symbols or states: their codes where there are too few names, as with the names of other
 /// alphabets.
 fn fitted(names: &[String], count: usize, code: fn(usize) -> String) -> Vec<Cow<'_, str>> {
-    let given = names.iter().take(count).map(|name| Cow::from(name.as_str()));
-    given.chain((names.len()..count).map(|number| Cow::from(code(number)))).collect()
+    match names.get(..count) {
+        Some(names) => names.iter().map(|name| Cow::from(name.as_str())).collect(),
+        None => (0..count).map(|number| Cow::from(code(number))).collect(),
+    }
 }
 
 /// One of two alphabets, with the names of its symbols.
@@ -154,8 +185,7 @@ impl<'a> Symbols<'a> {
     }
 }
 
-/// Whether a file is text rather than bytes: it has a byte of 32 or more, and no byte under 32 but tab, line feed and
-/// carriage return.
+/// Whether a file is text rather than bytes: it has a byte of 32 or more, and none under 9.
 ///
 /// No alphabets, transducer or input tree in bytes is taken for text: byte 1 of the alphabets (a stock) is a rank, at
 /// most 4; byte 1 of a transducer (a sheet) is the high byte of a number of at most 64, so 0; and an input tree (a
@@ -168,11 +198,11 @@ impl<'a> Symbols<'a> {
 /// ```
 #[must_use]
 pub fn is_text(bytes: &[u8]) -> bool {
-    let printed = |byte: &u8| *byte >= 32;
-    bytes.iter().any(printed) && bytes.iter().all(|byte| printed(byte) || b"\t\n\r".contains(byte))
+    bytes.iter().any(|&byte| byte >= 32) && bytes.iter().all(|&byte| byte >= 9)
 }
 
 /// What a text says it is by its first word.
+#[non_exhaustive]
 #[derive(Clone, Copy, Debug, PartialEq, Eq)]
 pub enum Kind {
     /// Two alphabets: `stock`.
@@ -187,6 +217,7 @@ pub enum Kind {
 
 /// Why a text is not read. Displayed it is one line.
 #[must_use]
+#[non_exhaustive]
 #[derive(Clone, Debug, PartialEq, Eq)]
 pub enum Error {
     /// Something else should stand in the text here.
@@ -215,7 +246,14 @@ impl fmt::Display for Error {
     }
 }
 
-impl std::error::Error for Error {}
+impl std::error::Error for Error {
+    fn source(&self) -> Option<&(dyn std::error::Error + 'static)> {
+        match self {
+            Error::Unexpected { .. } => None,
+            Error::Refused(refusal) => Some(refusal),
+        }
+    }
+}
 
 impl From<Refusal> for Error {
     fn from(refusal: Refusal) -> Self {

@@ -23,6 +23,8 @@ impl Mark {
     fn bytes(self) -> [u8; 2] {
         match self {
             Mark::Symbol(symbol) => [0, symbol],
+            // in a file a child 0 would be a symbol; no rank reaches 255, so the reader refuses it
+            Mark::Call { child: 0, state } => [u8::MAX, state],
             Mark::Call { child, state } => [child, state],
         }
     }
@@ -77,6 +79,8 @@ impl Transducer {
     pub const MOST_MARKS_OF_A_TERM: usize = 64;
     /// The most marks in all.
     pub const MOST_MARKS: usize = 8_192;
+    /// The most symbols of an output tree that [`translate`](Self::translate) gives.
+    pub const MOST_OUTPUT: usize = 1 << 30;
     /// The length of the longest file: one byte, two for each count and two for each mark.
     pub const LONGEST_FILE: usize = 1 + 2 * (1 + Self::MOST_STATES * Alphabets::MOST_INPUTS) + 2 * Self::MOST_MARKS;
 
@@ -169,13 +173,25 @@ impl Transducer {
         slices::is_linear(self.alphabets.as_bytes(), &self.file) == Ok(true)
     }
 
-    /// The output tree on an input tree (the paper: sewing), if it has at most `most` symbols. Refuses by 3 and 6.
+    /// The output tree on an input tree (the paper: sewing), if it has at most `most` symbols. Refuses by 3, and by 6
+    /// an output tree of more symbols, of over [`MOST_OUTPUT`](Self::MOST_OUTPUT), or of more than there is memory for.
     pub fn translate(&self, tree: &InputTree, most: usize) -> Result<OutputTree, Refusal> {
-        let mut area = vec![0; most];
-        let length = slices::translate(self.alphabets.as_bytes(), &self.file, tree.as_bytes(), &mut area)?;
-        area.truncate(length);
-        area.shrink_to_fit();
-        Ok(OutputTree::new(&self.alphabets, area))
+        let most = most.min(Self::MOST_OUTPUT);
+        let mut length = most.min(1 << 12);
+        loop {
+            let mut area = Vec::new();
+            area.try_reserve_exact(length).map_err(|_| Refusal::LongOutput)?;
+            area.resize(length, 0);
+            match slices::translate(self.alphabets.as_bytes(), &self.file, tree.as_bytes(), &mut area) {
+                // that an area is too short is found out without writing, so it is made twice as long
+                Err(Refusal::LongOutput) if length < most => length = most.min(2 * length),
+                written => {
+                    area.truncate(written?);
+                    area.shrink_to_fit();
+                    return Ok(OutputTree::new(&self.alphabets, area));
+                }
+            }
+        }
     }
 
     /// The symbol at an address of the output tree on an input tree, or `None` where the output tree has no such
@@ -259,6 +275,7 @@ pub enum Comparison {
 
 /// An input tree, and an address at which its two output trees have two symbols.
 #[must_use]
+#[non_exhaustive]
 #[derive(Clone, Debug, PartialEq, Eq)]
 pub struct Difference {
     /// The input tree: at most 1,536 nodes and 384 levels.

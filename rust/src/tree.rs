@@ -134,6 +134,7 @@ impl FromStr for Address {
     fn from_str(text: &str) -> Result<Self, NoAddress> {
         match text {
             "-" => Ok(Address::ROOT),
+            _ if text.starts_with('+') || text.contains(".+") => Err(NoAddress),
             _ => text
                 .split('.')
                 .map(|number| number.parse().map_err(|_| NoAddress))

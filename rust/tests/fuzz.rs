@@ -365,5 +365,5 @@ fn every_function() {
         .collect();
     let whole = [seed, count, seconds] == [None; 3];
     let wanted = outcomes.iter().filter(|outcome| whole || tally.0.contains_key(outcome));
-    tally.settle(&wanted.map(|(name, outcome)| (*name, &outcome[..])).collect::<Vec<_>>(), 20);
+    tally.settle(&wanted.map(|(name, outcome)| (*name, &outcome[..])).collect::<Vec<_>>(), if whole { 20 } else { 1 });
 }

@@ -98,7 +98,7 @@ fn remedies() {
         .map(|line| line.trim_matches('|').split(" | ").map(str::trim).collect())
         .collect();
     assert_eq!(rows.len(), Refusal::ALL.len());
-    for (row, refusal) in rows.iter().zip(Refusal::ALL) {
+    for (row, refusal) in rows.iter().zip(Refusal::ALL.iter().copied()) {
         assert_eq!((row[0], row[1]), (&refusal.number().to_string()[..], &format!("`{refusal:?}`")[..]));
         assert_eq!(*row.last().unwrap(), refusal.remedy());
     }
@@ -136,7 +136,7 @@ fn help() {
         let name =
             line.split(' ').take_while(|word| word.chars().all(char::is_lowercase)).collect::<Vec<_>>().join(" ");
         let text = folder.prints(&format!("{name} --help"));
-        assert_eq!(text, folder.prints(&format!("{name} -h")));
+        assert_eq!((&text, &text), (&folder.prints(&format!("{name} -h")), &folder.prints(&format!("help {name}"))));
         assert!(text.starts_with(&format!("usage: caplune {name} ")), "{text}");
         let example = text.lines().last().and_then(|line| line.strip_prefix("example: caplune ")).expect("an example");
         let ended = folder.caplune(example);
@@ -151,6 +151,9 @@ fn help() {
 #[test]
 fn wrong_usage() {
     let folder = first();
+    folder.prints("book make made stock.txt");
+    folder.write("pairs.txt", b"stock parts f/2 e/0 blocks g/0");
+    folder.write("p.txt", b"sheet opening g");
     let before = folder.names();
     for (line, said) in [
         ("", "no command is given; `caplune --help` tells more"),
@@ -170,8 +173,14 @@ fn wrong_usage() {
             "compare --svg x stock.txt t.txt t2.txt u.txt",
             "--svg draws the difference of two sheets, and more are given",
         ),
-        ("book make - stock.txt", "a book is a file, and cannot be `-`"),
-        ("book enter - t.txt", "a book is a file, and cannot be `-`"),
+        ("book make - stock.txt", "a book is a file with a name, and cannot be `-`"),
+        ("book enter - t.txt", "a book is a file with a name, and cannot be `-`"),
+        ("book show --bytes -o ./made made 1", "made: it would be overwritten: give another file"),
+        ("compare --svg t.txt stock.txt t.txt u.txt", "t.txt: it would be overwritten: give another file"),
+        (
+            "join --stock both -o both stock.txt t.txt pairs.txt p.txt",
+            "both: it would be overwritten: give another file",
+        ),
         ("compare stock.txt t.txt", "compare: it takes STOCK SHEET SHEET...; `caplune compare --help` tells more"),
         (
             "place stock.txt t.txt design.txt 1,2",
@@ -232,7 +241,7 @@ fn refusals() {
         ("compare stock no_pass cut", "no_pass", 5),
         ("sew stock cut no_design", "cut", 4),
     ] {
-        let refusal = Refusal::ALL.into_iter().find(|refusal| refusal.number() == number).unwrap();
+        let refusal = Refusal::ALL.iter().copied().find(|refusal| refusal.number() == number).unwrap();
         let said = format!("{file}: refused by {number}: {}; what to do: {}", refusal.meaning(), refusal.remedy());
         assert_eq!(folder.says(line), said, "{line}");
     }
@@ -260,6 +269,12 @@ fn kinds_of_files() {
     folder.write("neither", &[9]);
     let said = folder.says("show stock.txt neither");
     assert!(said.starts_with("neither: no sheet (refused by 4: ") && said.contains(") and no design (refused by 3: "));
+    assert!(said.ends_with("; what to do: say which it is by --as, to read what is wrong"));
+    folder.write("wide_letters", b"\xff\xfes\0t\0");
+    assert_eq!(folder.says("show wide_letters"), "wide_letters: text in UTF-16, where UTF-8 is read: save it as that");
+    folder.write("two", b"stock parts a/1 blocks e/0");
+    let said = folder.says("show two");
+    assert!(said.ends_with("what to do: name 1 to 16 part kinds, one of them with 0 places, and 1 to 64 block kinds"));
     // 0(0(1(0(2)))), and an opening of one block
     folder.write("wide", b"stock parts a/1 b/1 e/0 blocks f/0 g/0 e/0");
     folder.write("both", &[0, 0, 1, 0, 2]);
@@ -311,6 +326,7 @@ fn converting() {
     assert!(folder.says("show stock").starts_with("stock.names:3:9: expected "), "{}", folder.says("show stock"));
     folder.write("stock.names", b"stock");
     assert!(folder.says("show stock").starts_with("stock.names:1:1: expected `names`"));
+    folder.write("stock.names", b"names parts");
     // bytes that are written anew have their own table
     folder.prints("convert -o stock stock.txt");
     assert_eq!(folder.read("stock.names"), b"names\nparts a e\nblocks f e\n");
@@ -359,6 +375,9 @@ fn comparing() {
     assert_eq!(folder.prints("compare stock.txt t.txt t2.txt t.txt"), "1: t.txt t2.txt t.txt\n");
     let ended = folder.caplune("compare stock.txt t.txt u.txt t2.txt u.txt");
     assert_eq!((ended.status, ended.text()), (Some(1), "1: t.txt t2.txt\n2: u.txt u.txt\n"));
+    folder.write("a b", &folder.read("u.txt"));
+    let words = ["compare", "stock.txt", "t.txt", "u.txt", "a b"];
+    assert_eq!(folder.run(Path::new(PROGRAM), &words, b"").text(), "1: t.txt\n2: u.txt \"a b\"\n");
     folder.prints("compare --svg alike.svg stock.txt t.txt t2.txt");
     assert!(!folder.file("alike.svg").exists());
     let ended = folder.caplune("compare --svg differ.svg stock.txt u.txt t.txt");
@@ -367,6 +386,8 @@ fn comparing() {
     let picture = String::from_utf8(folder.read("differ.svg")).unwrap();
     // on standard output it stands alone
     assert_eq!(folder.caplune("compare --svg - stock.txt u.txt t.txt").text(), picture);
+    let ended = folder.caplune_with("compare --svg - stock.txt u.txt -", T);
+    assert!(ended.status == Some(1) && ended.text().contains("plan of standard input: e at place 1"), "{ended:?}");
     assert!(picture.contains("<svg ") && picture.trim_end().ends_with("</svg>"));
     for title in ["design", "plan of u.txt: f at place 1", "plan of t.txt: e at place 1"] {
         assert!(picture.contains(title), "{title}");
@@ -391,6 +412,59 @@ fn late_differences() {
         let found = folder.prints(&format!("place stock {sheet} design.txt {place}"));
         assert_eq!(format!("{sheet} holds {} there", found.trim_end()), line);
     }
+}
+
+/// What has no such place is told by words that are no name.
+#[test]
+fn places() {
+    let folder = Folder::new();
+    folder.write("stock", b"stock parts e/0 blocks none/0 f/1");
+    folder.write("sheet", b"sheet opening f(none)");
+    folder.write("design", b"design e");
+    assert_eq!(folder.prints("place stock sheet design 1"), "none\n");
+    for place in ["2", "0", "1.1", "255"] {
+        assert_eq!(folder.prints(&format!("place stock sheet design {place}")), "no such place\n");
+    }
+    for place in ["+1", "1.+1", "1.", "256", ".", "x"] {
+        assert!(folder
+            .says(&format!("place stock sheet design {place}"))
+            .starts_with(&format!("`{place}`: an address")));
+    }
+}
+
+/// The table of names belongs to the file that a link leads to, and is not another's.
+#[cfg(unix)]
+#[test]
+fn tables_of_names() {
+    use std::os::unix::fs::symlink;
+    let folder = first();
+    folder.write("one", b"stock parts a/1 e/0 blocks red/0 blue/0");
+    folder.write("two", b"stock parts a/1 e/0 blocks blue/0 red/0");
+    fs::create_dir(folder.file("real")).unwrap();
+    folder.prints("convert -o real/s one");
+    symlink("real/s", folder.file("s")).unwrap();
+    assert_eq!(folder.prints("show s"), "stock\nparts  a/1 e/0\nblocks red/0 blue/0\n");
+    folder.prints("convert -o s two");
+    assert_eq!(folder.prints("show real/s"), "stock\nparts  a/1 e/0\nblocks blue/0 red/0\n");
+    assert!(!folder.file("s.names").exists());
+    folder.prints("book make real/book stock.txt");
+    symlink("real/book", folder.file("book")).unwrap();
+    assert_eq!(folder.prints("book enter book t.txt"), "t.txt: 1\n");
+    // a link to nothing yet is followed too
+    symlink("real/later", folder.file("later")).unwrap();
+    folder.prints("convert -o later stock.txt");
+    assert_eq!(folder.prints("show real/later"), folder.prints("show stock.txt"));
+    // what is no table is not overwritten, and nothing is written then
+    folder.write("n.names", b"a letter");
+    let said = "it would be overwritten by the names, and is no table of names";
+    assert!(folder.says("convert -o n stock.txt").ends_with(said) && !folder.file("n").exists());
+    assert!(folder.says("book make n stock.txt").ends_with(said) && !folder.file("n").exists());
+    assert_eq!(folder.read("n.names"), b"a letter");
+    // a write that fails leaves the old file with its names
+    folder.prints("convert -o t stock.txt t.txt");
+    let script = "trap '' XFSZ; ulimit -f 0; exec \"$0\" convert -o t stock.txt u.txt";
+    told(&folder.run(Path::new("/bin/sh"), &["-c", script, PROGRAM], b""), script);
+    assert_eq!((folder.read("t"), folder.read("t.names")), (T.to_vec(), b"names\npasses q\n".to_vec()));
 }
 
 #[test]
@@ -463,6 +537,16 @@ fn outputs_that_fail() {
     folder.says("clean -o u.txt stock.txt missing");
     assert_eq!(folder.read("u.txt"), fs::read(repository("examples/first/u.txt")).unwrap());
     assert_eq!(folder.names(), before);
+    // the system would let it be replaced
+    let mut protected = fs::metadata(folder.file("u.txt")).unwrap().permissions();
+    protected.set_readonly(true);
+    fs::set_permissions(folder.file("u.txt"), protected).unwrap();
+    assert_eq!(folder.says("clean -o u.txt stock.txt t.txt"), "u.txt: the file is write-protected");
+    // standard output by another name is not replaced
+    let script = "{ echo before; \"$0\" clean -o /dev/stdout stock.txt t.txt; echo after; } > all";
+    folder.run(Path::new("/bin/sh"), &["-c", script, PROGRAM], b"");
+    let all = String::from_utf8(folder.read("all")).unwrap();
+    assert!(all.starts_with("before\nsheet\n") && all.ends_with("-> e\nafter\n"), "{all}");
     if Path::new("/dev/full").exists() {
         assert!(folder.says("clean -o /dev/full stock.txt t.txt").starts_with("/dev/full: "));
         let ended = folder.run(Path::new("/bin/sh"), &["-c", "\"$0\" clean stock.txt t.txt > /dev/full", PROGRAM], b"");
@@ -523,10 +607,10 @@ fn damaged_files() {
     }
     println!("{ends:?} ended with 0, 1 and 2");
     assert!(ends[0] > 30 && ends[2] > 100, "{ends:?}");
-    assert!(folder.names().iter().all(|name| !name.contains(".new")), "{:?}", folder.names());
+    assert!(folder.names().iter().all(|name| !name.contains('~')), "{:?}", folder.names());
 }
 
-/// The tables of names that the program writes are those of the library.
+/// What the program prints is the library's text.
 #[test]
 fn typed() {
     let alphabets = Alphabets::read(S).unwrap();

@@ -75,6 +75,8 @@ fn other_ways_to_write() {
     assert_eq!(read.as_bytes(), T);
     let tree = text::read_input_tree(b"design a(\n  a(e()))", &alphabets, &names).unwrap();
     assert_eq!(tree.as_bytes(), [0, 0, 1]);
+    // a comment ends with its line, whatever ends that
+    assert_eq!(text::read_input_tree(b"# a\rdesign e", &alphabets, &names).unwrap().as_bytes(), [1]);
     // a byte order mark before the text is no part of it
     let error = text::read_input_tree("\u{feff}design e e".as_bytes(), &alphabets, &names).unwrap_err();
     assert_eq!(error.to_string(), "1:10: expected the end of the file, found `e`");
@@ -116,10 +118,10 @@ fn kinds() {
 
 #[test]
 fn text_or_bytes() {
-    for text in [STOCK, SHEET, " ", "\u{e9}", "\t\r\n~\u{7f}"] {
+    for text in [STOCK, SHEET, " ", "\u{e9}", "\t\r\n~\u{7f}\u{1b}"] {
         assert!(text::is_text(text.as_bytes()), "{text:?}");
     }
-    for bytes in [&b""[..], b"\n", b"a\0", b"a\x1b", &[31, 65]] {
+    for bytes in [&b""[..], b"\n", b"a\0", b"a\x08", &[31, 31]] {
         assert!(!text::is_text(bytes), "{bytes:?}");
     }
 }
@@ -135,18 +137,18 @@ fn codes() {
     assert_eq!((joined.inputs(), joined.outputs()), (s().1.inputs(), names.outputs()));
 }
 
-/// With the names of other alphabets, symbols without a name have their code, and names without a symbol are not known.
+/// With too few names all symbols have their codes, and names without a symbol are not known.
 #[test]
 fn names_of_other_alphabets() {
     let (three, few) = (Alphabets::new(&[2, 0, 0], &[2, 0, 0]).unwrap(), stock("z/0", "g/1").1);
-    assert_eq!(text::write_alphabets(&three, &few), "stock\nparts  z/2 a2/0 a3/0\nblocks g/2 A2/0 A3/0\n");
+    assert_eq!(text::write_alphabets(&three, &few), "stock\nparts  a1/2 a2/0 a3/0\nblocks A1/2 A2/0 A3/0\n");
     let tree = InputTree::read(&three, &[0, 1, 2]).unwrap();
-    assert_eq!(text::write_input_tree(&tree, &few), "design z(a2, a3)\n");
-    assert_eq!(text::read_input_tree(b"design z(a2, a3)", &three, &few), Ok(tree));
+    assert_eq!(text::write_input_tree(&tree, &few), "design a1(a2, a3)\n");
+    assert_eq!(text::read_input_tree(b"design a1(a2, a3)", &three, &few), Ok(tree));
     let (alphabets, names) = s();
     let sheet = Transducer::read(&alphabets, T).unwrap();
     let written = text::write_transducer(&sheet, &few, &StateNames::numbered(0));
-    assert_eq!(written, "sheet\nopening g(q0(x1), q0(x1))\nq0(z(x1)) -> g(q0(x1), q0(x1))\nq0(a2) -> A2\n");
+    assert_eq!(written, "sheet\nopening A1(q0(x1), q0(x1))\nq0(a1(x1)) -> A1(q0(x1), q0(x1))\nq0(a2) -> A2\n");
     assert_eq!(text::read_transducer(written.as_bytes(), &alphabets, &few).unwrap().0, sheet);
     let one = Alphabets::new(&[0], &[0]).unwrap();
     let error = text::read_input_tree(b"design e", &one, &names).unwrap_err();
@@ -163,7 +165,7 @@ fn message(text: &[u8], (alphabets, names): &(Alphabets, Names), states: usize) 
         Ok(Kind::Names) if text.windows(6).any(|word| word == b"passes") => {
             text::read_state_names(text, states).unwrap_err()
         }
-        Ok(Kind::Names) => text::read_names(text, alphabets).unwrap_err(),
+        Ok(_) => text::read_names(text, alphabets).unwrap_err(),
     };
     error.to_string()
 }
@@ -254,9 +256,12 @@ fn errors_in_transducers() {
         ("sheet opening f(q(x1), x1)", "1:24: expected a block kind (f, e) or a call as `q(x1)`, found `x1`"),
         ("sheet opening q(x2)", "1:17: expected `x1`, found `x2`"),
         ("sheet opening q(x01)", "1:17: expected `x1`, found `x01`"),
-        ("sheet opening q(x1)", "1:15: expected a block kind, as no pass has lines, found `q`"),
-        ("sheet opening e )", "1:17: expected a line or the end of the file, found `)`"),
-        ("sheet opening e x1(e) -> e", "1:17: expected a line or the end of the file, found `x1`"),
+        ("sheet opening q(x1)", "1:15: expected a pass that has lines (there is none), found `q`"),
+        ("sheet opening e )", "1:17: expected a name or the end of the file, found `)`"),
+        (
+            "sheet opening e x1(e) -> e",
+            "1:17: expected a name that is not a variable or the end of the file, found `x1`",
+        ),
         ("sheet opening e q -> e", "1:19: expected `(`, found `->`"),
         ("sheet opening e q(f) -> e", "1:19: expected a part kind (a, e), found `f`"),
         ("sheet opening e q(e -> e", "1:21: expected `)`, found `->`"),
@@ -331,6 +336,13 @@ fn errors_in_names() {
         ("names passes q p r", "1:18: expected the end of the file, as there are 2 passes, found `r`"),
     ]);
     assert_eq!(message(b"names passes", &s(), 1), "1:13: expected the names of 1 pass, found the end of the file");
+    let more = message(b"names passes q p", &s(), 1);
+    assert_eq!(more, "1:16: expected the end of the file, as there is 1 pass, found `p`");
+    // 100 characters are a name, of however many bytes, and 101 are none
+    let long = "\u{e9}".repeat(100);
+    assert!(text::read_state_names(format!("names passes {long}").as_bytes(), 1).is_ok());
+    let longer = message(format!("names passes {long}e").as_bytes(), &s(), 1);
+    assert_eq!(longer, format!("1:14: expected a name of at most 100 characters, found `{}…`", "\u{e9}".repeat(30)));
     let error = text::read_state_names(b"names parts", 0).unwrap_err();
     assert_eq!(error.to_string(), "1:7: expected `passes`, found `parts`");
     let error = text::read_alphabets(SHEET.as_bytes()).unwrap_err();
@@ -577,16 +589,20 @@ fn long_texts() {
     let deep = format!("design {}e{}", "a(".repeat(MILLION), ")".repeat(MILLION));
     let refused = Err(Error::Refused(Refusal::BadTree));
     assert_eq!(text::read_input_tree(deep.as_bytes(), &alphabets, &names), refused);
-    // a name of a million letters: read, written, called, and cut in a message
-    let name = "n".repeat(MILLION);
+    // the longest name: read, written, called; and one of a million letters, cut in a message
+    let name = "n".repeat(100);
     let (alphabets, names) = stock(&format!("{name}/0"), &format!("{name}/0"));
-    assert_eq!((names.inputs()[0].len(), text::write_names(&names).len()), (MILLION, 2 * MILLION + 21));
+    assert_eq!((names.inputs()[0].len(), text::write_names(&names).len()), (100, 221));
     let sheet = format!("sheet opening {name}(x1) {name}({name}) -> {name}");
     let (read, states) = text::read_transducer(sheet.as_bytes(), &alphabets, &names).unwrap();
-    assert_eq!((read.states(), states.as_slice()[0].len()), (1, MILLION));
-    let error = text::read_input_tree(format!("design {name}n").as_bytes(), &alphabets, &names).unwrap_err();
+    assert_eq!((read.states(), states.as_slice()[0].len()), (1, 100));
+    let million = "n".repeat(MILLION);
+    let error = text::read_input_tree(format!("design {million}").as_bytes(), &alphabets, &names).unwrap_err();
     let cut = "n".repeat(30);
     assert_eq!(error.to_string(), format!("1:8: expected a part kind ({cut}…), found `{cut}…`"));
+    let error = text::read_alphabets(format!("stock parts {million}/0 blocks e/0").as_bytes()).unwrap_err();
+    let expected = "1:13: expected a name of at most 100 characters or `blocks`";
+    assert_eq!(error.to_string(), format!("{expected}, found `{cut}…`"));
 }
 
 /// A plan of 1,048,575 blocks, one of 15,842 levels, and a writer that takes no more.

@@ -196,13 +196,18 @@ impl<'a> Reader<'a> {
 }
 
 /// `1 part kind`, `2 part kinds`, `2 passes`.
-pub(super) fn counted(count: usize, what: &str) -> String {
+fn counted(count: usize, what: &str) -> String {
     let ending = match what {
         _ if count == 1 => "",
         "pass" => "es",
         _ => "s",
     };
     format!("{count} {what}{ending}")
+}
+
+/// Why no more or no fewer names are expected.
+pub(super) fn as_there_are(count: usize, what: &str) -> String {
+    format!("as there {} {}", if count == 1 { "is" } else { "are" }, counted(count, what))
 }
 
 /// `x1`, or `x1` or `x2`, and so on.

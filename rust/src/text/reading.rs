@@ -1,5 +1,5 @@
 //! Reads texts.
-use super::reader::{counted, Node, Reader};
+use super::reader::{as_there_are, Node, Reader};
 use super::rules::Rules;
 use super::words::Words;
 use super::{Error, Kind, Names, StateNames, Symbols};
@@ -88,11 +88,11 @@ pub fn read_names(text: &[u8], alphabets: &Alphabets) -> Result<Names, Error> {
     reader.expect("parts")?;
     let inputs = reader.names(alphabets.input_ranks().len(), "part kind")?;
     if reader.word.text != "blocks" {
-        return Err(reader.word.error(format!("`blocks`, as there are {}", counted(inputs.len(), "part kind"))));
+        return Err(reader.word.error(format!("`blocks`, {}", as_there_are(inputs.len(), "part kind"))));
     }
     reader.take();
     let outputs = reader.names(alphabets.output_ranks().len(), "block kind")?;
-    reader.expect_end(&format!("the end of the file, as there are {}", counted(outputs.len(), "block kind")))?;
+    reader.expect_end(&format!("the end of the file, {}", as_there_are(outputs.len(), "block kind")))?;
     Ok(Names { inputs, outputs })
 }
 
@@ -101,6 +101,6 @@ pub fn read_state_names(text: &[u8], states: usize) -> Result<StateNames, Error>
     let mut reader = Reader::new(text, "names")?;
     reader.expect("passes")?;
     let names = reader.names(states, "pass")?;
-    reader.expect_end(&format!("the end of the file, as there are {}", counted(states, "pass")))?;
+    reader.expect_end(&format!("the end of the file, {}", as_there_are(states, "pass")))?;
     Ok(StateNames(names))
 }

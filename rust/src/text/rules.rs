@@ -66,7 +66,7 @@ impl<'a> Rules<'a> {
 
     fn known(&self) -> String {
         match list(self.states.iter().copied()).as_str() {
-            "" => "a block kind, as no pass has lines".into(),
+            "" => "a pass that has lines (there is none)".into(),
             states => format!("a pass that has lines ({states})"),
         }
     }
@@ -106,7 +106,7 @@ impl<'a> Reader<'a> {
 
     pub fn rule(&mut self, inputs: &Symbols, outputs: &Symbols, rules: &mut Rules<'a>) -> Result<(), Error> {
         if !self.word.is_name() {
-            return Err(self.word.error("a line or the end of the file"));
+            return Err(self.word.no_name(" or the end of the file"));
         }
         let state = rules.state(self.take())?;
         self.expect("(")?;

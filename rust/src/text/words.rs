@@ -3,6 +3,8 @@ use super::Error;
 
 /// The most characters of a word that a message shows.
 const MOST_SHOWN: usize = 30;
+/// The most characters of a name: it may stand millions of times in a text that is written.
+const LONGEST_NAME: usize = 100;
 /// The most names of a list that a message shows.
 const MOST_LISTED: usize = 8;
 
@@ -21,12 +23,11 @@ impl Word<'_> {
     }
 
     pub fn is_name(self) -> bool {
-        self.text.starts_with(|first: char| first.is_alphabetic() || first == '_') && !self.is_variable()
+        is_name(self.text)
     }
 
     pub fn is_variable(self) -> bool {
-        let digits = self.text.strip_prefix('x').unwrap_or_default();
-        !digits.is_empty() && digits.bytes().all(|byte| byte.is_ascii_digit())
+        is_variable(self.text)
     }
 
     /// The error that something else should stand here.
@@ -37,12 +38,32 @@ impl Word<'_> {
 
     /// The error that a name should stand here, or what `or` says.
     pub fn no_name(self, or: &str) -> Error {
-        self.error(if self.is_variable() {
-            format!("a name that is not a variable{or}")
-        } else {
-            format!("a name{or}")
+        self.error(match self.text {
+            text if is_variable(text) => format!("a name that is not a variable{or}"),
+            text if text.chars().nth(LONGEST_NAME).is_some() => {
+                format!("a name of at most {LONGEST_NAME} characters{or}")
+            }
+            _ => format!("a name{or}"),
         })
     }
+}
+
+/// Whether a text is a name: a letter or `_`, then letters, digits, `_` or `'`, not too many, and no variable.
+pub(super) fn is_name(text: &str) -> bool {
+    text.starts_with(|first: char| first.is_alphabetic() || first == '_')
+        && text.chars().all(is_part)
+        && text.chars().nth(LONGEST_NAME).is_none()
+        && !is_variable(text)
+}
+
+fn is_variable(text: &str) -> bool {
+    let digits = text.strip_prefix('x').unwrap_or_default();
+    !digits.is_empty() && digits.bytes().all(|byte| byte.is_ascii_digit())
+}
+
+/// Whether a character can stand in a name.
+fn is_part(character: char) -> bool {
+    character.is_alphanumeric() || character == '_' || character == '\''
 }
 
 /// A word as a message shows it: at most so many characters, and none that moves the cursor.
@@ -105,7 +126,7 @@ impl<'a> Words<'a> {
             if !self.rest.starts_with('#') {
                 return;
             }
-            self.pass(self.rest.find('\n').unwrap_or(self.rest.len()));
+            self.pass(self.rest.find(['\n', '\r']).unwrap_or(self.rest.len()));
         }
     }
 
@@ -125,7 +146,6 @@ impl<'a> Words<'a> {
 
 /// The length of the word that a text begins with.
 fn word_length(text: &str) -> usize {
-    let is_part = |character: char| character.is_alphanumeric() || character == '_' || character == '\'';
     match text.chars().next() {
         None => 0,
         Some(first) if is_part(first) => text.find(|character| !is_part(character)).unwrap_or(text.len()),

@@ -5,7 +5,7 @@
 
 use std::ffi::OsStr;
 use std::fs;
-use std::io::Write;
+use std::io::{ErrorKind, Write};
 use std::path::{Path, PathBuf};
 use std::process::{Command, Stdio};
 use std::sync::atomic::{AtomicUsize, Ordering};
@@ -16,10 +16,18 @@ pub struct Folder(pub PathBuf);
 impl Folder {
     pub fn new() -> Self {
         static MADE: AtomicUsize = AtomicUsize::new(0);
-        let name = format!("caplune-test-{}-{}", std::process::id(), MADE.fetch_add(1, Ordering::Relaxed));
-        let folder = Folder(std::env::temp_dir().join(name));
-        fs::create_dir(&folder.0).expect("a new folder");
-        folder
+        loop {
+            let number = MADE.fetch_add(1, Ordering::Relaxed);
+            let path = std::env::temp_dir().join(format!("caplune-test-{}-{number}", std::process::id()));
+            match fs::create_dir(&path) {
+                // an earlier process of this number was stopped
+                Err(error) if error.kind() == ErrorKind::AlreadyExists => {}
+                made => {
+                    made.expect("a new folder");
+                    return Folder(path);
+                }
+            }
+        }
     }
 
     /// With these files.

@@ -76,7 +76,13 @@ impl Arguments {
     /// The number that follows an option, at most `most`; where it is not chosen, `usual`.
     pub fn number(&self, name: &str, usual: usize, most: usize) -> Result<usize, Failure> {
         let Some(value) = self.value(name) else { return Ok(usual) };
-        let number = value.to_str().and_then(|text| text.parse().ok()).filter(|&number| number <= most);
+        let number = number(value).filter(|&number| number <= most);
         number.ok_or_else(|| Failure::Told(format!("{name} takes a number, at most {most}")))
     }
+}
+
+/// The number that a word is: digits and nothing else.
+pub fn number(word: &OsStr) -> Option<usize> {
+    let text = word.to_str().filter(|text| text.bytes().all(|byte| byte.is_ascii_digit()))?;
+    text.parse().ok()
 }

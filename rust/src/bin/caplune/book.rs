@@ -1,8 +1,10 @@
 //! The commands of a book on disk.
-use crate::arguments::Arguments;
+use crate::arguments::{number, Arguments};
 use crate::commands::count;
 use crate::failure::Failure;
-use crate::files::{names_beside, print, shown, write_table, Content, Inputs, Stock};
+use crate::files::{
+    names_beside, not_over, own_table, print, remove_table, shown, write_table, Content, Inputs, Stock,
+};
 use crate::Status;
 use caplune::{store, text, Registry};
 use std::ffi::OsStr;
@@ -13,15 +15,21 @@ pub fn make(arguments: &Arguments) -> Result<Status, Failure> {
     let area = arguments.number("--area", Registry::LONGEST_AREA, Registry::LONGEST_AREA)?;
     let path = path_of(&arguments.plain[0])?;
     let stock = Inputs::default().stock(&arguments.plain[1])?;
-    store::make(path, &stock.alphabets, area).map_err(|error| Failure::of_book(&shown(path.as_os_str()), error))?;
+    let name = shown(path.as_os_str());
+    if !path.exists() {
+        // a table without its book, which must not become the new book's
+        own_table(path)?;
+        remove_table(path).map_err(|error| Failure::of_file(&name, error))?;
+    }
+    store::make(path, &stock.alphabets, area).map_err(|error| Failure::of_book(&name, error))?;
     write_table(path, &text::write_names(&stock.names))?;
     Ok(Status::Done)
 }
 
 /// The path of a book, which standard input cannot be.
 fn path_of(file: &OsStr) -> Result<&Path, Failure> {
-    match file == "-" {
-        true => Err(Failure::Told("a book is a file, and cannot be `-`".to_string())),
+    match file == "-" || file.is_empty() {
+        true => Err(Failure::Told("a book is a file with a name, and cannot be `-`".to_string())),
         false => Ok(Path::new(file)),
     }
 }
@@ -57,7 +65,7 @@ pub fn enter(arguments: &Arguments) -> Result<Status, Failure> {
     let mut refused = false;
     for answer in answers {
         match answer {
-            Ok(line) => print(line.as_bytes())?,
+            Ok(line) => print(&line)?,
             Err(failure) => {
                 failure.tell();
                 refused = true;
@@ -81,22 +89,21 @@ pub fn list(arguments: &Arguments) -> Result<Status, Failure> {
         let size = format!("{}, {}", count(form.states(), "pass", "passes"), count(form.marks(), "mark", "marks"));
         lines += &format!("{number}: {size}\n");
     }
-    print(lines.as_bytes())?;
+    print(&lines)?;
     Ok(Status::Done)
 }
 
 /// Shows the sheet of a number, or the stock.
 pub fn show(arguments: &Arguments) -> Result<Status, Failure> {
+    not_over(arguments.value("-o"), &arguments.plain[..1])?;
     let (registry, stock) = open(&arguments.plain[0])?;
-    let number: Option<usize> = arguments.plain[1].to_str().and_then(|text| text.parse().ok());
-    let content = match number {
-        Some(0) => Content::stock(&stock),
-        _ => match number.and_then(|number| registry.normal_form(number)) {
-            Some(form) => Content::numbered(&form, &stock.names),
+    match number(&arguments.plain[1]) {
+        Some(0) => Content::stock(&stock).deliver(arguments)?,
+        asked => match asked.and_then(|number| registry.normal_form(number)) {
+            Some(form) => Content::numbered(&form, &stock.names).deliver(arguments)?,
             None => return Err(not_held(arguments, &registry)),
         },
-    };
-    content.deliver(arguments)?;
+    }
     Ok(Status::Done)
 }
 

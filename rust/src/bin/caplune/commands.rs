@@ -1,9 +1,9 @@
 //! The commands: what each takes, does and says of itself.
 use crate::arguments::{Arguments, Choice};
 use crate::failure::Failure;
-use crate::files::{print, shown, Content, Either, Inputs, Stock};
+use crate::files::{not_over, print, shown, Content, Either, Input, Inputs, Stock};
 use crate::{book, comparing, Status};
-use caplune::{text, Address};
+use caplune::{Address, Transducer};
 use std::ffi::OsString;
 use std::fmt::Write;
 
@@ -25,10 +25,16 @@ const BYTES: Choice =
     Choice { name: "--bytes", takes: None, says: "write bytes, and the table FILE.names beside FILE; else text" };
 const PLAN: Choice = Choice { name: "--bytes", takes: None, says: "write bytes; else text" };
 const AS: Choice = Choice { name: "--as", takes: Some("KIND"), says: "read bytes as `sheet` or as `design`" };
-const MOST: Choice =
-    Choice { name: "--most", takes: Some("N"), says: "refuse a plan of over N blocks (else 16777216)" };
-const SVG: Choice =
-    Choice { name: "--svg", takes: Some("FILE"), says: "draw the difference of two sheets as a picture" };
+const MOST: Choice = Choice {
+    name: "--most",
+    takes: Some("N"),
+    says: "refuse a plan of over N blocks (else 16777216; at most 1073741824)",
+};
+const SVG: Choice = Choice {
+    name: "--svg",
+    takes: Some("FILE"),
+    says: "draw the difference of two sheets as a picture; none if they are alike",
+};
 const STOCK: Choice = Choice { name: "--stock", takes: Some("FILE"), says: "write the joined sheet's stock to FILE" };
 const AREA: Choice =
     Choice { name: "--area", takes: Some("N"), says: "the book has room for N bytes (else for any 32 sheets)" };
@@ -53,8 +59,8 @@ const COMMANDS: &[Command] = &[
         words: (1, 2),
         choices: &[OUTPUT, AS],
         does: "turn a stock, or a sheet or design under it, from text into bytes, or from bytes into text",
-        more: "Bytes that go to FILE get the table FILE.names beside them, and names are read from there\n\
-               again.",
+        more: "A stock or sheet in bytes that goes to FILE gets the table FILE.names beside it, and names\n\
+               are read from there again.",
         example: "caplune convert -o t stock.txt t.txt",
         run: convert,
     },
@@ -74,8 +80,8 @@ const COMMANDS: &[Command] = &[
         words: (4, 4),
         choices: &[],
         does: "give the block at a place of the plan, however large the plan is",
-        more: "A place is written 2.1, from the top on, and the top itself is `-`.\n\
-               Where the plan has no such place, the answer is `none`.",
+        more: "A place is written 2.1, from the top on, sub-trees counting from 1; the top itself is `-`.\n\
+               Where the plan has no such place, the answer is `no such place`.",
         example: "caplune place stock.txt t.txt design.txt 2.1",
         run: place,
     },
@@ -168,21 +174,24 @@ const COMMANDS: &[Command] = &[
 pub fn run(words: &[OsString]) -> Result<Status, Failure> {
     let is = |word: &OsString, names: &[&str]| names.iter().any(|name| word == name);
     let Some(first) = words.first() else { return Err(wrong("no command is given", None)) };
+    if is(first, &["help"]) && words.len() > 1 {
+        return run(&[&words[1..], &["--help".into()]].concat());
+    }
     if is(first, &["--help", "-h", "help"]) {
-        return print(overview(COMMANDS).as_bytes()).map(|()| Status::Done);
+        return print(&overview(COMMANDS)).map(|()| Status::Done);
     }
     if is(first, &["--version"]) {
-        return print(concat!("caplune ", env!("CARGO_PKG_VERSION"), "\n").as_bytes()).map(|()| Status::Done);
+        return print(concat!("caplune ", env!("CARGO_PKG_VERSION"), "\n")).map(|()| Status::Done);
     }
     let helped = |word: &OsString| is(word, &["--help", "-h"]);
     let group: Vec<&Command> =
         COMMANDS.iter().filter(|command| command.name.split(' ').next() == first.to_str()).collect();
     if group.len() > 1 && words.get(1).is_some_and(helped) {
-        return print(overview(group).as_bytes()).map(|()| Status::Done);
+        return print(&overview(group)).map(|()| Status::Done);
     }
     let (command, rest) = find(words)?;
     if rest.iter().take_while(|word| *word != "--").any(helped) {
-        return print(command.help().as_bytes()).map(|()| Status::Done);
+        return print(&command.help()).map(|()| Status::Done);
     }
     let arguments = Arguments::read(rest, command.choices).map_err(|why| wrong(&why, Some(command)))?;
     let (least, most) = command.words;
@@ -258,65 +267,53 @@ fn show(arguments: &Arguments) -> Result<Status, Failure> {
     let mut inputs = Inputs::default();
     let stock = inputs.stock(&arguments.plain[0])?;
     if arguments.plain.len() == 1 {
-        print(&Content::stock(&stock).text)?;
+        Content::stock(&stock).print()?;
     }
     for file in &arguments.plain[1..] {
         let input = inputs.read(file)?;
-        let (size, content) = match input.either(&stock, arguments.value("--as"))? {
+        match input.either(&stock, arguments.value("--as"))? {
             Either::Sheet(sheet) => {
                 let (states, marks) = (sheet.transducer.states(), sheet.transducer.marks());
                 let size = format!("{}, {}", count(states, "pass", "passes"), count(marks, "mark", "marks"));
-                (size, Content::sheet(&sheet.transducer, &stock.names, &sheet.states))
+                print(&format!("# {}: {size}\n", input.name))?;
+                Content::sheet(&sheet.transducer, &stock.names, &sheet.states).print()?;
             }
             Either::Design(design) => {
                 let (nodes, levels) = (design.nodes(), design.levels());
                 let size = format!("{}, {}", count(nodes, "part", "parts"), count(levels, "level", "levels"));
-                (size, Content::design(&design, &stock.names))
+                print(&format!("# {}: {size}\n", input.name))?;
+                Content::design(&design, &stock.names).print()?;
             }
-        };
-        print(format!("# {}: {size}\n", input.name).as_bytes())?;
-        print(&content.text)?;
+        }
     }
     Ok(Status::Done)
 }
 
 fn convert(arguments: &Arguments) -> Result<Status, Failure> {
     let mut inputs = Inputs::default();
-    let (input, content) = match &arguments.plain[..] {
-        [stock] => {
-            let input = inputs.read(stock)?;
-            let content = Content::stock(&input.stock()?);
-            (input, content)
-        }
-        files => {
-            let stock = inputs.stock(&files[0])?;
-            let input = inputs.read(&files[1])?;
-            let content = match input.either(&stock, arguments.value("--as"))? {
-                Either::Sheet(sheet) => Content::sheet(&sheet.transducer, &stock.names, &sheet.states),
-                Either::Design(design) => Content::design(&design, &stock.names),
-            };
-            (input, content)
-        }
+    let first = inputs.read(&arguments.plain[0])?;
+    let stock = first.stock()?;
+    let write = |content: Content, input: &Input| content.write(arguments.value("-o"), input.is_text());
+    let Some(file) = arguments.plain.get(1) else {
+        return write(Content::stock(&stock), &first).map(|()| Status::Done);
     };
-    content.write(arguments.value("-o"), input.is_text())?;
+    let input = inputs.read(file)?;
+    match input.either(&stock, arguments.value("--as"))? {
+        Either::Sheet(sheet) => write(Content::sheet(&sheet.transducer, &stock.names, &sheet.states), &input)?,
+        Either::Design(design) => write(Content::design(&design, &stock.names), &input)?,
+    }
     Ok(Status::Done)
 }
 
 fn sew(arguments: &Arguments) -> Result<Status, Failure> {
-    let most = arguments.number("--most", 1 << 24, 1 << 30)?;
+    let most = arguments.number("--most", 1 << 24, Transducer::MOST_OUTPUT)?;
     let mut inputs = Inputs::default();
     let stock = inputs.stock(&arguments.plain[0])?;
     let sheet = inputs.sheet(&arguments.plain[1], &stock)?;
     let design = inputs.design(&arguments.plain[2], &stock)?;
     let plan = sheet.transducer.translate(&design, most);
     let plan = plan.map_err(|refusal| Failure::refused(&shown(&arguments.plain[2]), refusal))?;
-    let (mut text, mut bytes) = (Vec::new(), Vec::new());
-    // a plan can be long, so it is written in one form only
-    match arguments.has("--bytes") {
-        true => bytes.extend(plan.as_bytes()),
-        false => text::write_output_tree(&plan, &stock.names, &mut text).map_err(Failure::of_output)?,
-    }
-    Content { text, bytes, names: None }.deliver(arguments)?;
+    Content::plan(&plan, &stock.names).deliver(arguments)?;
     Ok(Status::Done)
 }
 
@@ -330,8 +327,8 @@ fn place(arguments: &Arguments) -> Result<Status, Failure> {
         place.parse().map_err(|error| Failure::of_file(&format!("`{}`", shown(&arguments.plain[3])), error))?;
     let found = sheet.transducer.symbol_at(&design, &address);
     let found = found.map_err(|refusal| Failure::refused(&shown(&arguments.plain[2]), refusal))?;
-    let block = found.map_or("none", |symbol| block(&stock, symbol));
-    print(format!("{block}\n").as_bytes())?;
+    let block = found.map_or("no such place", |symbol| block(&stock, symbol));
+    print(&format!("{block}\n"))?;
     Ok(Status::Done)
 }
 
@@ -344,7 +341,7 @@ fn single(arguments: &Arguments) -> Result<Status, Failure> {
     let mut inputs = Inputs::default();
     let stock = inputs.stock(&arguments.plain[0])?;
     let sheet = inputs.sheet(&arguments.plain[1], &stock)?;
-    print(if sheet.transducer.is_linear() { b"single\n" } else { b"not single\n" })?;
+    print(if sheet.transducer.is_linear() { "single\n" } else { "not single\n" })?;
     Ok(Status::Done)
 }
 
@@ -368,7 +365,9 @@ fn join(arguments: &Arguments) -> Result<Status, Failure> {
     let first = inputs.sheet(&arguments.plain[1], &first_stock)?;
     let second = inputs.sheet(&arguments.plain[3], &second_stock)?;
     let joined = first.transducer.then(&second.transducer).map_err(|refusal| Failure::refused(&both(1, 3), refusal))?;
-    if let Some(file) = arguments.value("--stock") {
+    let stock_file = arguments.value("--stock");
+    not_over(stock_file, &arguments.value("-o").map(OsString::from).into_iter().collect::<Vec<_>>())?;
+    if let Some(file) = stock_file {
         Content::stock(&stock).write(Some(file), arguments.has("--bytes"))?;
     }
     Content::numbered(&joined, &stock.names).deliver(arguments)?;

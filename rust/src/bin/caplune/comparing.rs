@@ -2,10 +2,10 @@
 use crate::arguments::Arguments;
 use crate::commands::block;
 use crate::failure::Failure;
-use crate::files::{print, write_file, Content, Inputs, Sheet, Stock};
+use crate::files::{not_over, print, write_file, Inputs, Sheet, Stock};
 use crate::Status;
 use caplune::drawing::{short, svg, Drawn};
-use caplune::{Comparison, Difference, Refusal, Transducer};
+use caplune::{text, Comparison, Difference, Refusal, Transducer};
 use std::path::Path;
 
 /// How many parts of a design are drawn.
@@ -21,6 +21,7 @@ pub fn compare(arguments: &Arguments) -> Result<Status, Failure> {
     if arguments.has("--svg") && files.len() != 2 {
         return Err(Failure::Told("--svg draws the difference of two sheets, and more are given".to_string()));
     }
+    not_over(arguments.value("--svg"), &arguments.plain)?;
     let sheets = files.iter().map(|file| inputs.sheet(file, &stock)).collect::<Result<Vec<_>, _>>()?;
     match &sheets[..] {
         [first, second] => two(&stock, first, second, arguments),
@@ -35,7 +36,7 @@ fn two(stock: &Stock, first: &Sheet, second: &Sheet, arguments: &Arguments) -> R
         Failure::refused(&sheet.name, refusal)
     })?;
     let Comparison::Differ(shown) = comparison else {
-        print(b"alike\n")?;
+        print("alike\n")?;
         return Ok(Status::Done);
     };
     let drawn =
@@ -43,9 +44,9 @@ fn two(stock: &Stock, first: &Sheet, second: &Sheet, arguments: &Arguments) -> R
     let text = drawn.text(stock, [first, second], &shown);
     let picture = drawn.picture(stock, [first, second], &shown);
     match arguments.value("--svg") {
-        Some(file) if file == "-" => print(picture.as_bytes())?,
-        Some(file) => write_file(Path::new(file), picture.as_bytes()).and_then(|()| print(text.as_bytes()))?,
-        None => print(text.as_bytes())?,
+        Some(file) if file == "-" => print(&picture)?,
+        Some(file) => write_file(Path::new(file), &picture).and_then(|()| print(&text))?,
+        None => print(&text)?,
     }
     Ok(Status::Differing)
 }
@@ -67,7 +68,7 @@ impl Drawings {
     }
 
     fn text(&self, stock: &Stock, sheets: [&Sheet; 2], shown: &Difference) -> String {
-        let design = String::from_utf8_lossy(&Content::design(&shown.tree, &stock.names).text).into_owned();
+        let design = text::write_input_tree(&shown.tree, &stock.names);
         let held = [shown.first, shown.second].map(|symbol| block(stock, symbol));
         let mut text = format!("differ\n{design}place {}\n", shown.address);
         for (sheet, block) in sheets.iter().zip(held) {
@@ -98,16 +99,24 @@ impl Drawings {
 
 /// Prints the classes of alike sheets, a line each, in the order of their first sheets.
 fn classes(sheets: &[Sheet]) -> Result<Status, Failure> {
-    let mut classes: Vec<(Transducer, Vec<&str>)> = Vec::new();
+    let mut classes: Vec<(Transducer, Vec<String>)> = Vec::new();
     for Sheet { name, transducer, .. } in sheets {
         let form = transducer.normal_form().map_err(|refusal| Failure::refused(name, refusal))?;
         match classes.iter_mut().find(|(other, _)| *other == form) {
-            Some((_, names)) => names.push(name),
-            None => classes.push((form, vec![name])),
+            Some((_, names)) => names.push(apart(name)),
+            None => classes.push((form, vec![apart(name)])),
         }
     }
     for (number, (_, names)) in (1..).zip(&classes) {
-        print(format!("{number}: {}\n", names.join(" ")).as_bytes())?;
+        print(&format!("{number}: {}\n", names.join(" ")))?;
     }
     Ok(if classes.len() > 1 { Status::Differing } else { Status::Done })
+}
+
+/// A name that can be told from its neighbours on a line.
+fn apart(name: &str) -> String {
+    match name.contains([' ', '"']) {
+        true => format!("{name:?}"),
+        false => name.to_string(),
+    }
 }

@@ -21,13 +21,15 @@ impl Failure {
 
     /// The library refuses a file: its number, and what to do.
     pub fn refused(file: &str, refusal: Refusal) -> Self {
-        Failure::of_file(file, refused(refusal))
+        Failure::of_file(file, format!("{refusal}; what to do: {}", refusal.remedy()))
     }
 
     /// A text is not read.
     pub fn of_text(file: &str, error: text::Error) -> Self {
         match error {
-            text::Error::Refused(refusal) => Failure::refused(file, refusal),
+            text::Error::Refused(refusal) => {
+                Failure::of_file(file, format!("{refusal}; what to do: {}", in_text(refusal)))
+            }
             unexpected => Failure::Told(format!("{file}:{unexpected}")),
         }
     }
@@ -40,7 +42,7 @@ impl Failure {
                 file,
                 format!("refused by 9: {damaged}; what to do: put back a copy of it, or make the book anew"),
             ),
-            store::Error::System(error) => Failure::of_file(file, error),
+            other => Failure::of_file(file, other),
         }
     }
 
@@ -61,7 +63,12 @@ impl Failure {
     }
 }
 
-/// A refusal with its number and what to do.
-pub fn refused(refusal: Refusal) -> String {
-    format!("{refusal}; what to do: {}", refusal.remedy())
+/// What to do about a text for which the library refuses what it stands for.
+fn in_text(refusal: Refusal) -> &'static str {
+    match refusal {
+        Refusal::BadAlphabets => "name 1 to 16 part kinds, one of them with 0 places, and 1 to 64 block kinds",
+        Refusal::BadTree => "draw at most 4,096 parts and 512 levels",
+        Refusal::BadContents => "give at most 8,192 marks in all",
+        other => other.remedy(),
+    }
 }

@@ -2,7 +2,7 @@
 use crate::arguments::Arguments;
 use crate::failure::Failure;
 use caplune::text::{self, Kind, Names, StateNames};
-use caplune::{store, Alphabets, InputTree, Transducer};
+use caplune::{store, Alphabets, InputTree, OutputTree, Transducer};
 use std::ffi::{OsStr, OsString};
 use std::fs::File;
 use std::io::{self, Read, Write};
@@ -54,17 +54,20 @@ pub struct Inputs {
 impl Inputs {
     /// Reads a file, or standard input for `-`, which can be read once.
     pub fn read(&mut self, file: &OsStr) -> Result<Input, Failure> {
-        if file != "-" {
-            let (name, path) = (shown(file), PathBuf::from(file));
-            let bytes = File::open(&path).and_then(whole).map_err(|error| Failure::of_file(&name, error))?;
-            return Ok(Input { name, path: Some(path), bytes });
-        }
-        let name = "standard input".to_string();
-        if std::mem::replace(&mut self.standard_input, true) {
+        let (name, standard_input) = (shown(file), file == "-");
+        if standard_input && std::mem::replace(&mut self.standard_input, true) {
             return Err(Failure::of_file(&name, "it can be read once, so only one file can be `-`"));
         }
-        let bytes = whole(io::stdin().lock()).map_err(|error| Failure::of_file(&name, error))?;
-        Ok(Input { name, path: None, bytes })
+        let bytes = match standard_input {
+            true => whole(io::stdin().lock()),
+            false => File::open(file).and_then(whole),
+        };
+        let bytes = bytes.map_err(|error| Failure::of_file(&name, error))?;
+        // no stock, design or sheet in bytes begins so
+        if bytes.starts_with(&[0xff, 0xfe]) || bytes.starts_with(&[0xfe, 0xff]) {
+            return Err(Failure::of_file(&name, "text in UTF-16, where UTF-8 is read: save it as that"));
+        }
+        Ok(Input { name, path: (!standard_input).then(|| PathBuf::from(file)), bytes })
     }
 
     /// Reads a stock.
@@ -139,9 +142,7 @@ impl Input {
                 Kind::Transducer => self.sheet(stock).map(Either::Sheet),
                 Kind::InputTree => self.design(stock).map(Either::Design),
                 Kind::Alphabets => Err(Failure::of_file(&self.name, "a stock, where a sheet or a design was expected")),
-                Kind::Names => {
-                    Err(Failure::of_file(&self.name, "a table of names, where a sheet or a design was expected"))
-                }
+                _ => Err(Failure::of_file(&self.name, "a table of names, where a sheet or a design was expected")),
             };
         }
         let Stock { alphabets, .. } = stock;
@@ -150,7 +151,8 @@ impl Input {
             (Err(_), Ok(design)) => Ok(Either::Design(design)),
             (Ok(_), Ok(_)) => Err(Failure::of_file(&self.name, "a sheet and a design at once: say which by --as")),
             (Err(sheet), Err(design)) => {
-                Err(Failure::of_file(&self.name, format!("no sheet ({sheet}) and no design ({design})")))
+                let why = format!("no sheet ({sheet}) and no design ({design})");
+                Err(Failure::of_file(&self.name, why + "; what to do: say which it is by --as, to read what is wrong"))
             }
         }
     }
@@ -166,19 +168,25 @@ fn whole(from: impl Read) -> io::Result<Vec<u8>> {
     Ok(bytes)
 }
 
-/// A file's name on one line.
+/// A file's name in messages, on one line.
 pub fn shown(file: &OsStr) -> String {
-    let name = file.to_string_lossy();
-    name.chars()
-        .map(|letter| if letter.is_control() { letter.escape_default().to_string() } else { letter.into() })
-        .collect()
+    match file.to_str() {
+        Some("-") => "standard input".to_string(),
+        Some("") => "''".to_string(),
+        _ => file.to_string_lossy().escape_debug().to_string().replace("\\'", "'").replace("\\\"", "\""),
+    }
 }
 
-/// The path of the table of names beside a file of bytes.
+/// A path's name in messages.
+fn shown_path(path: &Path) -> String {
+    shown(path.as_os_str())
+}
+
+/// The path of the table of names beside a file of bytes: beside the file itself, where links lead to it.
 fn table_of(path: &Path) -> PathBuf {
-    let mut name = OsString::from(path);
-    name.push(".names");
-    name.into()
+    let is_link = std::fs::symlink_metadata(path).is_ok_and(|found| found.is_symlink());
+    let path = if is_link { store::resolved(path) } else { path.to_path_buf() };
+    store::beside(&path, ".names")
 }
 
 /// The table of names beside a file, if there is one.
@@ -199,45 +207,58 @@ pub fn names_beside(path: Option<&Path>, alphabets: &Alphabets) -> Result<Names,
     }
 }
 
-/// What a command gives: as text, as bytes, and the table of names that belongs beside the bytes.
-pub struct Content {
-    /// The text form.
-    pub text: Vec<u8>,
-    /// The bytes.
-    pub bytes: Vec<u8>,
-    /// The table of names.
-    pub names: Option<String>,
+/// Writes a content, as bytes or as text.
+type WriteContent<'a> = dyn Fn(bool, &mut dyn Write) -> io::Result<()> + 'a;
+
+/// What a command gives: it can be written as bytes and as text, and has a table of names that belongs beside the
+/// bytes.
+pub struct Content<'a> {
+    write: Box<WriteContent<'a>>,
+    names: Option<String>,
 }
 
-impl Content {
+impl<'a> Content<'a> {
+    /// Of these bytes and this text.
+    fn of(bytes: &'a [u8], text: String, names: Option<String>) -> Self {
+        let write = move |as_bytes, to: &mut dyn Write| to.write_all(if as_bytes { bytes } else { text.as_bytes() });
+        Content { write: Box::new(write), names }
+    }
+
     /// Of a stock.
-    pub fn stock(stock: &Stock) -> Self {
+    pub fn stock(stock: &'a Stock) -> Self {
         let Stock { alphabets, names } = stock;
-        Content {
-            text: text::write_alphabets(alphabets, names).into_bytes(),
-            bytes: alphabets.as_bytes().to_vec(),
-            names: Some(text::write_names(names)),
-        }
+        let text = text::write_alphabets(alphabets, names);
+        Content::of(alphabets.as_bytes(), text, Some(text::write_names(names)))
     }
 
     /// Of a sheet.
-    pub fn sheet(transducer: &Transducer, names: &Names, states: &StateNames) -> Self {
-        Content {
-            text: text::write_transducer(transducer, names, states).into_bytes(),
-            bytes: transducer.as_bytes().to_vec(),
-            names: Some(text::write_state_names(states)),
-        }
+    pub fn sheet(transducer: &'a Transducer, names: &Names, states: &StateNames) -> Self {
+        let text = text::write_transducer(transducer, names, states);
+        Content::of(transducer.as_bytes(), text, Some(text::write_state_names(states)))
     }
 
     /// Of a sheet whose passes have no names.
-    pub fn numbered(transducer: &Transducer, names: &Names) -> Self {
+    pub fn numbered(transducer: &'a Transducer, names: &Names) -> Self {
         Content::sheet(transducer, names, &StateNames::numbered(transducer.states()))
     }
 
     /// Of a design.
-    pub fn design(tree: &InputTree, names: &Names) -> Self {
-        let text = text::write_input_tree(tree, names).into_bytes();
-        Content { text, bytes: tree.as_bytes().to_vec(), names: None }
+    pub fn design(tree: &'a InputTree, names: &Names) -> Self {
+        Content::of(tree.as_bytes(), text::write_input_tree(tree, names), None)
+    }
+
+    /// Of a plan, whose text can be long and is not kept.
+    pub fn plan(tree: &'a OutputTree, names: &'a Names) -> Self {
+        let write = |as_bytes, mut to: &mut dyn Write| match as_bytes {
+            true => to.write_all(tree.as_bytes()),
+            false => text::write_output_tree(tree, names, &mut to),
+        };
+        Content { write: Box::new(write), names: None }
+    }
+
+    /// Prints its text.
+    pub fn print(&self) -> Result<(), Failure> {
+        self.write(None, false)
     }
 
     /// Writes it where `-o` says, as text or, with `--bytes`, as bytes.
@@ -247,50 +268,77 @@ impl Content {
 
     /// Writes it to a file, as text or as bytes with the table of names beside them; or to standard output.
     pub fn write(&self, file: Option<&OsStr>, bytes: bool) -> Result<(), Failure> {
-        let content = if bytes { &self.bytes } else { &self.text };
-        let Some(file) = file.filter(|file| *file != "-") else { return print(content) };
-        let path = Path::new(file);
-        match &self.names {
-            // a terminal or /dev/null has no names beside it
-            Some(names) if bytes && std::fs::metadata(path).map_or(true, |found| found.is_file()) => {
-                write_with_table(path, content, names)
-            }
-            _ => write_file(path, content),
+        let Some(path) = file.map(Path::new).filter(|path| !is_standard_output(path)) else {
+            return to_standard_output(|out| (self.write)(bytes, out));
+        };
+        // a terminal or /dev/null has no names beside it
+        let regular = std::fs::metadata(path).map_or(true, |found| found.is_file());
+        let names = self.names.as_ref().filter(|_| bytes && regular);
+        if names.is_some() {
+            own_table(path)?;
         }
+        // The old table goes just before the file that it belongs to, so that a stop leaves a file without one and
+        // never a file with another's.
+        let ready = || if names.is_some() { remove_table(path) } else { Ok(()) };
+        let written = store::replace(path, |out| (self.write)(bytes, out), ready);
+        written.map_err(|error| Failure::of_file(&shown_path(path), error))?;
+        names.map_or(Ok(()), |names| write_table(path, names))
     }
 }
 
-/// Writes a file of bytes and the table of names beside it. The old table goes first, so that a stop leaves a file
-/// without one and never a file with another's.
-pub fn write_with_table(path: &Path, bytes: &[u8], names: &str) -> Result<(), Failure> {
-    remove_table(path)?;
-    write_file(path, bytes)?;
-    write_table(path, names)
+/// Whether a path is that of standard output.
+fn is_standard_output(path: &Path) -> bool {
+    ["-", "/dev/stdout", "/dev/fd/1"].iter().any(|name| path == Path::new(name))
+}
+
+/// There is no file where the table of names beside a file is to stand, or it is such a table.
+pub fn own_table(path: &Path) -> Result<(), Failure> {
+    match table_beside(Some(path))? {
+        Some(table) if text::kind(&table.bytes) != Ok(Kind::Names) => {
+            Err(Failure::of_file(&table.name, "it would be overwritten by the names, and is no table of names"))
+        }
+        _ => Ok(()),
+    }
 }
 
 /// Removes the table of names beside a file, if there is one.
-fn remove_table(path: &Path) -> Result<(), Failure> {
-    let table = table_of(path);
-    match std::fs::remove_file(&table) {
-        Err(error) if error.kind() != io::ErrorKind::NotFound => {
-            Err(Failure::of_file(&shown(table.as_os_str()), error))
-        }
+pub fn remove_table(path: &Path) -> io::Result<()> {
+    match std::fs::remove_file(table_of(path)) {
+        Err(error) if error.kind() != io::ErrorKind::NotFound => Err(error),
         _ => Ok(()),
     }
 }
 
 /// Writes the table of names beside a file.
 pub fn write_table(path: &Path, names: &str) -> Result<(), Failure> {
-    write_file(&table_of(path), names.as_bytes())
+    write_file(&table_of(path), names)
 }
 
-/// Replaces a file.
-pub fn write_file(path: &Path, bytes: &[u8]) -> Result<(), Failure> {
-    store::replace(path, bytes).map_err(|error| Failure::of_file(&shown(path.as_os_str()), error))
+/// Replaces a file by a text.
+pub fn write_file(path: &Path, text: &str) -> Result<(), Failure> {
+    let written = store::replace(path, |out| out.write_all(text.as_bytes()), || Ok(()));
+    written.map_err(|error| Failure::of_file(&shown_path(path), error))
+}
+
+/// The output is none of the inputs, which it would overwrite.
+pub fn not_over(output: Option<&OsStr>, inputs: &[OsString]) -> Result<(), Failure> {
+    let output = output.filter(|output| *output != "-");
+    let same = |input: &&OsString| {
+        output.is_some_and(|output| store::resolved(output.as_ref()) == store::resolved(input.as_ref()))
+    };
+    match inputs.iter().find(same) {
+        Some(input) => Err(Failure::of_file(&shown(input), "it would be overwritten: give another file")),
+        None => Ok(()),
+    }
 }
 
 /// Writes to standard output.
-pub fn print(bytes: &[u8]) -> Result<(), Failure> {
-    let mut out = io::stdout().lock();
-    out.write_all(bytes).and_then(|()| out.flush()).map_err(Failure::of_output)
+fn to_standard_output(write: impl FnOnce(&mut dyn Write) -> io::Result<()>) -> Result<(), Failure> {
+    let mut out = io::BufWriter::new(io::stdout().lock());
+    write(&mut out).and_then(|()| out.flush()).map_err(Failure::of_output)
+}
+
+/// Prints a text.
+pub fn print(text: &str) -> Result<(), Failure> {
+    to_standard_output(|out| out.write_all(text.as_bytes()))
 }
