@@ -25,8 +25,8 @@
  * to one call at a time.
  *
  * Stack. All work memory is local. Bytes of stack of one call, measured on x86-64 (docs/AREAS.md, which has the
- * local arrays of each function): translate 258,687, symbol_at 78,111 and read_tree 65,647 on a chain of 512 levels,
- * shorter 123,023, enter 121,407, compare 105,295, clean 100,831, earliest_form 68,151, join 55,519, is_linear 8,535;
+ * local arrays of each function): translate 275,159, symbol_at 78,111 and read_tree 65,647 on a chain of 512 levels,
+ * shorter 123,023, enter 121,407, compare 105,295, clean 100,831, earliest_form 66,735, join 55,519, is_linear 8,535;
  * the others under 4,500. Mind this where a thread's stack is made small.
  */
 #ifndef CAPLUNE_H
@@ -72,6 +72,8 @@ enum caplune_refusal {
     CAPLUNE_FULL_REGISTRY = 8,
     /* Not a registry (book), or one that cannot count another answer. */
     CAPLUNE_BAD_REGISTRY = 9,
+    /* The output tree (plan) has more than 256 levels. */
+    CAPLUNE_DEEP_OUTPUT = 10,
     /* The output symbols of the first transducer are not the input symbols of the second. */
     CAPLUNE_OTHER_ALPHABET = 16,
     /* The joined transducer is over the limits of a transducer. */
@@ -143,15 +145,16 @@ uint32_t caplune_is_linear(const uint8_t *stock, size_t stock_length, const uint
  * Translates an input tree (the paper: sews a design).
  * Writes the output tree to the start of `area`, one byte for each symbol, and the number of its symbols to
  * `length`.
- * Refuses by 2, then 4, then 5, then 3, then 6 where the area has fewer bytes than the output tree has symbols; all
- * then is as it was.
+ * Refuses by 2, then 4, then 5, then 3, then 6 where the area has fewer bytes than the output tree has symbols, then
+ * 10 where the output tree has more than 256 levels, its root being level 1; all then is as it was.
  */
 uint32_t caplune_translate(const uint8_t *stock, size_t stock_length, const uint8_t *file, size_t file_length,
                            const uint8_t *tree, size_t tree_length, uint8_t *area, size_t area_length, size_t *length);
 
 /*
- * Finds the symbol at an address (the paper: a place) of the output tree, without building the tree. An address is
- * the numbers of children from the root down, one byte each, from 1 on; no byte at all is the root.
+ * Finds the symbol at an address (the paper: a place) of the output tree, without building the tree, which may have
+ * any size and any number of levels. An address is the numbers of children from the root down, one byte each, from 1
+ * on; no byte at all is the root.
  * Writes 1 to `there` and the symbol to `symbol`; or 0 to `there` where the output tree has no such address, and
  * `symbol` then stays.
  * Refuses by 2, then 4, then 5, then 3; all then is as it was. No address is refused.

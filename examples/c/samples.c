@@ -34,6 +34,9 @@ struct bytes {
 #define CONSTANT BYTES(0, 0, 1, 0, 1)
 /* Over PAIRS: the initial term f(q(x1), q(x1)), q(f(x1, x2)) = f(q(x1), q(x2)), q(e) = e. */
 #define DOUBLE BYTES(1, 0, 3, 0, 3, 0, 1, 0, 0, 1, 0, 1, 0, 0, 0, 1, 0, 2, 0, 0, 1)
+/* a of rank 1 and e to g of rank 1 and c; and a copy, q(a(x1)) = g(q(x1)), q(e) = c. */
+#define UNARY BYTES(2, 1, 0, 2, 1, 0)
+#define COPY BYTES(1, 0, 1, 0, 2, 0, 1, 1, 0, 0, 0, 1, 0, 0, 1)
 /* The small inputs of the rows 2, 3, 4 and 5. */
 #define NO_STOCK BYTES(1, 1, 1, 0)
 #define NO_TREE BYTES(0)
@@ -430,12 +433,22 @@ static void translating(void)
     check("sewing: 4 before 3", refuses(translate(S, NO_CONTENTS, NO_TREE, 0), CAPLUNE_BAD_CONTENTS));
     check("sewing: 5 before 3", refuses(translate(S, NO_BODY, NO_TREE, 0), CAPLUNE_BAD_BODY));
     check("sewing: 3 before 6", refuses(translate(S, T, NO_TREE, 0), CAPLUNE_BAD_TREE));
+    check("a copy of 256 levels", writes(chain(256), translate(UNARY, COPY, chain(256), 256), NUMBERS(256)));
+    check("a copy of 256 levels in a longer area",
+          writes(chain(256), translate(UNARY, COPY, chain(256), LONGEST_AREA), NUMBERS(256)));
+    check("row 10: a copy of 257 levels", refuses(translate(UNARY, COPY, chain(257), 257), CAPLUNE_DEEP_OUTPUT));
+    check("a copy of 257 levels in a longer area: 10",
+          refuses(translate(UNARY, COPY, chain(257), LONGEST_AREA), CAPLUNE_DEEP_OUTPUT));
+    check("a copy of 512 levels: 10", refuses(translate(UNARY, COPY, chain(512), 512), CAPLUNE_DEEP_OUTPUT));
+    check("sewing: 6 before 10", refuses(translate(UNARY, COPY, chain(257), 256), CAPLUNE_LONG_OUTPUT));
+    check("0 0 1 0 1 on 512 levels gives 1", writes(BYTES(1), translate(S, CONSTANT, chain(512), 1), NUMBERS(1)));
 }
 
 static void places(void)
 {
-    static uint8_t second[513];
+    static uint8_t first[511], second[513];
     struct bytes two = BYTES(0, 1);
+    memset(first, 1, sizeof first);
     memset(second, 2, sizeof second);
     check("T on 0 1 at the top: f", gives(symbol_at(S, T, two, NOTHING), NUMBERS(1, 0)));
     check("T on 0 1 at 2.1: e", gives(symbol_at(S, T, two, BYTES(2, 1)), NUMBERS(1, 1)));
@@ -448,6 +461,8 @@ static void places(void)
           gives(symbol_at(S, T, chain(512), (struct bytes){second, 512}), NUMBERS(1, 1)));
     check("T on 512 levels, 513 down: no such place",
           gives(symbol_at(S, T, chain(512), (struct bytes){second, 513}), NUMBERS(0)));
+    check("a copy of 512 levels, 511 down: c",
+          gives(symbol_at(UNARY, COPY, chain(512), (struct bytes){first, 511}), NUMBERS(1, 1)));
     check("a place: 4 before 3", refuses(symbol_at(S, NO_CONTENTS, NO_TREE, NOTHING), CAPLUNE_BAD_CONTENTS));
     check("a place: 3", refuses(symbol_at(S, T, NO_TREE, NOTHING), CAPLUNE_BAD_TREE));
 }

@@ -3,9 +3,11 @@
  * pattern before, on inputs that take the most, and the bytes are counted from where the call begins to the last one that
  * changed.
  *
- *     gcc -std=c11 -O2 -Wall -Iinclude examples/c/stack.c target/staticlib/libexports.a -lpthread -o target/c/stack
+ *     gcc -std=c11 -O2 -Wall -Iinclude examples/c/stack.c target/staticlib/libexports.a -lpthread -Wl,-z,now \
+ *         -o target/c/stack
  *     target/c/stack
  *
+ * `-z now`: else what the dynamic linker takes, which depends on the processor, is counted where memcpy is first called.
  * Not a part of the gate: the figures depend on the machine.
  */
 #define _GNU_SOURCE

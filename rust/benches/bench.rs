@@ -45,9 +45,10 @@ fn main() {
     println!("vector is allocated in the time shown. Time of one call: the fastest of {BATCHES} batches.");
     println!();
     println!("{:52} {:>9} {:>12} {:>12} {:>8}", "", "size", "proved", "independent", "ratio");
-    let cases = cases();
+    let (cases, few_levels) = (cases(), few_levels());
     reading(&cases);
-    translating(&cases);
+    translating(&few_levels);
+    addressing(&cases);
     cleaning();
     println!();
     println!("The independent comparison minimizes both and compares the two files: it shows no difference. The");
@@ -61,7 +62,7 @@ fn main() {
     println!();
     println!("A join reads two transducers and writes the second after the first. The size is that of both files.");
     joining();
-    stylesheets(&cases);
+    stylesheets(&few_levels);
     string_transducers();
 }
 
@@ -164,7 +165,7 @@ fn reading(cases: &[Case]) {
     }
 }
 
-/// Translation, and the symbol at the address of the output's last node.
+/// Translation.
 fn translating(cases: &[Case]) {
     for case in cases {
         let output = output(case);
@@ -177,6 +178,10 @@ fn translating(cases: &[Case]) {
         );
     }
     erasing();
+}
+
+/// The symbol at the address of the output's last node.
+fn addressing(cases: &[Case]) {
     for case in cases {
         let Case { name, stock, file, tree } = case;
         let address = last_address(case);
@@ -975,7 +980,6 @@ fn cases() -> Vec<Case> {
     };
     // T of the paper's samples: every level doubles the output.
     let copies = vec![1, 0, 3, 0, 3, 0, 1, 0, 0, 1, 0, 1, 0, 0, 0, 1, 0, 1, 0, 0, 1];
-    let chain = |levels: usize, step: u8, end: u8| [vec![step; levels - 1], vec![end]].concat();
     let of = |name, tree| Case { name, stock: stock.clone(), file: swap.clone(), tree };
     vec![
         of("64 nodes", even(64)),
@@ -996,6 +1000,34 @@ fn cases() -> Vec<Case> {
             tree: chain(20, 0, 1),
         },
     ]
+}
+
+/// Those whose output trees have few enough levels to be given. For the chain of 512 levels, whose output tree has 767,
+/// there are three whose output trees have 256, the most.
+fn few_levels() -> Vec<Case> {
+    // u, v and e of ranks 1, 1, 0 to f, g and c of ranks 2, 1, 0. Two states that take turns: at u g over the other one,
+    // or the other one alone; at v f over twice the other one.
+    let stock = vec![3, 1, 1, 0, 3, 2, 1, 0];
+    let states = |initial: u8, second: &[u8]| {
+        let copy = |state: u8| [0, 0, 1, state, 1, state];
+        file(2, &[&[1, initial], &[0, 1, 1, 1], &copy(1), &[0, 2], second, &copy(0), &[0, 2]])
+    };
+    let writing = states(0, &[0, 1, 1, 0]);
+    let deep = [
+        ("chain of 256 levels", writing.clone(), chain(256, 0, 2)),
+        ("chain of 512 levels, half erased", states(1, &[1, 0]), chain(512, 0, 2)),
+        ("12 copying levels of 256", writing, [vec![1; 12], chain(244, 0, 2)].concat()),
+    ];
+    let deep = deep.map(|(name, file, tree)| Case { name, stock: stock.clone(), file, tree });
+    let mut cases = cases();
+    let at = cases.iter().position(|case| case.name == "chain of 512 levels").expect("there is one");
+    cases.splice(at..=at, deep);
+    cases
+}
+
+/// So many levels of one node each.
+fn chain(levels: usize, step: u8, end: u8) -> Vec<u8> {
+    [vec![step; levels - 1], vec![end]].concat()
 }
 
 /// A tree of so many nodes, as even as can be.

@@ -237,7 +237,7 @@ pub fn is_linear(stock: &[u8], file: &[u8], linear: &mut usize) -> u32 {
 }
 
 /// Writes the output tree to the start of the area: the number of its symbols. Refuses by 2, 4,
-/// 5, 3 and 6.
+/// 5, 3, 6 and 10.
 pub fn translate(stock: &[u8], file: &[u8], tree: &[u8], area: &mut [u8], length: &mut usize) -> u32 {
     // SAFETY: the arguments are borrows, as said above.
     unsafe {

@@ -31,6 +31,8 @@ pub enum Refusal {
     FullRegistry = 8,
     /// Not a registry (book).
     BadRegistry = 9,
+    /// The output tree (plan) has more than 256 levels.
+    DeepOutput = 10,
     /// The output symbols of the first transducer are not the input symbols of the second.
     OtherAlphabet = 16,
     /// The joined transducer is over the limits of a transducer.
@@ -49,6 +51,7 @@ impl Refusal {
         Refusal::OverLimits,
         Refusal::FullRegistry,
         Refusal::BadRegistry,
+        Refusal::DeepOutput,
         Refusal::OtherAlphabet,
         Refusal::JoinOverLimits,
     ];
@@ -79,6 +82,7 @@ impl Refusal {
             Refusal::OverLimits => "the earliest form (the trimmed sheet) is over the limits of a sheet",
             Refusal::FullRegistry => "the registry (the book) is full",
             Refusal::BadRegistry => "not a registry (a book)",
+            Refusal::DeepOutput => "the output tree (the plan) has more than 256 levels",
             Refusal::OtherAlphabet => {
                 "the output symbols (block kinds) of the first are not the input symbols (part kinds) of the second"
             }
@@ -116,6 +120,10 @@ impl Refusal {
             }
             Refusal::BadRegistry => {
                 "lend head, records and area as the last call left them; make the book anew if they are lost"
+            }
+            Refusal::DeepOutput => {
+                "take a design of fewer levels, or a sheet that nests less: 256 are the most, the top block being \
+                 level 1; the symbol at one address can be had at any level (`caplune place`)"
             }
             Refusal::OtherAlphabet => "join under a second stock whose part kinds are the first's block kinds",
             Refusal::JoinOverLimits => {

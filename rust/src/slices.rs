@@ -223,8 +223,9 @@ pub fn is_linear(stock: &[u8], file: &[u8]) -> Result<bool, Refusal> {
 /// sewing).
 ///
 /// Returns how many symbols it has; what follows them in the area stays. Refuses by 2, 4 and 5 as
-/// [`read_transducer`] does, by 3 as [`read_tree`] does, and by 6 an output tree with more symbols
-/// than the area has bytes; the area then is as it was.
+/// [`read_transducer`] does, by 3 as [`read_tree`] does, by 6 an output tree with more symbols than
+/// the area has bytes, and by 10 one of more than 256 levels, its root being level 1; the area then
+/// is as it was.
 pub fn translate(stock: &[u8], file: &[u8], tree: &[u8], area: &mut [u8]) -> Result<usize, Refusal> {
     let mut length = 0;
     let number = ffi::translate(stock, file, tree, area, &mut length);

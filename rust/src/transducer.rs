@@ -81,6 +81,8 @@ impl Transducer {
     pub const MOST_MARKS: usize = 8_192;
     /// The most symbols of an output tree that [`translate`](Self::translate) gives.
     pub const MOST_OUTPUT: usize = 1 << 30;
+    /// The most levels of an output tree that [`translate`](Self::translate) gives; the root is level 1.
+    pub const MOST_OUTPUT_LEVELS: usize = 256;
     /// The length of the longest file: one byte, two for each count and two for each mark.
     pub const LONGEST_FILE: usize = 1 + 2 * (1 + Self::MOST_STATES * Alphabets::MOST_INPUTS) + 2 * Self::MOST_MARKS;
 
@@ -173,8 +175,9 @@ impl Transducer {
         slices::is_linear(self.alphabets.as_bytes(), &self.file) == Ok(true)
     }
 
-    /// The output tree on an input tree (the paper: sewing), if it has at most `most` symbols. Refuses by 3, and by 6
-    /// an output tree of more symbols, of over [`MOST_OUTPUT`](Self::MOST_OUTPUT), or of more than there is memory for.
+    /// The output tree on an input tree (the paper: sewing), if it has at most `most` symbols. Refuses by 3, by 6 an
+    /// output tree of more symbols, of over [`MOST_OUTPUT`](Self::MOST_OUTPUT), or of more than there is memory for,
+    /// and by 10 one of over [`MOST_OUTPUT_LEVELS`](Self::MOST_OUTPUT_LEVELS).
     pub fn translate(&self, tree: &InputTree, most: usize) -> Result<OutputTree, Refusal> {
         let most = most.min(Self::MOST_OUTPUT);
         let mut length = most.min(1 << 12);
@@ -195,7 +198,7 @@ impl Transducer {
     }
 
     /// The symbol at an address of the output tree on an input tree, or `None` where the output tree has no such
-    /// address. The output tree is not built, and may be of any size. Refuses by 3.
+    /// address. The output tree is not built, and may have any size and any number of levels. Refuses by 3.
     pub fn symbol_at(&self, tree: &InputTree, address: &Address) -> Result<Option<u8>, Refusal> {
         slices::symbol_at(self.alphabets.as_bytes(), &self.file, tree.as_bytes(), address.as_bytes())
     }

@@ -54,7 +54,8 @@ impl InputTree {
     }
 }
 
-/// An output tree (the paper: a plan), as [`Transducer::translate`](crate::Transducer::translate) gives it.
+/// An output tree (the paper: a plan), as [`Transducer::translate`](crate::Transducer::translate) gives it, of at most
+/// 256 levels.
 #[doc(alias = "plan")]
 #[must_use]
 #[derive(Clone, Debug, PartialEq, Eq, Hash)]

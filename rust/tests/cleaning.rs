@@ -318,7 +318,7 @@ fn output(stock: &[u8], file: &[u8], tree: &[u8]) -> (Result<usize, u32>, Vec<u8
 #[test]
 fn outputs_stay() {
     let mut tally = Tally::default();
-    let (mut built, mut too_long) = (0, 0);
+    let (mut built, mut too_long, mut too_deep) = (0, 0, 0);
     for seed in 0..3_000 {
         let mut random = Random::new(seed + 12_000_000);
         let (alphabets, sheet) = any(&mut random);
@@ -330,9 +330,17 @@ fn outputs_stay() {
             let expected = output(&stock, &file, &tree);
             assert_eq!(output(&stock, &form, &tree), expected, "{stock:?} {file:?} {tree:?}");
             assert_eq!(output(&stock, &area[..length], &tree), expected, "{stock:?} {file:?} {tree:?}");
-            *if expected.0.is_ok() { &mut built } else { &mut too_long } += 1;
+            *match expected.0 {
+                Ok(_) => &mut built,
+                Err(10) => &mut too_deep,
+                Err(_) => &mut too_long,
+            } += 1;
+            if expected.0 == Err(10) {
+                let whole = |file: &[u8]| independent::output_tree(&stock, file, &tree, 2_000);
+                assert!(whole(&file) == whole(&form) && whole(&file) == whole(&area[..length]), "{stock:?} {file:?}");
+            }
         }
     }
-    println!("{built} outputs built, {too_long} too long");
+    println!("{built} outputs built, {too_long} too long, {too_deep} too deep");
     assert!(built > 30_000);
 }

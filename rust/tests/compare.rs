@@ -10,7 +10,7 @@ mod lent;
 
 use caplune::{ffi, slices};
 use caplune_independent as independent;
-use generate::{Alphabets, Random, Transducer};
+use generate::{deep, Alphabets, Random, Transducer};
 use lent::{number, Lent, Tally, BEFORE};
 
 fn alphabets(tally: &mut Tally, stock: &[u8]) {
@@ -98,7 +98,7 @@ fn translation(tally: &mut Tally, stock: &[u8], file: &[u8], tree: &[u8], area: 
         assert!(lent.holds(&output), "{stock:?} {file:?} {tree:?} {area}");
     }
     tally.count("translate", &expected, "accepted");
-    match independent::translate(stock, file, tree, area + 1).map(|output| output.len()) {
+    match independent::output_tree(stock, file, tree, area + 1).map(|output| output.len()) {
         Ok(length) if length == area => tally.count("exact area", &expected, "accepted"),
         Ok(length) if length == area + 1 => tally.count("one byte short", &expected, "accepted"),
         _ => {}
@@ -144,12 +144,19 @@ struct Case {
 
 impl Case {
     fn random(random: &mut Random) -> Self {
-        let alphabets = Alphabets::random(random);
-        let transducer = Transducer::random(random, &alphabets);
+        let (alphabets, transducer, tree) = match random.once_in(5) {
+            true => deep::any(random),
+            false => {
+                let alphabets = Alphabets::random(random);
+                let transducer = Transducer::random(random, &alphabets);
+                let tree = generate::input_tree(random, &alphabets);
+                (alphabets, transducer, tree)
+            }
+        };
         let mut case = Case {
             stock: alphabets.file(),
             file: transducer.file(),
-            tree: generate::input_tree(random, &alphabets),
+            tree,
             states: transducer.states,
             counts: transducer.counts(),
             marks: transducer.marks(),
@@ -234,7 +241,7 @@ impl Case {
 
     fn compare_outputs(&self, random: &mut Random, tally: &mut Tally, stock: &[u8], file: &[u8], tree: &[u8]) {
         let limit = random.pick(&[50, 500, 5000, 50_000]);
-        let output = independent::translate(stock, file, tree, limit);
+        let output = independent::output_tree(stock, file, tree, limit);
         let areas = match &output {
             Ok(output) => {
                 vec![output.len(), output.len() - 1, output.len() + random.below(40), random.below(output.len())]
@@ -256,7 +263,7 @@ impl Case {
 }
 
 /// The outcomes that the paper has for each function.
-const OUTCOMES: [(&str, &str); 34] = [
+const OUTCOMES: [(&str, &str); 36] = [
     ("read_alphabets", "accepted"),
     ("read_alphabets", "refused 2"),
     ("read_tree", "accepted"),
@@ -282,6 +289,7 @@ const OUTCOMES: [(&str, &str); 34] = [
     ("translate", "refused 4"),
     ("translate", "refused 5"),
     ("translate", "refused 6"),
+    ("translate", "refused 10"),
     ("symbol_at", "symbol"),
     ("symbol_at", "nowhere"),
     ("symbol_at", "refused 2"),
@@ -290,6 +298,7 @@ const OUTCOMES: [(&str, &str); 34] = [
     ("symbol_at", "refused 5"),
     // areas as long as the output, and one byte shorter; outputs of a thousand symbols or more
     ("exact area", "accepted"),
+    ("exact area", "refused 10"),
     ("one byte short", "refused 6"),
     ("long output", "accepted"),
 ];
@@ -302,6 +311,7 @@ fn generated_cases() {
         Case::random(&mut random).compare(&mut random, &mut tally);
     }
     tally.settle(&OUTCOMES, 300);
+    assert!(tally.0[&("translate", "refused 10".to_string())] > 2_000);
 }
 
 /// Every short string of bytes as a file, so that all small files are tried.

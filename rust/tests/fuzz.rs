@@ -58,7 +58,7 @@ const FUNCTIONS: [Function; 15] = [
     function("read_transducer", read_transducer, &["accepted"], &[2, 4, 5]),
     function("write_transducer", write_transducer, &["accepted"], &[1, 2, 4, 5]),
     function("is_linear", is_linear, &["yes", "no"], &[2, 4, 5]),
-    function("translate", translate, &["accepted"], &[2, 4, 5, 3, 6]),
+    function("translate", translate, &["accepted"], &[2, 4, 5, 3, 6, 10]),
     function("symbol_at", symbol_at, &["symbol", "nowhere"], &[2, 4, 5, 3]),
     function("earliest_form", earliest_form, &["accepted"], &[1, 2, 4, 5, 7]),
     function("clean", clean, &["accepted"], &[1, 2, 4, 5, 7]),

@@ -336,7 +336,7 @@ fn prefixes_of_outputs() {
         for (state, prefix) in prefixes(&stock, &file).unwrap().into_iter().enumerate() {
             sheet.terms[0] = vec![1, state as u8];
             let file = sheet.file();
-            let outputs: Result<Vec<_>, _> = trees.iter().map(|tree| translate(&stock, &file, tree, 3_000)).collect();
+            let outputs: Result<Vec<_>, _> = trees.iter().map(|tree| output_tree(&stock, &file, tree, 3_000)).collect();
             let Ok(outputs) = outputs else { continue };
             let outputs = outputs.iter().map(|output| oracle::Term::tree(&alphabets.outputs, &mut output.iter()));
             let shared = outputs.reduce(|one, other| one.join(&other)).expect("there are trees");
@@ -382,8 +382,8 @@ fn outputs_stay() {
             let nodes = random.range(1, 40);
             let growth = random.pick(&[Growth::Even(10), Growth::Even(15), Growth::Left, Growth::Right]);
             let tree = generate::tree(&mut random, &alphabets.inputs, nodes, 30, growth);
-            let output = translate(&stock, &file, &tree, 3_000);
-            assert_eq!(translate(&stock, &clean_file, &tree, 3_000), output, "{stock:?} {file:?} {tree:?}");
+            let output = output_tree(&stock, &file, &tree, 3_000);
+            assert_eq!(output_tree(&stock, &clean_file, &tree, 3_000), output, "{stock:?} {file:?} {tree:?}");
             tally.count(if output.is_ok() { "outputs built" } else { "outputs too long" });
         }
     }
@@ -423,7 +423,7 @@ fn verdicts() {
         match found {
             Some(tree) => {
                 assert_eq!(verdict, Ok(Differ), "{stock:?} {first:?} {second:?} {tree:?}");
-                let outputs = [&first, &second].map(|file| translate(&stock, file, &tree, 100_000));
+                let outputs = [&first, &second].map(|file| output_tree(&stock, file, &tree, 100_000));
                 assert!(outputs[0] != outputs[1] || outputs[0].is_err(), "{stock:?} {first:?} {second:?} {tree:?}");
                 if tree.len() > largest.0 {
                     largest = (tree.len(), enough);
@@ -570,7 +570,7 @@ fn one_mark_at_the_end_of_a_chain() {
             // the tree on which they differ, and that they agree on the trees with fewer levels
             let tree = |levels: usize| [vec![0; levels - 1], vec![1]].concat();
             let outputs =
-                |levels: usize| sheets.clone().map(|file| translate(&stock, &file, &tree(levels), 10_000).unwrap());
+                |levels: usize| sheets.clone().map(|file| output_tree(&stock, &file, &tree(levels), 10_000).unwrap());
             assert!(outputs(states)[0] != outputs(states)[1]);
             assert!((1..states).all(|levels| outputs(levels)[0] == outputs(levels)[1]));
             if symbols == 0 {
@@ -724,14 +724,14 @@ fn joined_outputs() {
         let Pair { stocks, files } = &pair;
         let stock = joined_stock(&stocks[0], &stocks[1]);
         for tree in small_trees(&two[0].0.inputs, 60) {
-            let Ok(between) = translate(&stocks[0], &files[0], &tree, MAX_NODES) else {
+            let Ok(between) = output_tree(&stocks[0], &files[0], &tree, MAX_NODES) else {
                 tally.count("the first output is too long");
                 continue;
             };
-            match translate(&stocks[1], &files[1], &between, 3_000) {
+            match output_tree(&stocks[1], &files[1], &between, 3_000) {
                 Err(NOT_A_TREE) => tally.count("the first output has too many levels"),
                 output => {
-                    assert_eq!(translate(&stock, &form, &tree, 3_000), output, "{pair:?} {tree:?}");
+                    assert_eq!(output_tree(&stock, &form, &tree, 3_000), output, "{pair:?} {tree:?}");
                     tally.count(if output.is_ok() { "outputs built" } else { "outputs too long" });
                 }
             }

@@ -14,7 +14,7 @@ use caplune::slices::{self, Comparison, Form, ADDRESS_AREA, TREE_AREA};
 use caplune_independent as independent;
 use generate::joins::{self, joined_stock, Pair};
 use generate::samples::*;
-use generate::{small_trees, Alphabets, Random, Transducer};
+use generate::{deep, small_trees, Alphabets, Random, Transducer};
 use independent::{MAX_FILE, MAX_NODES};
 use lent::{number, Lent, Tally, BEFORE};
 use std::time::{Duration, Instant};
@@ -255,21 +255,34 @@ fn output(stock: &[u8], file: &[u8], tree: &[u8], most: usize) -> Result<Vec<u8>
 #[test]
 fn outputs_after_outputs() {
     let mut tally = Tally::default();
-    let (mut built, mut too_long, mut no_tree) = (0, 0, 0);
+    let [mut built, mut too_long, mut too_deep, mut no_tree, mut deep_between] = [0; 5];
     for seed in 0..6_000 {
         let mut random = Random::new(seed + 34_000_000);
-        let two = joins::any(&mut random, 2);
+        // a copy before or behind one whose output has many levels, or any two
+        let (mut two, mut trees) = (joins::any(&mut random, 2), vec![]);
+        if seed % 10 == 0 {
+            let (alphabets, sheet, tree) = deep::any(&mut random);
+            let copied = if seed % 20 == 0 { &alphabets.outputs } else { &alphabets.inputs };
+            let copy = (Alphabets { inputs: copied.clone(), outputs: copied.clone() }, joins::identity(copied));
+            two = if seed % 20 == 0 { vec![(alphabets, sheet), copy] } else { vec![copy, (alphabets, sheet)] };
+            trees.push(tree);
+        }
         let pair = Pair::of(&two[0], &two[1]);
         let Ok(joined) = join(&mut tally, &pair) else { continue };
         let Pair { stocks: [first_stock, second_stock], files: [first, second] } = &pair;
         let stock = joined_stock(first_stock, second_stock);
-        let mut trees = small_trees(&two[0].0.inputs, 40);
+        trees.extend(small_trees(&two[0].0.inputs, 40));
         trees.extend((0..4).map(|_| {
             let nodes = random.range(1, 40);
             generate::tree(&mut random, &two[0].0.inputs, nodes, 30, generate::Growth::Even(12))
         }));
         for tree in trees {
-            let between = output(first_stock, first, &tree, MAX_NODES);
+            let mut between = output(first_stock, first, &tree, MAX_NODES);
+            if between == Err(10) {
+                // an input tree may have more levels than an output tree
+                between = independent::output_tree(first_stock, first, &tree, MAX_NODES);
+                deep_between += 1;
+            }
             let after = between.and_then(|between| match output(second_stock, second, &between, OUTPUT) {
                 Err(3) => Err(3),
                 after => Ok(after),
@@ -280,11 +293,18 @@ fn outputs_after_outputs() {
                 continue;
             };
             assert_eq!(output(&stock, &joined, &tree, OUTPUT), after, "{pair:?} {tree:?}");
-            *if after.is_ok() { &mut built } else { &mut too_long } += 1;
+            *match after {
+                Ok(_) => &mut built,
+                Err(10) => &mut too_deep,
+                Err(_) => &mut too_long,
+            } += 1;
         }
     }
-    println!("{built} outputs built, {too_long} too long, {no_tree} where that of the first is no input tree");
-    assert!(built > 100_000 && too_long > 100 && no_tree > 100);
+    println!(
+        "{built} outputs built, {too_long} too long, {too_deep} too deep, {no_tree} where that of the first is no"
+    );
+    println!("input tree; {deep_between} where that of the first is too deep");
+    assert!(built > 100_000 && too_long > 100 && too_deep > 100 && no_tree > 100 && deep_between > 100);
 }
 
 /// Whether two transducers are equivalent, by the proved comparison; `None` if one of them is over the limits of

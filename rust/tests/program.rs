@@ -212,6 +212,10 @@ fn refusals() {
         ("two", &long.stocks[1]),
         ("first", &long.files[0]),
         ("second", &long.files[1]),
+        ("unary", &[2, 1, 0, 2, 1, 0]),
+        ("copy", &[1, 0, 1, 0, 2, 0, 1, 1, 0, 0, 0, 1, 0, 0, 1]),
+        ("deepest", &[vec![0; 255], vec![1]].concat()),
+        ("deeper", &[vec![0; 256], vec![1]].concat()),
     ] {
         folder.write(name, bytes);
     }
@@ -231,6 +235,11 @@ fn refusals() {
         ("book enter book over", "over", 7),
         ("book enter small t", "t", 8),
         ("book make --area 5 other stock", "other", 8),
+        ("sew unary copy deeper", "deeper", 10),
+        ("sew --most 257 -o plan unary copy deeper", "deeper", 10),
+        ("sew --bytes -o plan unary copy deeper", "deeper", 10),
+        ("sew --most 256 unary copy deeper", "deeper", 6),
+        ("sew --most 255 unary copy deepest", "deepest", 6),
         ("join stock t stock t", "stock and stock", 16),
         ("join one first two second", "first and second", 17),
         // in order: the stocks, 16, the first sheet, the second
@@ -246,6 +255,12 @@ fn refusals() {
         assert_eq!(folder.says(line), said, "{line}");
     }
     assert_eq!(folder.names(), before);
+    // what is not refused: 256 levels, and a place below them
+    let deepest = folder.prints("sew --most 256 unary copy deepest");
+    assert_eq!(deepest, format!("plan {}A2{}\n", "A1(".repeat(255), ")".repeat(255)));
+    assert_eq!(folder.prints(&format!("place unary copy deeper 1{}", ".1".repeat(255))), "A2\n");
+    let said = folder.says("sew unary copy deeper");
+    assert!(said.starts_with("deeper: refused by 10: the output tree (the plan) has more than 256 levels; "), "{said}");
     folder.write("book", b"caplune book 1\n");
     assert_eq!(
         folder.says("book list book"),

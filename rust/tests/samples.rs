@@ -4,6 +4,9 @@ use caplune_independent::*;
 
 const S: &[u8] = &[2, 1, 0, 2, 2, 0];
 const T: &[u8] = &[1, 0, 3, 0, 3, 0, 1, 0, 0, 1, 0, 1, 0, 0, 0, 1, 0, 1, 0, 0, 1];
+/// a and e of ranks 1 and 0, g and c of ranks 1 and 0; and q(a(x1)) = g(q(x1)), q(e) = c.
+const UNARY: &[u8] = &[2, 1, 0, 2, 1, 0];
+const COPY: &[u8] = &[1, 0, 1, 0, 2, 0, 1, 1, 0, 0, 0, 1, 0, 0, 1];
 const T_PRIME: &[u8] = &[1, 0, 1, 0, 3, 0, 3, 1, 0, 0, 0, 1, 0, 1, 0, 0, 0, 0, 1, 0, 1];
 
 /// The output tree, and the same through an area of each length up to one more than is needed:
@@ -159,6 +162,15 @@ fn translations() {
     assert_eq!(translate(S, &[0, 0, 1, 1, 0], &[], 0), Err(5));
     assert_eq!(translate(S, T, &[], 0), Err(3));
     assert_eq!(translate(S, T, &[1], 0), Err(6));
+    // 256 levels, and row 10: 257, behind 6
+    let copy = |levels: usize, area: usize| {
+        let mut area = vec![0xa5; area];
+        let answer = translate_into(UNARY, COPY, &[vec![0; levels - 1], vec![1]].concat(), &mut area);
+        (answer, area)
+    };
+    assert_eq!(copy(256, 256), (Ok(256), [vec![0; 255], vec![1]].concat()));
+    assert_eq!(copy(257, 257), (Err(10), vec![0xa5; 257]));
+    assert_eq!(copy(257, 256), (Err(6), vec![0xa5; 256]));
 }
 
 #[test]
@@ -217,4 +229,21 @@ fn proved_translation() {
     let chain = [vec![0; 511], vec![1]].concat();
     assert_eq!(slices::symbol_at(S, T, &chain, &[2; 512]), Ok(Some(1)));
     assert_eq!(slices::translate(S, T, &chain, &mut area).map_err(number), Err(6));
+}
+
+#[test]
+fn proved_levels() {
+    let copy = |levels: usize, area: usize| {
+        let mut area = vec![0xa5; area];
+        let answer = slices::translate(UNARY, COPY, &[vec![0; levels - 1], vec![1]].concat(), &mut area);
+        (answer.map_err(caplune::Refusal::number), area)
+    };
+    assert_eq!(copy(256, 256), (Ok(256), [vec![0; 255], vec![1]].concat()));
+    assert_eq!(copy(257, 257), (Err(10), vec![0xa5; 257]));
+    assert_eq!(copy(257, 256), (Err(6), vec![0xa5; 256]));
+    // the place reader, comparison and cleaning know no such limit
+    let chain = [vec![0; 511], vec![1]].concat();
+    assert_eq!(slices::symbol_at(UNARY, COPY, &chain, &[1; 511]), Ok(Some(1)));
+    let mut area = vec![0xa5; MAX_FILE];
+    assert_eq!(slices::clean(UNARY, COPY, &mut area).map(|form| form.length), Ok(COPY.len()));
 }

@@ -605,7 +605,7 @@ fn long_texts() {
     assert_eq!(error.to_string(), format!("{expected}, found `{cut}…`"));
 }
 
-/// A plan of 1,048,575 blocks, one of 15,842 levels, and a writer that takes no more.
+/// A plan of 1,048,575 blocks, one of as many levels as there may be, and a writer that takes no more.
 #[test]
 fn large_output_trees() {
     let (alphabets, names) = s();
@@ -614,11 +614,20 @@ fn large_output_trees() {
     let balanced = (0..19).fold("e".to_string(), |tree, _| format!("f({tree}, {tree})"));
     let wide = doubling.translate(&chain(19), 1 << 20).unwrap();
     assert!(plan(&wide, &names) == format!("plan {balanced}\n"));
-    let sheet = format!("sheet opening q(x1) q(e) -> e q(a(x1)) -> {}q(x1){}", "f(e, ".repeat(31), ")".repeat(31));
-    let (deepening, _) = text::read_transducer(sheet.as_bytes(), &alphabets, &names).unwrap();
-    let levels = 31 * 511;
-    let deep = deepening.translate(&chain(512), 1 << 20).unwrap();
-    assert!(plan(&deep, &names) == format!("plan {}e{}\n", "f(e, ".repeat(levels), ")".repeat(levels)));
+    // so many f over the call at each a: the last child is deep, or the first is
+    for (before, behind) in [("f(e, ", ")"), ("f(", ", e)")] {
+        for symbols in [1, 5, 17] {
+            let [opened, closed] = [before, behind].map(|part| part.repeat(symbols));
+            let sheet = format!("sheet opening q(x1) q(e) -> e q(a(x1)) -> {opened}q(x1){closed}");
+            let (deepening, _) = text::read_transducer(sheet.as_bytes(), &alphabets, &names).unwrap();
+            let deep = deepening.translate(&chain(1 + 255 / symbols), 1 << 20).unwrap();
+            let [opened, closed] = [before, behind].map(|part| part.repeat(255));
+            assert!(plan(&deep, &names) == format!("plan {opened}e{closed}\n"));
+            for levels in [2 + 255 / symbols, 512] {
+                assert_eq!(deepening.translate(&chain(levels), 1 << 20), Err(Refusal::DeepOutput));
+            }
+        }
+    }
     let mut room = [0u8; 100_000];
     let error = text::write_output_tree(&wide, &names, &mut &mut room[..]).unwrap_err();
     assert_eq!(error.kind(), std::io::ErrorKind::WriteZero);

@@ -109,13 +109,18 @@ fn on_a_pair(calls: &mut Vec<Call>, pair: &Pair) {
 fn largest() -> Vec<Call> {
     let mut calls = Vec::new();
     let chain_tree = || [vec![0; 511], vec![1]].concat();
-    // T doubles, so that its output is too long, and the identity does not
+    // T doubles, so that its output is too long; that of the identity is too deep, and has 256 levels on half the tree
     on_a_tree(&mut calls, S, T, chain_tree(), vec![2; 512]);
-    let identity = joins::identity(&[1, 0]).file();
-    on_a_tree(&mut calls, &[2, 1, 0, 2, 1, 0], &identity, chain_tree(), vec![1; 511]);
-    // 512 levels, each with a leaf beside it
-    let fork = [[0, 1].repeat(511), vec![1]].concat();
-    on_a_tree(&mut calls, joins::PAIRS, joins::MIRROR, fork, vec![1; 511]);
+    let (unary, identity) = ([2, 1, 0, 2, 1, 0], joins::identity(&[1, 0]).file());
+    on_a_tree(&mut calls, &unary, &identity, chain_tree(), vec![1; 511]);
+    on_a_tree(&mut calls, &unary, &identity, chain_tree()[256..].to_vec(), vec![1; 255]);
+    // two states that take turns, of which one writes: 512 levels give 256
+    let turns = file(2, &[&[1, 1], &[0, 0, 1, 1], &[0, 1], &[1, 0], &[0, 1]]);
+    on_a_tree(&mut calls, &unary, &turns, chain_tree(), vec![1; 255]);
+    // 512 levels and 256, each with a leaf beside it
+    let fork = |levels: usize| [[0, 1].repeat(levels - 1), vec![1]].concat();
+    on_a_tree(&mut calls, joins::PAIRS, joins::MIRROR, fork(512), vec![1; 511]);
+    on_a_tree(&mut calls, joins::PAIRS, joins::MIRROR, fork(256), vec![1; 255]);
     let stock = chain_alphabets().file();
     let long = |last: u8| chain(128, 61, last).file();
     on_two(&mut calls, &stock, &long(1), &long(2));
@@ -193,7 +198,11 @@ fn largest_inputs() {
     // the limits are met: 512 levels, and 128 states that are told apart
     let answers: Vec<Answer> = calls.iter().map(|call| call()).collect();
     assert!(answers.iter().any(|answer| matches!(answer, Answer::Tree(Ok(tree)) if tree.levels() == 512)));
-    assert!(answers.iter().any(|answer| matches!(answer, Answer::Output(Ok(output)) if output.nodes() == 512)));
+    let nodes =
+        |wanted| move |answer: &Answer| matches!(answer, Answer::Output(Ok(output)) if output.nodes() == wanted);
+    assert_eq!(answers.iter().filter(|answer| nodes(256)(answer)).count(), 2);
+    assert_eq!(answers.iter().filter(|answer| nodes(511)(answer)).count(), 1);
+    assert!(answers.iter().any(|answer| matches!(answer, Answer::Output(Err(Refusal::DeepOutput)))));
     assert!(answers.iter().any(|answer| matches!(answer, Answer::Output(Err(Refusal::LongOutput)))));
     assert!(answers.iter().any(|answer| matches!(answer, Answer::Form(Ok(form)) if form.states() == 128)));
     assert!(answers.iter().any(|answer| matches!(answer, Answer::Comparison(Ok(Comparison::Differ(_))))));

@@ -70,6 +70,34 @@ fn output_trees() {
     assert_eq!(transducer.translate(&deep, 0), Err(Refusal::LongOutput));
 }
 
+/// An output tree has at most 256 levels. One that is too long and too deep is refused by 6, also where the area was
+/// made longer once or more.
+#[test]
+fn levels_of_output_trees() {
+    let alphabets = Alphabets::new(&[1, 1, 0], &[2, 1, 0]).unwrap();
+    // q(a(x1)) = f(q(x1), q(x1)), q(b(x1)) = g(q(x1)), q(e) = c
+    let file = file(1, &[&[1, 0], &[0, 0, 1, 0, 1, 0], &[0, 1, 1, 0], &[0, 2]]);
+    let transducer = Transducer::read(&alphabets, &file).unwrap();
+    for doubled in [0, 1, 4, 5, 9] {
+        for levels in [255, 256, 257, 400] {
+            let rest = levels - 1 - doubled;
+            let tree = [vec![0; doubled], vec![1; rest], vec![2]].concat();
+            let tree = InputTree::read(&alphabets, &tree).unwrap();
+            let nodes = ((rest + 2) << doubled) - 1;
+            let expected = if levels <= Transducer::MOST_OUTPUT_LEVELS { Ok(nodes) } else { Err(Refusal::DeepOutput) };
+            for most in [nodes, nodes + 1, usize::MAX] {
+                assert_eq!(transducer.translate(&tree, most).map(|output| output.nodes()), expected);
+            }
+            for most in [0, 256, nodes - 1] {
+                assert_eq!(transducer.translate(&tree, most.min(nodes - 1)), Err(Refusal::LongOutput));
+            }
+            // the last leaf, whatever the levels are
+            let address = Address::from([vec![2; doubled], vec![1; rest]].concat());
+            assert_eq!(transducer.symbol_at(&tree, &address), Ok(Some(2)));
+        }
+    }
+}
+
 /// Trees and transducers that were made under other alphabets are read again under those of the transducer.
 #[test]
 fn other_alphabets() {
@@ -123,7 +151,7 @@ fn addresses() {
 #[test]
 fn errors() {
     let numbers: Vec<u32> = Refusal::ALL.iter().map(|refusal| refusal.number()).collect();
-    assert_eq!(numbers, [1, 2, 3, 4, 5, 6, 7, 8, 9, 16, 17]);
+    assert_eq!(numbers, [1, 2, 3, 4, 5, 6, 7, 8, 9, 10, 16, 17]);
     for refusal in Refusal::ALL {
         assert_eq!(refusal.to_string(), format!("refused by {}: {}", refusal.number(), refusal.meaning()));
         assert!(!refusal.meaning().is_empty() && !refusal.remedy().is_empty());

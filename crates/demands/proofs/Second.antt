@@ -20,7 +20,7 @@ use Rattle.formats.proofs.Laws.{read-write, write-read}
 use Rattle.formats.proofs.Sheets.{counted-right, encodes-long, parts-at, sheet-unique}
 use Rattle.trees.proofs.Trees.{input-unique}
 use Rattle.transducer.specs.Answers.{translated}
-use Rattle.transducer.proofs.Laws.{file-output-unique, must-translate, must-refuse-long}
+use Rattle.transducer.proofs.Laws.{file-output-unique, must-translate, must-refuse-long, must-refuse-deep}
 use Rattle.queries.proofs.Laws.{must-find}
 use Rattle.demands.specs.Second.{ReadsParts, Demand2}
 
@@ -117,8 +117,9 @@ unfolding Holds
 demand-2 = record {
   plan = λ stock sheet design h. let (A, (C, ((n, (M, S)), ((d, I), u)))) = h in (translate M d, record { states = n; machine = M; input = d; is-sheet = S; is-tree = I; given = refl });
   one-plan = λ stock sheet design t t′. file-output-unique;
-  sews = λ stock sheet design before after t r A O J h. let w = must-translate A O before after r h J in (ap translated (w .0), w .1);
+  sews = λ stock sheet design before after t r A O J h l. let w = must-translate A O before after r h l J in (ap translated (w .0), w .1);
   too-long = λ stock sheet design before after t r A O J h. let w = must-refuse-long A O before after r h J in (ap translated (w .0), w .1);
+  too-deep = λ stock sheet design before after t r A O J h d. let w = must-refuse-deep A O before after r h d J in (ap translated (w .0), w .1);
   one-design = λ ins s d d′. input-unique;
   one-sheet = λ ins outs s n n′ M M′ S S′. let u = sheet-unique ins outs s n n′ M M′ S S′ in record { states = u .0; initial = u .3; rhs = u .4 };
   place = λ stock sheet design address t r A O F. must-find A O address r F;

@@ -15,7 +15,7 @@ use Rattle.formats.specs.declared.file.FileRead.{FileRead}
 use Rattle.formats.specs.declared.file.FileWritten.{FileWritten}
 use Rattle.trees.specs.declared.tree.TreeRead.{TreeRead}
 use Rattle.queries.specs.Answers.{linearTest, TestsLinear, found, FindsSymbol}
-use Rattle.transducer.specs.Answers.{translated, roomCheck, Translates}
+use Rattle.transducer.specs.Answers.{translated, roomCheck, levelsCheck, Translates}
 use Rattle.queries.specs.declared.address.Found.{Found}
 use Rattle.queries.specs.declared.linear.LinearTest.{LinearTest}
 use Rattle.transducer.specs.declared.translate.Translation.{Translation}
@@ -55,7 +55,7 @@ pub record Demand1 : Type 0 where
   pub written : (stock counts bytes before after : List ℕ) (n : ℕ) (r : FileWritten) → WritesFile stock n counts bytes before after r → Answered (check 1 (longest ≤ length before) (alphabetCheck stock (partsCheck stock n counts bytes done))) (after ≡ before) (fileWritten r)
   -- the single test, sewing and the place reader
   pub linear : (stock s : List ℕ) (r : LinearTest) → TestsLinear stock s r → Answered (alphabetCheck stock (sheetCheck stock s done)) Nothing (linearTest r)
-  pub translation : (stock sheet design before after : List ℕ) (r : Translation) → Translates stock sheet design before after r → Answered (alphabetCheck stock (sheetCheck stock sheet (treeCheck stock design (roomCheck stock sheet design before done)))) (after ≡ before) (translated r)
+  pub translation : (stock sheet design before after : List ℕ) (r : Translation) → Translates stock sheet design before after r → Answered (alphabetCheck stock (sheetCheck stock sheet (treeCheck stock design (roomCheck stock sheet design before (levelsCheck stock sheet design done))))) (after ≡ before) (translated r)
   pub symbol : (stock sheet design address : List ℕ) (r : Found) → FindsSymbol stock sheet design address r → Answered (alphabetCheck stock (sheetCheck stock sheet (treeCheck stock design done))) Nothing (found r)
   -- trimming and cleaning
   pub earliest : (stock s before after : List ℕ) (r : Formed) → MakesEarliest stock s before after r → Answered (check 1 (longest ≤ length before) (alphabetCheck stock (sheetCheck stock s (formCheck stock s done)))) (after ≡ before) (formOf r)

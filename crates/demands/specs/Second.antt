@@ -5,7 +5,7 @@ use mathlib.Core.Logic.{_↔_}
 use mathlib.Core.Path.{_≡_}
 use lib.ListN.{length, take}
 use lib.Seq.{sets}
-use Rattle.theory.specs.Size.{size}
+use Rattle.theory.specs.Size.{size, levels}
 use Rattle.theory.specs.Term.{Tree, symbolAt}
 use Rattle.theory.specs.Transducer.{Transducer}
 use Rattle.trees.specs.Alphabets.{Alphabets, inputs, alphabetCheck}
@@ -38,10 +38,12 @@ pub record Demand2 : Type 0 where
   -- every accepted sheet has one plan for every accepted design,
   pub plan : (stock sheet design : List ℕ) → Holds (alphabetCheck stock (sheetCheck stock sheet (treeCheck stock design done))) → (t : Tree) × Output stock sheet design t
   pub one-plan : (stock sheet design : List ℕ) (t t′ : Tree) → Output stock sheet design t → Output stock sheet design t′ → t ≡ t′
-  -- which sewing lays where it fits the area,
-  pub sews : (stock sheet design before after : List ℕ) (t : Tree) (r : Translation) → Alphabets stock → Output stock sheet design t → Translates stock sheet design before after r → size t ≤ length before → (translated r ≡ accepted (size t)) × (after ≡ sets before 0 (code t))
-  -- and refuses by 6 where it does not.
+  -- which sewing lays where it fits the area and has at most 256 levels (02, F-1),
+  pub sews : (stock sheet design before after : List ℕ) (t : Tree) (r : Translation) → Alphabets stock → Output stock sheet design t → Translates stock sheet design before after r → size t ≤ length before → levels t ≤ 256 → (translated r ≡ accepted (size t)) × (after ≡ sets before 0 (code t))
+  -- refuses by 6 where it does not fit,
   pub too-long : (stock sheet design before after : List ℕ) (t : Tree) (r : Translation) → Alphabets stock → Output stock sheet design t → Translates stock sheet design before after r → length before < size t → (translated r ≡ refused 6) × (after ≡ before)
+  -- and by 10 where it fits and has more levels.
+  pub too-deep : (stock sheet design before after : List ℕ) (t : Tree) (r : Translation) → Alphabets stock → Output stock sheet design t → Translates stock sheet design before after r → size t ≤ length before → 256 < levels t → (translated r ≡ refused 10) × (after ≡ before)
   -- A file means one design, and one sheet.
   pub one-design : (ins s : List ℕ) (d d′ : Tree) → InputTree ins s d → InputTree ins s d′ → d ≡ d′
   pub one-sheet : (ins outs s : List ℕ) (n n′ : ℕ) (M M′ : Transducer ℕ) → Sheet ins outs s n M → Sheet ins outs s n′ M′ → SameTransducer (length ins) n n′ M M′

@@ -4,12 +4,13 @@ ghost use Prim.Native.Nat.{_+_, _*_, _≤_, _<_};
 ghost use lib.ListN.{length, getD};
 ghost use Rattle.trees.specs.Inner.Decode.{forest, Whole};
 ghost use Rattle.formats.specs.Inner.Layout.{offset, markOf, Summed, Starts, KeptBehind, InBounds, Wholes};
-ghost use Rattle.trees.specs.Inner.Ended.{ended};
+ghost use Rattle.trees.specs.Inner.Measured.{measured};
 ghost use Rattle.formats.specs.Inner.Marked.{part};
 ghost use Rattle.trees.specs.Refusal.{Decides};
+use trees::bytes::larger;
 use trees::bytes::number;
 use trees::bytes::wide;
-use trees::tree::End;
+use trees::tree::Extent;
 
 // Whether the counts of `bodies` bodies are right, and the marks as many as they say.
 pub(crate) fn counts_right(counts: &[u8], bodies: usize, marks: &[u8]) -> bool
@@ -51,42 +52,56 @@ pub fn fill_starts(counts: &[u8], bodies: usize, starts: &mut [u16])
     }
 }
 
-// Reads the tree of marks that begins with mark number `at`, in a body that ends at `to`: `n` states, and calls on `r` children.
-pub fn mark_end(outs: &[u8], n: usize, r: usize, marks: &[u8], at: usize, to: usize) -> End
+// Measures the tree of marks that begins with mark number `at`, in a body that ends at `to`, of at most `room` levels:
+// where it ends and how many levels it has. There are `n` states, and calls on `r` children; a call has no level.
+pub fn measure_marks(
+    outs: &[u8],
+    n: usize,
+    r: usize,
+    marks: &[u8],
+    at: usize,
+    to: usize,
+    room: usize,
+) -> Extent
     requires { ⌜ 2 * to ≤ length (now marks) ⌝ }
-    ensures { λ e. ⌜ e ≡ ended at (forest (markOf (now (outs .entry)) n r) (part (now (marks .entry)) at to)) ⌝ }
+    ensures { λ e. ⌜ e ≡ measured room at (forest (markOf (now (outs .entry)) n r) (part (now (marks .entry)) at to)) ⌝ }
 {
     if at >= to {
-        return End::Bad;
+        return Extent::Bad;
     }
     let i = wide(marks[2 * at]);
     let x = wide(marks[2 * at + 1]);
     if i > 0 {
         if i > r {
-            return End::Bad;
+            return Extent::Bad;
         }
         if x >= n {
-            return End::Bad;
+            return Extent::Bad;
         }
-        return End::At(at + 1);
+        return Extent::Tree(at + 1, 0);
+    }
+    if room == 0 {
+        return Extent::Bad;
     }
     if x >= outs.len() {
-        return End::Bad;
+        return Extent::Bad;
     }
     let mut left = wide(outs[x]);
     let mut p = at + 1;
+    let mut deep = 0;
     while left > 0 {
-        match mark_end(outs, n, r, marks, p, to) {
-            End::At(e) => {
+        match measure_marks(outs, n, r, marks, p, to, room - 1) {
+            Extent::Tree(e, l) => {
                 p = e;
+                deep = larger(deep, l);
                 left -= 1;
             }
-            End::Bad => {
-                return End::Bad;
+            Extent::Bad => {
+                return Extent::Bad;
             }
         }
     }
-    End::At(p)
+    Extent::Tree(p, deep + 1)
 }
 
 // Whether the marks number `from` up to `to` are one tree: from the last mark back, each symbol takes its children from the trees behind it.

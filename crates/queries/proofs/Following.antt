@@ -9,35 +9,34 @@ use mathlib.Core.Path.{_≡_, refl, sym, ap, ap₂, _∙_}
 use mathlib.Core.List.{List, [], _∷_}
 use lib.Dec.{leb}
 use lib.ListN.{length, getD, drop, take, drop-of-length-le}
-use lib.Seq.{drop-cons, length-take-le}
+use lib.Seq.{drop-cons}
 use borrow.Author.Tests.{leb-true}
 use Rattle.theory.specs.Inner.Nodes.{childAt}
 use Rattle.theory.specs.Term.{Symbol, Tree, Term, var, node, Terms, none, more, count, bind, binds, sub, subs, root, symbolAt}
 use Rattle.theory.specs.Transducer.{Transducer, output, translate, run, pick}
 use Rattle.theory.specs.Vars.{AllVars}
 use Rattle.theory.proofs.Runs.{output-node, call-at, call as called-tree}
-use Rattle.theory.proofs.Terms.{conflict, count-binds}
+use Rattle.theory.proofs.Terms.{count-binds}
 use Rattle.theory.proofs.Vars.{bind-ext, all-map}
 use Rattle.trees.specs.Alphabets.{inputs, outputs}
 use Rattle.trees.specs.Code.{Ranked, Mark, Call}
-use Rattle.theory.specs.Inner.Forests.{letters}
 use Rattle.trees.specs.Inner.Decode.{Letter, call, symbol, unknown, firsts, rests, nodeIf, put, forest, first, Whole}
 use Rattle.formats.specs.Inner.Layout.{markOf, pairs, offset, body, bodyNumber, bodyCount, transducer, Wholes, Starts}
 use Rattle.trees.specs.Inner.Symbols.{trees, tree}
-use Rattle.trees.specs.Inner.Ended.{ended}
 use Rattle.formats.specs.Inner.Marked.{part}
-use Rattle.trees.specs.Inner.Measured.{MeasuredAll}
+use Rattle.trees.specs.Inner.Measured.{measured, MeasuredAll}
 use Rattle.trees.specs.Refusal.{accepted, Holds}
-use Rattle.trees.specs.declared.tree.End.the-variants as ending
 use Rattle.trees.specs.declared.refusal.Refusal.the-variants.{BadTree}
 use Rattle.trees.specs.declared.tree.Extent.{Extent}
 use Rattle.trees.specs.declared.tree.Extent.the-variants as extent
 use Rattle.trees.proofs.Forest.{first-tree, letters-pos, count-rests, count-firsts}
 use Rattle.trees.proofs.Codes.{single}
+use Rattle.trees.proofs.Extents.{seen, others-behind}
 use Rattle.formats.proofs.Counts.{in-bounds, from-offsets}
 use Rattle.trees.proofs.Judging.{refuse, pass, accept, better-answer}
 use Rattle.formats.proofs.Letters.{call-made, symbol-made}
-use Rattle.formats.proofs.Pairs.{pairs-length, number-less, part-cons}
+use Rattle.formats.proofs.Marks.{marks-length}
+use Rattle.formats.proofs.Pairs.{number-less, part-cons}
 use Rattle.formats.proofs.Sheets.{whole-ranked, encodes-wholes}
 use Rattle.trees.proofs.Trees.{whole-input, measured-none}
 use Rattle.transducer.specs.Inner.Machine.{Machine}
@@ -148,7 +147,7 @@ module _ (outs : List ℕ) (n r : ℕ) (bytes : List ℕ) (j to : ℕ) (inside :
   pub in-part : j < to
   unfolding count
   in-part =
-      let L : length (take to (pairs bytes)) ≡ to = length-take-le to (pairs bytes) (pairs-length bytes to inside) in
+      let L : length (take to (pairs bytes)) ≡ to = marks-length bytes to inside in
       go (termsAt outs n r bytes j to) refl L
     where
       go : (F : Terms (ℕ × ℕ)) → termsAt outs n r bytes j to ≡ F → length (take to (pairs bytes)) ≡ to → j < to
@@ -325,30 +324,15 @@ module _ {ins outs : List ℕ} {n : ℕ} {starts bytes s ends : List ℕ} (S : F
         }
 
 -- ---- from one term of marks to the next
-module _ (f : Mark → Letter (ℕ × ℕ)) (L : List Mark) (p left : ℕ) (more-left : 0 < left) (fits : left < count (forest f (drop p L))) where
-  -- behind the first of the terms there is one less to pass
-  pub next-mark : (e : ℕ) → ended p (forest f (drop p L)) ≡ ending.At e → (left - 1 < count (forest f (drop e L))) × (rests (left - 1) (forest f (drop e L)) ≡ rests left (forest f (drop p L)))
-  unfolding ended count rests
-  next-mark e m = go (forest f (drop p L)) refl left refl
-    where
-      go : (F : Terms (ℕ × ℕ)) → forest f (drop p L) ≡ F → (l : ℕ) → left ≡ l → (left - 1 < count (forest f (drop e L))) × (rests (left - 1) (forest f (drop e L)) ≡ rests left (forest f (drop p L)))
-      go none g l q = absurd (omega (arith, ap count g))
-      go (more t ts) g ℕ.zero q = absurd (omega arith)
-      go (more t ts) g (suc l) q =
-          let x : ended p (more t ts) ≡ ending.At e = sym (ap (ended p) g) ∙ m in
-          let e′ : p + letters t ≡ e = cc in
-          let b : ts ≡ forest f (drop e L) = first-tree f (0, 0) L p g .0 ∙ ap (λ k. forest f (drop k L)) e′ in
-          let z : left - 1 ≡ l = omega arith in
-          (omega (arith, ap count g, ap count b), ap₂ rests z (sym b) ∙ sym (ap₂ rests q g))
-
-  -- and there is a first
-  pub no-mark : ended p (forest f (drop p L)) ≡ ending.Bad → ⊥
-  unfolding ended count
-  no-mark m = go (forest f (drop p L)) refl
-    where
-      go : (F : Terms (ℕ × ℕ)) → forest f (drop p L) ≡ F → ⊥
-      go none g = omega (arith, ap count g)
-      go (more t ts) g = conflict (let x : ended p (more t ts) ≡ ending.Bad = sym (ap (ended p) g) ∙ m in cc)
+-- behind the first of the terms there is one less to pass
+pub next-mark : (f : Mark → Letter (ℕ × ℕ)) (L : List Mark) (room p left e l : ℕ) → 0 < left → left < count (forest f (drop p L)) → measured room p (forest f (drop p L)) ≡ extent.Tree e l
+    → (left - 1 < count (forest f (drop e L))) × (rests (left - 1) (forest f (drop e L)) ≡ rests left (forest f (drop p L)))
+unfolding count rests
+next-mark f L room p left e l h g m =
+    let S = seen room p (forest f (drop p L)) e l m in
+    let F : forest f (drop p L) ≡ more (S .one) (forest f (drop e L)) = S .these ∙ ap (more (S .one)) (others-behind f (0, 0) L S) in
+    let z : left ≡ suc (left - 1) = omega arith in
+    (omega (arith, ap count F), sym (ap₂ rests z F))
 
 -- ---- a table of starts, or the counts
 -- the transducer is the same by either

@@ -13,7 +13,7 @@ ghost use Rattle.queries.specs.Answers.{FindsSymbol};
 ghost use Rattle.queries.specs.Inner.Machine.{FindsBy};
 ghost use Rattle.queries.specs.Inner.Placed.{placed, Followed};
 use formats::bodies::fill_starts;
-use formats::bodies::mark_end;
+use formats::bodies::measure_marks;
 use formats::file::FileRead;
 use formats::file::counts_end;
 use formats::file::read_transducer;
@@ -24,7 +24,6 @@ use trees::alphabet::output_ranks;
 use trees::bytes::number;
 use trees::bytes::wide;
 use trees::refusal::Refusal;
-use trees::tree::End;
 use trees::tree::Extent;
 use trees::tree::measure_all;
 
@@ -51,12 +50,12 @@ fn skip_marks(
     let mut p = at;
     let mut left = c;
     while left > 0 {
-        match mark_end(outs, n, r, marks, p, to) {
-            End::At(e) => {
+        match measure_marks(outs, n, r, marks, p, to, to - p) {
+            Extent::Tree(e, _) => {
                 p = e;
                 left -= 1;
             }
-            End::Bad => {
+            Extent::Bad => {
                 return p;
             }
         }

@@ -9,7 +9,7 @@ use lib.ListN.{length, getD, drop, set, length-append, drop-of-length-le}
 use lib.Seq.{length-sets, drop-cons}
 use Rattle.trees.specs.Refusal as refusals
 use Rattle.trees.specs.declared.refusal.Refusal.{Refusal}
-use Rattle.trees.specs.declared.refusal.Refusal.the-variants.{ShortArea, BadAlphabets, BadTree, BadContents, BadBody, LongOutput, OverLimits, FullRegistry, BadRegistry, OtherAlphabet, JoinOverLimits}
+use Rattle.trees.specs.declared.refusal.Refusal.the-variants.{ShortArea, BadAlphabets, BadTree, BadContents, BadBody, LongOutput, OverLimits, FullRegistry, BadRegistry, DeepOutput, OtherAlphabet, JoinOverLimits}
 use Rattle.formats.proofs.Writing.{Writing, sets-append, begin, room-word, word-more, finish}
 use Rattle.report.specs.Inner.Writing.{Wrote}
 use Rattle.report.specs.Text.{numberText, rest, separated, differWord, atWord, sizesLine, placeText, symbolText, differLine}
@@ -134,6 +134,7 @@ refusal-low LongOutput = omega arith
 refusal-low OverLimits = omega arith
 refusal-low FullRegistry = omega arith
 refusal-low BadRegistry = omega arith
+refusal-low DeepOutput = omega arith
 refusal-low OtherAlphabet = omega arith
 refusal-low JoinOverLimits = omega arith
 

@@ -19,7 +19,8 @@ use Rattle.trees.proofs.Forest.{all-drop, front}
 use Rattle.formats.specs.Inner.Layout.{callIf, markOf, pairs}
 use Rattle.formats.proofs.Pairs.{pairs-at}
 use Rattle.transducer.specs.Inner.Written.{hop}
-use Rattle.runs.specs.Inner.Walked.{bodyMark, termsAt, marksOf, childrenOf, IsBody, Ended}
+use Rattle.transducer.specs.Inner.Depth.{childrenOf}
+use Rattle.runs.specs.Inner.Walked.{bodyMark, termsAt, marksOf, IsBody, Ended}
 use Rattle.transducer.proofs.Places.{EndsFrom, place-from, place-inside}
 
 -- ---- one mark in front of some terms
@@ -55,17 +56,6 @@ put-call mids i x G h = go (leb (suc i) 4) (ltb x 128) refl refl h
     go true true e f h = record { child = leb-true _ _ e; state = ltb-true _ _ f; there = refl }
     go true false e f h = absurd (omega arith)
     go false d e f h = absurd (omega arith)
-
--- ---- how many terms stand under a mark
-pub children-call : (mids : List ℕ) (i x : ℕ) → 0 < i → childrenOf mids (i, x) ≡ 0
-unfolding childrenOf
-children-call mids ℕ.zero x h = absurd (omega arith)
-children-call mids (suc i) x h = refl
-
-pub children-symbol : (mids : List ℕ) (i x : ℕ) → i ≡ 0 → childrenOf mids (i, x) ≡ getD mids x 0
-unfolding childrenOf
-children-symbol mids ℕ.zero x h = refl
-children-symbol mids (suc i) x h = absurd (omega arith)
 
 -- ---- the mark number k of a body
 module _ {mids s : List ℕ} (B : IsBody mids s) (k : ℕ) (less : k < marksOf s) where

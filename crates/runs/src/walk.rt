@@ -1,13 +1,14 @@
 // What a state of the second transducer gives on a right-hand side of the first, as letters: symbols, and calls of pairs of states.
 ghost use mathlib.Core.Path.{_≡_};
 ghost use Prim.Native.Nat.{_+_, _*_, _^_, _≤_, _<_};
-ghost use lib.ListN.{length, getD, set};
+ghost use lib.ListN.{length, set};
 ghost use Rattle.trees.specs.Alphabets.{Alphabets, inputs};
 ghost use Rattle.formats.specs.Inner.Layout.{bodyNumber};
 ghost use Rattle.transducer.specs.Inner.Written.{Limits, Wrote};
-ghost use Rattle.runs.specs.Inner.Walked.{IsBody, Ended, Ready, Walkable, applied, walked, childrenOf};
+ghost use Rattle.runs.specs.Inner.Walked.{IsBody, Ended, Ready, Walkable, applied, walked};
 use discovery::queue::CALL;
 use transducer::children::skip;
+use transducer::depth::children;
 use trees::alphabet::input_ranks;
 use trees::bytes::number;
 use trees::bytes::wide;
@@ -23,26 +24,17 @@ pub fn body_of(stock: &[u8], q: usize, a: usize) -> usize
     1 + q * input_ranks(stock).len() + a
 }
 
-// How many terms stand under the mark (i, x): as many as the symbol x has places, and none under a call.
-fn children(stock: &[u8], i: u8, x: u8) -> usize
-    requires { ⌜ Alphabets (now stock) × (i ≡ 0 → x < length (inputs (now stock))) ⌝ }
-    ensures { λ r. ⌜ r ≡ childrenOf (inputs (now (stock .entry))) (i, x) ⌝ }
-{
-    if i > 0 {
-        return 0;
-    }
-    wide(input_ranks(stock)[wide(x)])
-}
-
 // Notes where the term at each mark of the body `s` ends: from the last mark to the first, each behind its children.
 pub fn note_ends(stock: &[u8], s: &[u8], ends: &mut [u16; 64])
     requires { ⌜ Alphabets (now stock) × IsBody (inputs (now stock)) (now s) × (length (now ends) ≡ 64) ⌝ }
     ensures { λ _. ⌜ Ended (inputs (now (stock .entry))) (now (s .entry)) (now (ends .exit)) ⌝ }
 {
+    let ranks = input_ranks(stock);
     let mut k = s.len() / 2;
     while k > 0 {
         k -= 1;
-        ends[k] = skip(ends, k + 1, children(stock, s[2 * k], s[2 * k + 1])) as u16;
+        let n = wide(children(ranks, s[2 * k], s[2 * k + 1]));
+        ends[k] = skip(ends, k + 1, n) as u16;
     }
 }
 

@@ -5,7 +5,7 @@ use native.Mathlib.Omega.{arith}
 use mathlib.Core.List.{List, List·Memᴰ, List·Memᴰ·head, List·Memᴰ·tail, [], _∷_}
 use mathlib.Core.Path.{_≡_, refl, sym, ap, subst}
 use lib.ListN.{length}
-use Rattle.theory.specs.Size.{size}
+use Rattle.theory.specs.Size.{size, levels}
 use Rattle.theory.specs.Term.{Tree}
 use Rattle.trees.specs.Alphabets.{Alphabets, alphabetCheck}
 use Rattle.trees.specs.Code.{code}
@@ -14,10 +14,10 @@ use Rattle.formats.specs.Samples.{S, T, T′, U, pairs, M, M-pref}
 use Rattle.formats.specs.Sheet.{file, sheetCheck}
 use Rattle.formats.proofs.Sheets.{sheet-counted}
 use Rattle.trees.specs.Tree.{treeCheck}
-use Rattle.transducer.specs.Answers.{translated, roomCheck}
+use Rattle.transducer.specs.Answers.{translated, roomCheck, levelsCheck}
 use Rattle.transducer.specs.Output.{Output}
 use Rattle.transducer.proofs.Laws.{must-translate}
-use Rattle.transducer.proofs.Samples.{S-alphabets, T-machine, T-sheet, leaf-design, chain-design, T-output, on-leaf, on-chain, room-chain}
+use Rattle.transducer.proofs.Samples.{S-alphabets, T-machine, T-sheet, leaf-design, chain-design, T-output, on-leaf, on-chain, room-chain, few-levels-chain}
 use Rattle.queries.proofs.Samples.{T-not-linear}
 use Rattle.prefixes.proofs.Samples.{M-machine, M-sheet, M-is-pref}
 use Rattle.earliest.specs.Answers.{EarliestFile}
@@ -35,15 +35,15 @@ module _ {stock sheet : List ℕ} where
   gives : {design plan : List ℕ} {t : Tree} → Output stock sheet design t → code t ≡ plan → Says (translates stock sheet design plan)
   gives O e = (_, (O, e))
 
-  -- where there is an output, every file is right, and an area with room for it is long enough
-  room-holds : {design : List ℕ} {t : Tree} → Alphabets stock → Output stock sheet design t → (area : List ℕ) → size t ≤ length area → Holds (alphabetCheck stock (sheetCheck stock sheet (treeCheck stock design (roomCheck stock sheet design area done))))
+  -- where there is an output of at most 256 levels, every file is right, and an area with room for it is long enough
+  room-holds : {design : List ℕ} {t : Tree} → Alphabets stock → Output stock sheet design t → (area : List ℕ) → size t ≤ length area → levels t ≤ 256 → Holds (alphabetCheck stock (sheetCheck stock sheet (treeCheck stock design (roomCheck stock sheet design area (levelsCheck stock sheet design done)))))
   unfolding Holds
-  room-holds {t = t} A O area h = (A, (sheet-counted (O .is-sheet), ((O .states, (O .machine, O .is-sheet)), ((O .input, O .is-tree), ((t, (O, h)), tt)))))
+  room-holds {t = t} A O area h l = (A, (sheet-counted (O .is-sheet), ((O .states, (O .machine, O .is-sheet)), ((O .input, O .is-tree), ((t, (O, h)), ((t, (O, l)), tt))))))
 
-  has-room : {design : List ℕ} {t : Tree} {k : ℕ} → Alphabets stock → Output stock sheet design t → size t ≤ k → Says (fits stock sheet design k)
-  has-room {t = t} A O h = record {
-    checks = λ area e. room-holds A O area (omega (arith, e, h));
-    answer = λ before after r e J. (size t, ap translated (must-translate A O before after r (omega (arith, e, h)) J .0));
+  has-room : {design : List ℕ} {t : Tree} {k : ℕ} → Alphabets stock → Output stock sheet design t → size t ≤ k → levels t ≤ 256 → Says (fits stock sheet design k)
+  has-room {t = t} A O h l = record {
+    checks = λ area e. room-holds A O area (omega (arith, e, h)) l;
+    answer = λ before after r e J. (size t, ap translated (must-translate A O before after r (omega (arith, e, h)) l J .0));
   }
 
   -- a transducer whose earliest form is within the limits is accepted for cleaning
@@ -84,7 +84,7 @@ all-rows =
     S-alphabets
     also gives (T-output leaf-design) on-leaf
     also gives (T-output chain-design) on-chain
-    also has-room S-alphabets (T-output chain-design) room-chain
+    also has-room S-alphabets (T-output chain-design) room-chain few-levels-chain
     also form-is (clean-self T-cleans (T-sheet .coded)) (T-sheet .coded)
     also form-is (clean-form T′-cleans T′-trims) (T-sheet .coded)
     also early-has T′-trims

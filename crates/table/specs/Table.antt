@@ -14,7 +14,7 @@ use Rattle.trees.specs.Refusal.{accepted, done, Holds}
 use Rattle.formats.specs.Samples.{S, T, T′, U, U-clean, leaf-file, pairs, M, M-pref, M-clean}
 use Rattle.formats.specs.Sheet.{Sheet, file, sheetCheck}
 use Rattle.trees.specs.Tree.{treeCheck}
-use Rattle.transducer.specs.Answers.{translated, roomCheck, Translates}
+use Rattle.transducer.specs.Answers.{translated, roomCheck, levelsCheck, Translates}
 use Rattle.transducer.specs.declared.translate.Translation.{Translation}
 use Rattle.queries.specs.Linear.{Linear}
 use Rattle.transducer.specs.Output.{Output}
@@ -72,7 +72,7 @@ pub record Registers (stock : List ℕ) (room : ℕ) (entered : List (List ℕ �
 
 -- whatever area of k bytes is lent, a translation that keeps its promise is accepted
 pub record Fits (stock sheet design : List ℕ) (k : ℕ) : Type 0 where
-  pub checks : (area : List ℕ) → length area ≡ k → Holds (alphabetCheck stock (sheetCheck stock sheet (treeCheck stock design (roomCheck stock sheet design area done))))
+  pub checks : (area : List ℕ) → length area ≡ k → Holds (alphabetCheck stock (sheetCheck stock sheet (treeCheck stock design (roomCheck stock sheet design area (levelsCheck stock sheet design done)))))
   pub answer : (before after : List ℕ) (r : Translation) → length before ≡ k → Translates stock sheet design before after r → (n : ℕ) × (translated r ≡ accepted n)
 
 -- the file of the normal form of the transducer of the sheet, which is accepted for cleaning

@@ -16,7 +16,7 @@ use Rattle.trees.specs.Code.{preorder, code, Mark}
 use Rattle.trees.specs.Inner.Decode.{call, symbol, forest, first, Whole, Over, AllOver}
 use Rattle.trees.specs.Inner.Symbols.{symbolIf, symbolOf, trees, tree, IsTree}
 use Rattle.formats.specs.Inner.Layout.{callIf, markOf, pairs, offset, markAt, bodyNumber, bodyCount, body, transducer, Wholes}
-use Rattle.transducer.specs.Inner.Written.{spell, written, called, bodyAt, walked, Callable, Table}
+use Rattle.transducer.specs.Inner.Written.{spell, written, called, made, madeBelow, bodyAt, walked, Callable, Table}
 use Rattle.trees.proofs.Forest.{Known, say, says}
 use Rattle.trees.proofs.Codes.{preorder-bind, single, whole-spelled, over-forest, over-first}
 use Rattle.trees.proofs.Letters.{symbol-inside, faithful-symbols}
@@ -53,6 +53,15 @@ unfolding markOf
 known-callable outs n r ℕ.zero x k h = absurd (omega arith)
 known-callable outs n r (suc i) x k h = let c = known-call n r i x k in (c .0, c .1)
 
+known-ranked : (outs : List ℕ) (n r i x : ℕ) → Known (markOf outs n r (i, x)) → i ≡ 0 → x < length outs
+unfolding markOf symbolOf
+known-ranked outs n r (suc i) x k z = absurd (omega arith)
+known-ranked outs n r ℕ.zero x k z = go (ltb x (length outs)) refl k
+  where
+    go : (b : Bool) → ltb x (length outs) ≡ b → Known (symbolIf {A = ℕ × ℕ} b x (getD outs x 0)) → x < length outs
+    go true e k = ltb-true _ _ e
+    go false e k = absurd k
+
 -- the marks of a body, read as letters or as bytes
 says-spell : (outs : List ℕ) (n r : ℕ) (g : ℕ × ℕ → List ℕ) (ms : List Mark) → ((j : ℕ) → j < length ms → Known (markOf outs n r (getD ms j (0, 0)))) → says (markOf outs n r) g (λ k. k) ms ≡ spell (λ i q. g (i, q)) ms
 unfolding spell markOf
@@ -62,15 +71,17 @@ says-spell outs n r g ((ℕ.zero, b) ∷ ms) k =
 says-spell outs n r g ((suc i, q) ∷ ms) k =
     ap₂ _++_ (ap (say g (λ k. k)) (known-call n r i q (k 0 (omega arith)) .2)) (says-spell outs n r g ms (λ j h. k (suc j) (omega arith)))
 
--- what a whole body gives, with g for its calls; and its calls can be made
+-- what a whole body gives, with g for its calls; its calls can be made, and its symbols have ranks
 pub record BodyRead (outs : List ℕ) (n r : ℕ) (ms : List Mark) : Type 0 where
   pub spelled : (g : ℕ × ℕ → List ℕ) → preorder g (λ k. k) (first (forest (markOf outs n r) ms)) ≡ spell (λ i q. g (i, q)) ms
   pub callable : (j : ℕ) → j < length ms → Callable n r (getD ms j (0, 0))
+  pub ranked : (j : ℕ) → j < length ms → getD ms j (0, 0) .0 ≡ 0 → getD ms j (0, 0) .1 < length outs
 
 pub body-read : (outs : List ℕ) (n r : ℕ) (ms : List Mark) → Whole (markOf outs n r) ms → BodyRead outs n r ms
 body-read outs n r ms W = record {
   spelled = λ g. let w = whole-spelled (markOf outs n r) g (λ k. k) (0, 0) ms W in w .spelled ∙ says-spell outs n r g ms (w .known);
   callable = λ j h. let w = whole-spelled {Y = ℕ} (markOf outs n r) (λ e. []) (λ k. k) (0, 0) ms W in known-callable outs n r _ _ (w .known j h);
+  ranked = λ j h z. let w = whole-spelled {Y = ℕ} (markOf outs n r) (λ e. []) (λ k. k) (0, 0) ms W in known-ranked outs n r _ _ (w .known j h) z;
 }
 
 -- ---- states and trees
@@ -81,7 +92,7 @@ rhs-spelled ins outs n counts bytes q a g R = R .spelled g
 module _ (ins outs : List ℕ) (n : ℕ) (counts bytes : List ℕ) (B : Bodies ins outs n counts bytes)
     (bodies : ℕ → ℕ → List Mark) (same : (q a : ℕ) → q < n → a < length ins → bodies q a ≡ body (offset counts) bytes (bodyNumber ins q a)) where
   mutual
-    unfolding Over called written called-tree output run pick count
+    unfolding Over made madeBelow called-tree output run pick count
 
     pub output-written : (d : Tree) (q : ℕ) → Over (symbolOf ins) (λ x. absurd x) (λ k. k) d → q < n → code (output (transducer ins outs n (offset counts) bytes) d q) ≡ written bodies d q
     output-written (var x) q o h = absurd x
@@ -103,7 +114,7 @@ module _ (ins outs : List ℕ) (n : ℕ) (counts bytes : List ℕ) (B : Bodies i
     output-called (more d ds) (suc (suc i)) r o p l m = output-called ds (suc i) r (o .1) (omega arith) (omega arith) m
 
   pub translate-written : (d : Tree) → Over (symbolOf ins) (λ x. absurd x) (λ k. k) d → code (translate (transducer ins outs n (offset counts) bytes) d) ≡ spell (λ i r. called bodies (more d none) i r) (body (offset counts) bytes 0)
-  unfolding translate transducer called
+  unfolding translate transducer madeBelow
   translate-written d o =
       let M = transducer ins outs n (offset counts) bytes in
       let R = body-read outs n 1 (body (offset counts) bytes 0) (B .wholes .initial) in
@@ -119,7 +130,7 @@ module _ (ins outs : List ℕ) (n : ℕ) (counts bytes : List ℕ) (B : Bodies i
 -- ---- the table of starts
 module _ (ins outs : List ℕ) (n : ℕ) (counts bytes starts : List ℕ) (B : Bodies ins outs n counts bytes)
     (long : bodyCount ins n < length starts) (right : (j : ℕ) → j ≤ bodyCount ins n → getD starts j 0 ≡ offset counts j) where
-  body-same : (q a : ℕ) → q < n → a < length ins → bodyAt ins starts bytes q a ≡ body (offset counts) bytes (bodyNumber ins q a)
+  pub body-same : (q a : ℕ) → q < n → a < length ins → bodyAt ins starts bytes q a ≡ body (offset counts) bytes (bodyNumber ins q a)
   unfolding bodyAt body
   body-same q a h k =
       let l = number-less ins q n a h k in

@@ -98,3 +98,7 @@ on-chain = refl
 pub room-chain : size (translate T-machine chain) ≤ 7
 unfolding T-machine twice line leaf chain bind translate output closed run pick size
 room-chain = omega arith
+
+pub few-levels-chain : levels (translate T-machine chain) ≤ 256
+unfolding T-machine twice line leaf chain bind translate output closed run pick levels
+few-levels-chain = omega arith

@@ -1,6 +1,6 @@
 -- From the parts of a file to what the translation asks, and to what it answers.
 -- Assumes nothing.
-use Prim.Native.Nat.{ℕ, _-_, _*_, _≤_, _<_}
+use Prim.Native.Nat.{ℕ, suc, _+_, _-_, _*_, _/_, _%_, _≤_, _<_}
 use native.Mathlib.Nat.{zero-add}
 use native.Mathlib.Omega.{arith}
 use mathlib.Core.List.{List}
@@ -14,26 +14,30 @@ use Rattle.theory.specs.Transducer.{translate}
 use Rattle.trees.specs.Alphabets.{inputs, outputs}
 use Rattle.trees.specs.Code.{code}
 use Rattle.trees.specs.Inner.Symbols.{trees, tree, IsTree}
-use Rattle.formats.specs.Inner.Layout.{pairs, markAt, offset, body, bodyCount, transducer, Right, Starts, Wholes}
+use Rattle.formats.specs.Inner.Layout.{pairs, markAt, markOf, offset, body, bodyNumber, bodyCount, transducer, Right, Starts, Wholes}
+use Rattle.trees.specs.Inner.Decode.{Whole}
 use Rattle.trees.specs.Inner.Measured.{WholeTree, MeasuredAll}
 use Rattle.trees.specs.Refusal.{done as no-more, check, judged, Judged, Holds}
 use Rattle.trees.specs.Tree.{InputTree, treeCheck}
-use Rattle.trees.specs.declared.refusal.Refusal.the-variants.{BadTree, LongOutput}
+use Rattle.trees.specs.declared.refusal.Refusal.the-variants.{BadTree, LongOutput, DeepOutput}
 use Rattle.trees.specs.declared.tree.Extent.{Extent}
 use Rattle.trees.specs.declared.tree.Extent.the-variants as extent
 use Rattle.formats.proofs.Counts.{few-bodies, in-bounds}
 use Rattle.trees.proofs.Judging.{refuse, pass, accept}
+use Rattle.formats.proofs.Lines.{row-of}
 use Rattle.formats.proofs.Offsets.{offset-most, offset-next}
 use Rattle.formats.proofs.Pairs.{pairs-length, pairs-at, getD-slice}
 use Rattle.formats.proofs.Sheets.{counted-right, encodes-counted, encodes-wholes, wholes-encodes}
 use Rattle.trees.proofs.Trees.{whole-input, measured-none}
-use Rattle.transducer.specs.Answers.{translated, roomCheck, Translates}
+use Rattle.transducer.specs.Answers.{translated, roomCheck, levelsCheck, Translates}
 use Rattle.transducer.specs.Output.{Output}
 use Rattle.transducer.specs.Inner.Machine.{Machine, OutputBy, TranslatesBy}
-use Rattle.transducer.specs.Inner.Written.{walked, hop, Callable, Input, Walkable, Emitted}
+use Rattle.transducer.specs.Inner.Written.{walked, walkedLevels, hop, Callable, Input, Walkable, Depths, Emitted}
+use Rattle.transducer.specs.Inner.Depth.{Known, BodiesIn, DepthsAt}
 use Rattle.transducer.specs.declared.translate.Translation.{Translation}
 use Rattle.transducer.specs.declared.translate.Translation.the-variants.{Symbols, Refused}
 use Rattle.transducer.proofs.Meaning.{Bodies, body-read, table, translate-walked}
+use Rattle.transducer.proofs.OutputLevels.{levels-walked}
 use Rattle.transducer.proofs.Opening.{Opened, opened-sheet}
 use Rattle.transducer.proofs.Outputs.{output-unique, from-parts, to-parts, code-size}
 
@@ -76,6 +80,50 @@ module _ {ins outs : List ℕ} {n : ℕ} {counts bytes : List ℕ} (starts : Lis
   unfolding offset
   gives s to e T = sym (translate-walked ins outs n counts bytes starts bodies (in-bounds starts R S long .long) S s T ∙ ap₂ (walked ins starts bytes s 0) (S 0 (omega arith)) (sym e))
 
+  pub gives-levels : (s : List ℕ) (to : ℕ) → to ≡ getD starts 1 0 → IsTree ins s → (depths : List ℕ) → ((j : ℕ) → j < bodyCount ins n → DepthsAt outs starts bytes depths j) → walkedLevels ins starts bytes depths s 0 0 to ≡ levels (translate (transducer ins outs n (offset counts) bytes) (tree ins s))
+  unfolding offset
+  gives-levels s to e T depths D = sym (levels-walked ins outs n counts bytes starts bodies (in-bounds starts R S long .long) S s T depths D ∙ ap₂ (walkedLevels ins starts bytes depths s 0) (S 0 (omega arith)) (sym e))
+
+  -- the symbols of a body have ranks
+  ranked-in : (r b : ℕ) → b < bodyCount ins n → Whole (markOf outs n r) (body (offset counts) bytes b) → Known outs bytes (getD starts b 0) (getD starts (b + 1) 0)
+  unfolding body
+  ranked-in r b l whole j f t z =
+      let u = offset counts b in
+      let v = offset counts (b + 1) in
+      let most : 2 * v ≤ length bytes = omega (arith, R .sums .all, offset-most counts (b + 1) (bodyCount ins n) (omega arith)) in
+      let inside = pairs-length bytes v most in
+      let x = S b (omega arith) in
+      let y = S (b + 1) (omega arith) in
+      let less : j - u < length (slice u v (pairs bytes)) = omega (arith, length-slice u v (pairs bytes) inside) in
+      let d = getD-slice u v (j - u) (pairs bytes) inside less in
+      let e : u + (j - u) ≡ j = omega arith in
+      let m : getD (slice u v (pairs bytes)) (j - u) (0, 0) ≡ (getD bytes (2 * j) 0, getD bytes (2 * j + 1) 0) = d .1 ∙ ap (markAt bytes) e ∙ pairs-at bytes j (omega arith) in
+      let B = body-read outs n r (slice u v (pairs bytes)) whole in
+      let c = rw m at (B .ranked (j - u) less) in
+      c z
+
+  ranked-all : (b : ℕ) → b < bodyCount ins n → Known outs bytes (getD starts b 0) (getD starts (b + 1) 0)
+  ranked-all ℕ.zero h = ranked-in 1 0 h (W .initial)
+  ranked-all (suc b) h =
+      let (q, a, e) = row-of n (length ins) b (omega arith) in
+      let z : bodyNumber ins (b / length ins) (b % length ins) ≡ suc b = omega (arith, e) in
+      ranked-in (getD ins (b % length ins) 0) (suc b) h (rw z at (W .rhs (b / length ins) (b % length ins) q a))
+
+  -- its bodies lie in the table
+  pub bodies-in : BodiesIn outs starts (bodyCount ins n) bytes
+  bodies-in =
+      let L = in-bounds starts R S long in
+      let B = bodies in
+      record {
+        long = L .long;
+        all-starts = long;
+        ordered = L .ordered;
+        few = λ j h. rw (S j (omega arith), S (j + 1) (omega arith)) (B .few j h);
+        inside = L .inside;
+        few-marks = omega (arith, R .sums .all, R .sums .few);
+        known = ranked-all;
+      }
+
 -- ---- the parts of a file; ins are the ranks in the stock
 module _ {stock : List ℕ} {n : ℕ} {counts bytes : List ℕ} (X : Machine stock n counts bytes) where
   pub machine-right : Right (inputs stock) n counts bytes
@@ -87,6 +135,9 @@ module _ {stock : List ℕ} {n : ℕ} {counts bytes : List ℕ} (X : Machine sto
   -- what it takes to find the starts of the bodies
   pub starts-fit : {ins : List ℕ} → ins ≡ inputs stock → (2 * bodyCount ins n ≤ length counts) × (bodyCount ins n < 2050) × (offset counts (bodyCount ins n) < 65536)
   starts-fit e = let R = machine-right in rw e (omega (arith, R .long), few-bodies R, omega (arith, R .sums .few))
+
+  pub depths-fit : {depths : List ℕ} → length depths ≡ 8192 → Depths bytes depths
+  depths-fit h = let R = machine-right in record { few-marks = omega (arith, R .sums .all, R .sums .few); all-depths = h }
 
   -- the output, by the transducer that is read from the parts
   pub output-read : (s : List ℕ) → WholeTree (inputs stock) s → OutputBy stock n counts bytes s (translate (transducer (inputs stock) (outputs stock) n (offset counts) bytes) (tree (inputs stock) s))
@@ -104,10 +155,20 @@ module _ {stock : List ℕ} {n : ℕ} {counts bytes : List ℕ} (X : Machine sto
         pub can-walk : {ends : List ℕ} → Input ins s ends → length ends ≡ 4096 → Walkable ins starts bytes s ends 0 to 0 l
         can-walk {ends} I h = rw e (walkable starts machine-right machine-wholes (rw e at S) long s ends to l f (read-whole .one) (omega (arith, rw e at (M .whole d l q .2))) (rw e at I) h)
 
+        -- the depths of its marks can be noted
+        pub bodies-there : {outs : List ℕ} → outs ≡ outputs stock → BodiesIn outs starts (bodyCount ins n) bytes
+        bodies-there o = rw (o, e) (bodies-in starts machine-right machine-wholes (rw e at S) long)
+
         given-code : walked ins starts bytes s 0 0 to ≡ code (translate (transducer (inputs stock) (outputs stock) n (offset counts) bytes) (tree (inputs stock) s))
         given-code = ap (λ i. walked i starts bytes s 0 0 to) e ∙ gives starts machine-right machine-wholes (rw e at S) long s to f (read-whole .one)
 
-        module _ {before after : List ℕ} {k : ℕ} (E : Emitted (walked ins starts bytes s 0 0 to) before after k) where
+        given-levels : (depths : List ℕ) → ((j : ℕ) → j < bodyCount ins n → DepthsAt (outputs stock) starts bytes depths j) → walkedLevels ins starts bytes depths s 0 0 to ≡ levels (translate (transducer (inputs stock) (outputs stock) n (offset counts) bytes) (tree (inputs stock) s))
+        given-levels depths D = ap (λ i. walkedLevels i starts bytes depths s 0 0 to) e ∙ gives-levels starts machine-right machine-wholes (rw e at S) long s to f (read-whole .one) depths (rw e at D)
+
+        module _ {before after outs : List ℕ} {k m : ℕ} (o : outs ≡ outputs stock) (depths : List ℕ) (D : (j : ℕ) → j < bodyCount ins n → DepthsAt outs starts bytes depths j) (E : Emitted (walked ins starts bytes s 0 0 to) (walkedLevels ins starts bytes depths s 0 0 to) before after k m) where
+          output-levels : walkedLevels ins starts bytes depths s 0 0 to ≡ levels (translate (transducer (inputs stock) (outputs stock) n (offset counts) bytes) (tree (inputs stock) s))
+          output-levels = given-levels depths (rw o at D)
+
           tree-there : (d : Tree) × InputTree (inputs stock) s d
           tree-there = (tree (inputs stock) s, whole-input read-whole)
 
@@ -119,11 +180,17 @@ module _ {stock : List ℕ} {n : ℕ} {counts bytes : List ℕ} (X : Machine sto
               let (l, a) = E .full h in
               pass tree-there (refuse (λ w. omega (arith, output-long, w .1 .1, ap size (output-unique (w .1 .0) (output-read s read-whole)))) a)
 
-          pub all-written : k ≤ length before → TranslatesBy stock n counts bytes s before after (Symbols k)
-          all-written h =
-              let (l, a) = E .fits h in
+          -- there is room for it
+          room-there : k ≤ length before → (t : Tree) × (OutputBy stock n counts bytes s t × (size t ≤ length before))
+          room-there h = (_, (output-read s read-whole, omega (arith, output-long, E .fits h .0)))
+
+          pub too-deep : k ≤ length before → 256 < m → TranslatesBy stock n counts bytes s before after (Refused DeepOutput)
+          too-deep h g = pass tree-there (pass (room-there h) (refuse (λ w. omega (arith, E .fits h .1, output-levels, w .1 .1, ap levels (output-unique (w .1 .0) (output-read s read-whole)))) (E .deep g)))
+
+          pub all-written : k ≤ length before → m ≤ 256 → TranslatesBy stock n counts bytes s before after (Symbols k)
+          all-written h g =
               let O = output-read s read-whole in
-              pass tree-there (pass (_, (O, omega (arith, output-long))) (accept (_, (O, omega (arith, output-long), a ∙ ap (sets before 0) given-code))))
+              pass tree-there (pass (room-there h) (pass (_, (O, omega (arith, E .fits h .1, output-levels))) (accept (_, (O, E .fits h .0 ∙ output-long, E .wrote h g ∙ ap (sets before 0) given-code)))))
 
 -- ---- the file: what is answered of its parts is answered of it
 module _ {stock sheet ins counts bytes design : List ℕ} {n : ℕ} (O : Opened stock sheet n ins counts bytes) where
@@ -131,11 +198,15 @@ module _ {stock sheet ins counts bytes design : List ℕ} {n : ℕ} (O : Opened 
   unfolding judged Holds
   file-translates {before} {after} r J = go r (J .verdict)
     where
-      start : (r : Translation) → Judged (after ≡ before) (λ k. (t : Tree) × (Output stock sheet design t × (k ≡ size t) × (after ≡ sets before 0 (code t)))) (treeCheck stock design (roomCheck stock sheet design before no-more)) (translated r) → Translates stock sheet design before after r
+      start : (r : Translation) → Judged (after ≡ before) (λ k. (t : Tree) × (Output stock sheet design t × (k ≡ size t) × (after ≡ sets before 0 (code t)))) (treeCheck stock design (roomCheck stock sheet design before (levelsCheck stock sheet design no-more))) (translated r) → Translates stock sheet design before after r
       start r j = let w = O .holds in pass (w .0) (pass (w .1 .0) (pass (w .1 .1 .0) j))
 
-      go : (r : Translation) → judged (after ≡ before) (λ k. (t : Tree) × (OutputBy stock n counts bytes design t × (k ≡ size t) × (after ≡ sets before 0 (code t)))) (treeCheck stock design (check 6 ((t : Tree) × (OutputBy stock n counts bytes design t × (size t ≤ length before))) no-more)) (translated r) → Translates stock sheet design before after r
+      room : ((t : Tree) × (OutputBy stock n counts bytes design t × (size t ≤ length before))) → (t : Tree) × (Output stock sheet design t × (size t ≤ length before))
+      room (t, (P, l)) = (t, (from-parts (opened-sheet O) P, l))
+
+      go : (r : Translation) → judged (after ≡ before) (λ k. (t : Tree) × (OutputBy stock n counts bytes design t × (k ≡ size t) × (after ≡ sets before 0 (code t)))) (treeCheck stock design (check 6 ((t : Tree) × (OutputBy stock n counts bytes design t × (size t ≤ length before))) (check 10 ((t : Tree) × (OutputBy stock n counts bytes design t × (levels t ≤ 256))) no-more))) (translated r) → Translates stock sheet design before after r
       go r (inl (h, q, kept)) = start r (rw q (refuse h kept))
       go r (inr (T, inl (h, q, kept))) = start r (rw q (pass T (refuse (λ w. h (w .0, (to-parts (opened-sheet O) (w .1 .0), w .1 .1))) kept)))
-      go (Symbols k) (inr (T, inr (R, (t, (P, z, a))))) = start (Symbols k) (pass T (pass (R .0, (from-parts (opened-sheet O) (R .1 .0), R .1 .1)) (accept (t, (from-parts (opened-sheet O) P, z, a)))))
-      go (Refused x) (inr (T, inr (R, u))) = absurd u
+      go r (inr (T, inr (R, inl (h, q, kept)))) = start r (rw q (pass T (pass (room R) (refuse (λ w. h (w .0, (to-parts (opened-sheet O) (w .1 .0), w .1 .1))) kept))))
+      go (Symbols k) (inr (T, inr (R, inr (L, (t, (P, z, a)))))) = start (Symbols k) (pass T (pass (room R) (pass (L .0, (from-parts (opened-sheet O) (L .1 .0), L .1 .1)) (accept (t, (from-parts (opened-sheet O) P, z, a))))))
+      go (Refused x) (inr (T, inr (R, inr (L, u)))) = absurd u

@@ -1,6 +1,6 @@
 -- Laws of what is written, by position: one mark after the other, and one state applied to one node.
 -- Assumes nothing.
-use Prim.Native.Nat.{ℕ, suc, _+_, _-_, _*_, _≤_, _<_}
+use Prim.Native.Nat.{ℕ, suc, _+_, _-_, _*_, _≤_, _<_, max}
 use native.Mathlib.Numerals.{add-one}
 use native.Mathlib.Omega.{arith}
 use mathlib.Core.Bool.{Bool, true, false}
@@ -8,7 +8,7 @@ use mathlib.Core.Path.{_≡_, refl, sym, ap, ap₂, _∙_}
 use mathlib.Core.List.{List, [], _∷_, _++_}
 use lib.Dec.{leb, ltb}
 use lib.ListN.{length, getD, drop, length-drop}
-use lib.Seq.{drop-cons, slice-empty}
+use lib.Seq.{drop-cons, slice, slice-cons, slice-empty}
 use borrow.Author.Tests.{ltb-true, leb-true}
 use Rattle.theory.specs.Term.{node, Terms, none, more, count}
 use Rattle.theory.specs.Size.{levels, deepest}
@@ -18,10 +18,11 @@ use Rattle.trees.specs.Inner.Decode.{firsts, rests, nodeIf, put, forest, first}
 use Rattle.trees.specs.Inner.Symbols.{symbolOf, symbolIf, trees, tree}
 use Rattle.formats.specs.Inner.Layout.{pairs, markAt, bodyNumber}
 use Rattle.trees.specs.Inner.Measured.{Ends}
-use Rattle.transducer.specs.Inner.Written.{spell, written, called, bodyAt, applied, walked, Callable, Table, Input, hop, Ready, Walkable}
+use Rattle.transducer.specs.Inner.Written.{spell, lowest, made, madeBelow, called, bodyAt, levelsBy, applied, walked, appliedLevels, walkedLevels, Callable, Table, Input, hop, Ready, Walkable}
 use Rattle.trees.proofs.Forest.{all-drop}
 use Rattle.trees.proofs.Extents.{letters-size}
 use Rattle.formats.proofs.Pairs.{pairs-length, pairs-at, part-cons, number-less, getD-slice}
+use Rattle.transducer.proofs.Levels.{lowest-same}
 use Rattle.transducer.proofs.Places.{EndsFrom, Place, place-from, place-inside}
 
 -- ---- every position of an input has a tree
@@ -90,22 +91,29 @@ pub some-level : (ins s : List ℕ) → lettersAll (trees ins s) ≡ length s �
 unfolding tree first levels
 some-level ins s w p h = omega (arith, ap (λ F. levels (first F)) (node-at ins s p w h .there))
 
-called-rests : (body : ℕ → ℕ → List Mark) (F : Terms ⊥) (k q : ℕ) → k < count F → called body F (suc k) q ≡ written body (first (rests k F)) q
-unfolding called count rests first
-called-rests body none k q h = absurd (omega arith)
-called-rests body (more d ds) ℕ.zero q h = refl
-called-rests body (more d ds) (suc k) q h = called-rests body ds k q (omega arith)
+-- ---- what states make of trees
+module _ {B : Type 0} (rhs : (ℕ → ℕ → B) → ℕ → ℕ → B) (z : B) where
+  below-rests : (F : Terms ⊥) (k q : ℕ) → k < count F → madeBelow rhs z F (suc k) q ≡ made rhs z (first (rests k F)) q
+  unfolding madeBelow count rests first
+  below-rests none k q h = absurd (omega arith)
+  below-rests (more d ds) ℕ.zero q h = refl
+  below-rests (more d ds) (suc k) q h = below-rests ds k q (omega arith)
 
--- a call is made on one of the first n trees, where it is on one of n
-called-firsts : (body : ℕ → ℕ → List Mark) (F : Terms ⊥) (n i q : ℕ) → i ≤ n → n ≤ count F → called body (firsts n F) i q ≡ called body F i q
-unfolding called count firsts
-called-firsts body none ℕ.zero i q h g = refl
-called-firsts body none (suc n) i q h g = absurd (omega arith)
-called-firsts body (more d ds) ℕ.zero ℕ.zero q h g = refl
-called-firsts body (more d ds) ℕ.zero (suc i) q h g = absurd (omega arith)
-called-firsts body (more d ds) (suc n) ℕ.zero q h g = refl
-called-firsts body (more d ds) (suc n) (suc ℕ.zero) q h g = refl
-called-firsts body (more d ds) (suc n) (suc (suc i)) q h g = called-firsts body ds n (suc i) q (omega arith) (omega arith)
+  -- a call is made on one of the first n trees, where it is on one of n
+  below-firsts : (F : Terms ⊥) (n i q : ℕ) → i ≤ n → n ≤ count F → madeBelow rhs z (firsts n F) i q ≡ madeBelow rhs z F i q
+  unfolding madeBelow count firsts
+  below-firsts none ℕ.zero i q h g = refl
+  below-firsts none (suc n) i q h g = absurd (omega arith)
+  below-firsts (more d ds) ℕ.zero ℕ.zero q h g = refl
+  below-firsts (more d ds) ℕ.zero (suc i) q h g = absurd (omega arith)
+  below-firsts (more d ds) (suc n) ℕ.zero q h g = refl
+  below-firsts (more d ds) (suc n) (suc ℕ.zero) q h g = refl
+  below-firsts (more d ds) (suc n) (suc (suc i)) q h g = below-firsts ds n (suc i) q (omega arith) (omega arith)
+
+  -- on the node at p
+  made-node : (ins s : List ℕ) (p : ℕ) → NodeAt ins s p → (q : ℕ) → made rhs z (tree ins (drop p s)) q ≡ rhs (λ i r. madeBelow rhs z (firsts (getD ins (getD s p 0) 0) (trees ins (drop (p + 1) s))) i r) q (getD s p 0)
+  unfolding made tree first
+  made-node ins s p N q = ap (λ G. made rhs z (first G) q) (N .there)
 
 -- two ways to make calls that agree on the calls that can be made
 pub spell-same : (g g′ : ℕ → ℕ → List ℕ) (n r : ℕ) (ms : List Mark) → ((j : ℕ) → j < length ms → Callable n r (getD ms j (0, 0))) → ((i q : ℕ) → 0 < i → i ≤ r → q < n → g i q ≡ g′ i q) → spell g ms ≡ spell g′ ms
@@ -117,21 +125,36 @@ spell-same g g′ n r ((suc i, q) ∷ ms) k e =
     ap₂ _++_ (e (suc i) q (omega arith) (c .0) (c .1)) (spell-same g g′ n r ms (λ j h. k (suc j) (omega arith)) e)
 
 -- ---- a state on a node
-pub apply-walk : (ins starts bytes s : List ℕ) (T : Table ins starts bytes) → lettersAll (trees ins s) ≡ length s → (q p : ℕ) → q < T .states → p < length s
-    → applied ins starts bytes s q p ≡ walked ins starts bytes s (p + 1) (getD starts (bodyNumber ins q (getD s p 0)) 0) (getD starts (bodyNumber ins q (getD s p 0) + 1) 0)
-unfolding written bodyAt tree first
-apply-walk ins starts bytes s T w q p h g =
-    let N = node-at ins s p w g in
-    let a = getD s p 0 in
-    let F = trees ins (drop (p + 1) s) in
-    let B = bodyAt ins starts bytes in
-    let less = number-less ins q (T .states) a h (N .known) in
-    let long = pairs-length bytes (getD starts (bodyNumber ins q a + 1) 0) (T .inside (bodyNumber ins q a + 1) (omega arith)) in
-    ap (λ G. written B (first G) q) (N .there) ∙
-    spell-same (λ i r. called B (firsts (getD ins a 0) F) i r) (λ i r. called B F i r) (T .states) (getD ins a 0) (B q a)
-    (λ j l. let d = getD-slice (getD starts (bodyNumber ins q a) 0) (getD starts (bodyNumber ins q a + 1) 0) j (pairs bytes) long l in
-    rw (d .1) (T .callable q a (getD starts (bodyNumber ins q a) 0 + j) h (N .known) (omega arith) (d .0)))
-    (λ i r l m o. called-firsts B F (getD ins a 0) i r m (N .enough))
+module _ (ins starts bytes s : List ℕ) (T : Table ins starts bytes) (q p : ℕ) (h : q < T .states) (N : NodeAt ins s p) where
+  -- the calls of its right-hand side can be made
+  rhs-callable : (j : ℕ) → j < length (bodyAt ins starts bytes q (getD s p 0)) → Callable (T .states) (getD ins (getD s p 0) 0) (getD (bodyAt ins starts bytes q (getD s p 0)) j (0, 0))
+  unfolding bodyAt
+  rhs-callable j l =
+      let a = getD s p 0 in
+      let less = number-less ins q (T .states) a h (N .known) in
+      let long = pairs-length bytes (getD starts (bodyNumber ins q a + 1) 0) (T .inside (bodyNumber ins q a + 1) (omega arith)) in
+      let d = getD-slice (getD starts (bodyNumber ins q a) 0) (getD starts (bodyNumber ins q a + 1) 0) j (pairs bytes) long l in
+      rw (d .1) (T .callable q a (getD starts (bodyNumber ins q a) 0 + j) h (N .known) (omega arith) (d .0))
+
+  pub apply-walk : applied ins starts bytes s q p ≡ walked ins starts bytes s (p + 1) (getD starts (bodyNumber ins q (getD s p 0)) 0) (getD starts (bodyNumber ins q (getD s p 0) + 1) 0)
+  unfolding bodyAt
+  apply-walk =
+      let a = getD s p 0 in
+      let F = trees ins (drop (p + 1) s) in
+      let B = bodyAt ins starts bytes in
+      made-node (λ g q a. spell g (B q a)) (0 ∷ []) ins s p N q
+      ∙ spell-same (λ i r. called B (firsts (getD ins a 0) F) i r) (λ i r. called B F i r) (T .states) (getD ins a 0) (B q a) rhs-callable
+      (λ i r l m o. below-firsts (λ g q a. spell g (B q a)) (0 ∷ []) F (getD ins a 0) i r m (N .enough))
+
+  pub apply-levels : (depths : List ℕ) → appliedLevels ins starts bytes depths s q p ≡ walkedLevels ins starts bytes depths s (p + 1) (getD starts (bodyNumber ins q (getD s p 0)) 0) (getD starts (bodyNumber ins q (getD s p 0) + 1) 0)
+  unfolding levelsBy bodyAt
+  apply-levels depths =
+      let a = getD s p 0 in
+      let F = trees ins (drop (p + 1) s) in
+      let R = levelsBy ins starts bytes depths in
+      made-node R 0 ins s p N q
+      ∙ lowest-same (λ i r. madeBelow R 0 (firsts (getD ins a 0) F) i r) (λ i r. madeBelow R 0 F i r) (T .states) (getD ins a 0) (slice (getD starts (bodyNumber ins q a) 0) (getD starts (bodyNumber ins q a + 1) 0) depths) (bodyAt ins starts bytes q a) rhs-callable
+      (λ i r l m o. below-firsts R 0 F (getD ins a 0) i r m (N .enough))
 
 -- ---- one mark
 module _ (ins starts bytes s : List ℕ) (below j to : ℕ) (less : j < to) (inside : 2 * to ≤ length bytes) where
@@ -143,6 +166,19 @@ module _ (ins starts bytes s : List ℕ) (below j to : ℕ) (less : j < to) (ins
   unfolding spell
   walk-call i e = rw (part-cons bytes j to less inside, e)
 
+  -- and the levels
+  module _ (depths : List ℕ) (deep : to ≤ length depths) where
+    mark-depth : slice j to depths ≡ getD depths j 0 ∷ slice (j + 1) to depths
+    mark-depth = rw add-one (slice-cons j to depths 0 less deep)
+
+    pub levels-symbol : getD bytes (2 * j) 0 ≡ 0 → walkedLevels ins starts bytes depths s below j to ≡ max (getD depths j 0 + 1) (walkedLevels ins starts bytes depths s below (j + 1) to)
+    unfolding lowest
+    levels-symbol e = rw (part-cons bytes j to less inside, mark-depth, e)
+
+    levels-call : (i : ℕ) → getD bytes (2 * j) 0 ≡ suc i → walkedLevels ins starts bytes depths s below j to ≡ max (getD depths j 0 + madeBelow (levelsBy ins starts bytes depths) 0 (trees ins (drop below s)) (suc i) (getD bytes (2 * j + 1) 0)) (walkedLevels ins starts bytes depths s below (j + 1) to)
+    unfolding lowest
+    levels-call i e = rw (part-cons bytes j to less inside, mark-depth, e)
+
 -- the call at mark j, over the trees from position below on: the child's place, and what the call writes
 pub record CallAt (ins starts bytes s ends : List ℕ) (n below j to : ℕ) : Type 0 where
   pub state : getD bytes (2 * j + 1) 0 < n
@@ -150,15 +186,18 @@ pub record CallAt (ins starts bytes s ends : List ℕ) (n below j to : ℕ) : Ty
   pub after : below ≤ hop ends (getD bytes (2 * j) 0 - 1) below
   pub inside : hop ends (getD bytes (2 * j) 0 - 1) below < length s
   pub writes : walked ins starts bytes s below j to ≡ applied ins starts bytes s (getD bytes (2 * j + 1) 0) (hop ends (getD bytes (2 * j) 0 - 1) below) ++ walked ins starts bytes s below (j + 1) to
+  pub levels : (depths : List ℕ) → to ≤ length depths → walkedLevels ins starts bytes depths s below j to ≡ max (getD depths j 0 + appliedLevels ins starts bytes depths s (getD bytes (2 * j + 1) 0) (hop ends (getD bytes (2 * j) 0 - 1) below)) (walkedLevels ins starts bytes depths s below (j + 1) to)
 
 pub call-at : (ins starts bytes s ends : List ℕ) (n below j to : ℕ) → Input ins s ends → j < to → 2 * to ≤ length bytes → (getD bytes (2 * j) 0 ≡ 0 → ⊥) → Callable n (count (trees ins (drop below s))) (markAt bytes j) → CallAt ins starts bytes s ends n below j to
 unfolding trees tree
 call-at ins starts bytes s ends n below j to I less inside some c = go (getD bytes (2 * j) 0) refl
   where
+    child-made : {B : Type 0} (rhs : (ℕ → ℕ → B) → ℕ → ℕ → B) (z : B) (i : ℕ) → Place {A = ⊥} (symbolOf ins) s ends i below → i < count (trees ins (drop below s)) → madeBelow rhs z (trees ins (drop below s)) (suc i) (getD bytes (2 * j + 1) 0) ≡ made rhs z (tree ins (drop (hop ends i below) s)) (getD bytes (2 * j + 1) 0)
+    child-made rhs z i w l = below-rests rhs z (trees ins (drop below s)) i (getD bytes (2 * j + 1) 0) l ∙ ap (λ G. made rhs z (first G) (getD bytes (2 * j + 1) 0)) (sym (w .terms-there))
+
     go : (i : ℕ) → getD bytes (2 * j) 0 ≡ i → CallAt ins starts bytes s ends n below j to
     go ℕ.zero e = absurd (some e)
     go (suc i) e =
-        let F = trees ins (drop below s) in
         let m = rw (pairs-at bytes j (omega arith)) at c in
         let ok = m (omega arith) in
         let z : getD bytes (2 * j) 0 - 1 ≡ i = omega arith in
@@ -168,8 +207,8 @@ call-at ins starts bytes s ends n below j to I less inside some c = go (getD byt
           hops = λ k h. omega (arith, I .long, place-in ins s ends I k below (omega arith));
           after = rw z (w .after);
           inside = rw z (place-in ins s ends I i below (omega arith));
-          writes = rw z (walk-call ins starts bytes s below j to less inside i e ∙ ap (λ v. v ++ walked ins starts bytes s below (j + 1) to)
-              (called-rests (bodyAt ins starts bytes) F i (getD bytes (2 * j + 1) 0) (omega arith) ∙ ap (λ G. written (bodyAt ins starts bytes) (first G) (getD bytes (2 * j + 1) 0)) (sym (w .terms-there))));
+          writes = rw z (walk-call ins starts bytes s below j to less inside i e ∙ ap (λ v. v ++ walked ins starts bytes s below (j + 1) to) (child-made (λ g q a. spell g (bodyAt ins starts bytes q a)) (0 ∷ []) i w (omega arith)));
+          levels = λ depths deep. rw z (levels-call ins starts bytes s below j to less inside depths deep i e ∙ ap (λ l. max (getD depths j 0 + l) (walkedLevels ins starts bytes depths s below (j + 1) to)) (child-made (levelsBy ins starts bytes depths) 0 i w (omega arith)));
         }
 
 -- ---- steps from tree to tree
@@ -201,7 +240,7 @@ module _ {ins starts bytes s ends : List ℕ} {q p left : ℕ} (R : Ready ins st
 
   module _ {b from to : ℕ} (e : b ≡ bodyNumber ins q (getD s p 0)) (f : from ≡ getD starts b 0) (g : to ≡ getD starts (b + 1) 0) where
     -- the marks of the right-hand side can be walked, one level less is left, and they are few
-    pub body-walk : Walkable ins starts bytes s ends from to (p + 1) (left - 1) × (applied ins starts bytes s q p ≡ walked ins starts bytes s (p + 1) from to) × (to ≤ from + 64)
+    pub body-walk : Walkable ins starts bytes s ends from to (p + 1) (left - 1) × (applied ins starts bytes s q p ≡ walked ins starts bytes s (p + 1) from to) × ((depths : List ℕ) → appliedLevels ins starts bytes depths s q p ≡ walkedLevels ins starts bytes depths s (p + 1) from to) × (to ≤ from + 64)
     body-walk =
         let N = node-at ins s p (R .input .whole) (R .place) in
         let T = R .table in
@@ -225,7 +264,8 @@ module _ {ins starts bytes s ends : List ℕ} {q p left : ℕ} (R : Ready ins st
             all-starts = R .all-starts;
             all-ends = R .all-ends;
           },
-          rw (f′, g′) (apply-walk ins starts bytes s T (R .input .whole) q p (R .state) (R .place)),
+          rw (f′, g′) (apply-walk ins starts bytes s T q p (R .state) N),
+          λ depths. rw (f′, g′) (apply-levels ins starts bytes s T q p (R .state) N depths),
           rw (f′, g′) (T .few n less),
         )
 
@@ -237,6 +277,10 @@ pub walk-end : (ins starts bytes s : List ℕ) (below j to : ℕ) → j ≤ to �
 unfolding spell
 walk-end ins starts bytes s below j to h g = let e : j ≡ to = omega arith in rw (e, slice-empty to (pairs bytes))
 
+pub levels-end : (ins starts bytes depths s : List ℕ) (below j to : ℕ) → j ≤ to → to ≤ j → walkedLevels ins starts bytes depths s below j to ≡ 0
+unfolding lowest
+levels-end ins starts bytes depths s below j to h g = let e : j ≡ to = omega arith in rw (e, slice-empty to (pairs bytes))
+
 -- a call (i, x) of a walk: the child can be found, at p, and the state x applied there
 module _ {ins starts bytes s ends : List ℕ} {from to below left : ℕ} (W : Walkable ins starts bytes s ends from to below left) (j : ℕ) (h : from ≤ j) (g : j < to) where
   pub to-skip : {i : ℕ} → i ≡ getD bytes (2 * j) 0 → (i ≡ 0 → ⊥) → (k : ℕ) → k < i - 1 → hop ends k below < length ends
@@ -244,10 +288,11 @@ module _ {ins starts bytes s ends : List ℕ} {from to below left : ℕ} (W : Wa
 
   pub to-apply : {i x p : ℕ} → i ≡ getD bytes (2 * j) 0 → (i ≡ 0 → ⊥) → x ≡ getD bytes (2 * j + 1) 0 → p ≡ hop ends (i - 1) below
       → Ready ins starts bytes s ends x p left × (walked ins starts bytes s below j to ≡ applied ins starts bytes s x p ++ walked ins starts bytes s below (j + 1) to)
+      × ((depths : List ℕ) → to ≤ length depths → walkedLevels ins starts bytes depths s below j to ≡ max (getD depths j 0 + appliedLevels ins starts bytes depths s x p) (walkedLevels ins starts bytes depths s below (j + 1) to))
   to-apply {i} {x} {p} e some f k =
       let c = call-in W j h g (λ z. some (e ∙ z)) in
       let z : p ≡ hop ends (getD bytes (2 * j) 0 - 1) below = k ∙ ap (λ n. hop ends (n - 1) below) e in
-      (record { table = W .table; input = W .input; state = rw f (c .state); place = rw z (c .inside); few-levels = rw z (W .few-levels j h g (pos-of (λ y. some (e ∙ y)))); all-starts = W .all-starts; all-ends = W .all-ends }, rw (z, f) (c .writes))
+      (record { table = W .table; input = W .input; state = rw f (c .state); place = rw z (c .inside); few-levels = rw z (W .few-levels j h g (pos-of (λ y. some (e ∙ y)))); all-starts = W .all-starts; all-ends = W .all-ends }, rw (z, f) (c .writes), λ depths deep. rw (z, f) (c .levels depths deep))
     where
       pos-of : (getD bytes (2 * j) 0 ≡ 0 → ⊥) → 0 < getD bytes (2 * j) 0
       pos-of h = omega (arith, h)

@@ -4,7 +4,7 @@ use mathlib.Core.List.{List}
 use mathlib.Core.Path.{_≡_}
 use lib.ListN.{length}
 use lib.Seq.{sets}
-use Rattle.theory.specs.Size.{size}
+use Rattle.theory.specs.Size.{size, levels}
 use Rattle.theory.specs.Term.{Tree}
 use Rattle.trees.specs.Alphabets.{alphabetCheck}
 use Rattle.trees.specs.Code.{code}
@@ -24,8 +24,12 @@ translated (translation.Refused r) = refused (refusalNumber r)
 abbrev pub roomCheck : List ℕ → List ℕ → List ℕ → List ℕ → Checks → Checks
 roomCheck stock sheet design area rest = check 6 ((t : Tree) × (Output stock sheet design t × (size t ≤ length area))) rest
 
+-- refusal 10 (02, F-1)
+abbrev pub levelsCheck : List ℕ → List ℕ → List ℕ → Checks → Checks
+levelsCheck stock sheet design rest = check 10 ((t : Tree) × (Output stock sheet design t × (levels t ≤ 256))) rest
+
 abbrev pub Translates : List ℕ → List ℕ → List ℕ → List ℕ → List ℕ → Translation → Type 0
 Translates stock sheet design before after r =
     Judged (after ≡ before) (λ k. (t : Tree) × (Output stock sheet design t × (k ≡ size t) × (after ≡ sets before 0 (code t))))
-    (alphabetCheck stock (sheetCheck stock sheet (treeCheck stock design (roomCheck stock sheet design before done))))
+    (alphabetCheck stock (sheetCheck stock sheet (treeCheck stock design (roomCheck stock sheet design before (levelsCheck stock sheet design done)))))
     (translated r)

@@ -1,16 +1,16 @@
 -- What a byte says as a letter, and the trees that are over such letters: the ranked ones.
 -- Assumes nothing.
-use Prim.Native.Nat.{ℕ, _<_}
+use Prim.Native.Nat.{ℕ, _≤_, _<_}
 use mathlib.Core.Bool.{Bool, true, false}
 use mathlib.Core.Path.{_≡_, refl, sym, ap, _∙_}
 use mathlib.Core.List.{List}
 use lib.Dec.{ltb}
 use lib.ListN.{length, getD}
-use borrow.Author.Tests.{ltb-true, lt-ltb}
+use borrow.Author.Tests.{ltb-true, lt-ltb, le-ltb}
 use Rattle.theory.specs.Term.{var, node, Terms, none, more, count, Tree}
 use Rattle.theory.proofs.Terms.{conflict}
 use Rattle.trees.specs.Code.{Ranked, AllRanked}
-use Rattle.trees.specs.Inner.Decode.{symbol, Over, AllOver}
+use Rattle.trees.specs.Inner.Decode.{symbol, unknown, Over, AllOver}
 use Rattle.trees.specs.Inner.Symbols.{symbolIf, symbolOf}
 use Rattle.trees.proofs.Codes.{Faithful}
 
@@ -29,6 +29,10 @@ faithful-symbols rs = record { calls = λ x a. absurd a; symbols = λ x k n e. s
 pub symbol-there : {A : Type 0} (rs : List ℕ) (k : ℕ) → k < length rs → symbolOf {A = A} rs k ≡ symbol k (getD rs k 0)
 unfolding symbolOf
 symbol-there rs k h = simp (lt-ltb k (length rs) h)
+
+pub symbol-missing : {A : Type 0} (rs : List ℕ) (k : ℕ) → length rs ≤ k → symbolOf {A = A} rs k ≡ unknown
+unfolding symbolOf
+symbol-missing rs k h = simp (le-ltb k (length rs) h)
 
 module _ (ins : List ℕ) where
   mutual

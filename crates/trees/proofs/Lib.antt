@@ -1,9 +1,8 @@
--- Forest, Codes: trees and their codes. Letters: what bytes say. Ended: where a tree ends. Extents, Trees: measuring a tree.
+-- Forest, Codes: trees and their codes. Letters: what bytes say. Extents, Trees: measuring a tree.
 -- Stock: the file of the alphabets. Deciding, Judging: what tests and entry points answer. Laws: what the promises come to.
 pub mod Forest
 pub mod Codes
 pub mod Letters
-pub mod Ended
 pub mod Extents
 pub mod Trees
 pub mod Stock

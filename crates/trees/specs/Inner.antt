@@ -1,5 +1,4 @@
 -- What only inner functions and their proofs speak of: no promise of an entry point needs it.
 pub mod Decode
 pub mod Symbols
-pub mod Ended
 pub mod Measured

@@ -1,11 +1,11 @@
--- How an entry point answers: the first of its checks that does not hold refuses, by that check's number in document 01's table.
+-- How an entry point answers: the first of its checks that does not hold refuses, by that check's number in document 01's table or of 02.
 use Prim.Native.Nat.{ℕ}
 use mathlib.Core.Bool.{Bool, true}
 use mathlib.Core.List.{List, []}
 use mathlib.Core.Logic.{_⊎_}
 use mathlib.Core.Path.{_≡_}
 use Rattle.trees.specs.declared.refusal.Refusal.{Refusal}
-use Rattle.trees.specs.declared.refusal.Refusal.the-variants.{ShortArea, BadAlphabets, BadTree, BadContents, BadBody, LongOutput, OverLimits, FullRegistry, BadRegistry, OtherAlphabet, JoinOverLimits}
+use Rattle.trees.specs.declared.refusal.Refusal.the-variants.{ShortArea, BadAlphabets, BadTree, BadContents, BadBody, LongOutput, OverLimits, FullRegistry, BadRegistry, DeepOutput, OtherAlphabet, JoinOverLimits}
 
 -- the table of document 01, and the numbers that 02 adds
 abbrev pub refusalNumber : Refusal → ℕ
@@ -18,6 +18,7 @@ refusalNumber LongOutput = 6
 refusalNumber OverLimits = 7
 refusalNumber FullRegistry = 8
 refusalNumber BadRegistry = 9
+refusalNumber DeepOutput = 10
 refusalNumber OtherAlphabet = 16
 refusalNumber JoinOverLimits = 17
 

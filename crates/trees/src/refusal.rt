@@ -12,6 +12,7 @@ pub enum Refusal {
     OverLimits,
     FullRegistry,
     BadRegistry,
+    DeepOutput,
     OtherAlphabet,
     JoinOverLimits,
 }
@@ -30,6 +31,7 @@ pub fn number_of(r: Refusal) -> u32
         Refusal::OverLimits => 7,
         Refusal::FullRegistry => 8,
         Refusal::BadRegistry => 9,
+        Refusal::DeepOutput => 10,
         Refusal::OtherAlphabet => 16,
         Refusal::JoinOverLimits => 17,
     }

@@ -16,12 +16,6 @@ pub enum Extent {
     Bad,
 }
 
-// Where a tree of letters ends, or that there is none.
-pub enum End {
-    At(usize),
-    Bad,
-}
-
 // How many nodes and levels the tree has, or the refusal.
 pub enum TreeRead {
     Tree(usize, usize),

@@ -12,7 +12,7 @@
 //! sheet the *minimal earliest transducer*. Sheets are *joined* to the composition of two transducers.
 //!
 //! Every function answers `Result<_, u32>`, where the error is the paper's refusal number, and
-//! tests in the paper's order: 1, 9, 2, 16, 4, 5, 3, 6, 7, 8, 17. A refusal changes nothing that was
+//! tests in the paper's order: 1, 9, 2, 16, 4, 5, 3, 6, 10, 7, 8, 17. A refusal changes nothing that was
 //! lent.
 
 mod book;
@@ -45,6 +45,8 @@ pub const OVER_LIMITS: u32 = 7;
 pub const BOOK_FULL: u32 = 8;
 /// Refusal 9: not a book.
 pub const NOT_A_BOOK: u32 = 9;
+/// Refusal 10: the output tree has too many levels.
+pub const OUTPUT_TOO_DEEP: u32 = 10;
 /// Refusal 16: the output symbols of the first transducer are not the input symbols of the second.
 pub const OTHER_ALPHABET: u32 = 16;
 /// Refusal 17: the joined transducer passes a limit of transducers.
@@ -60,6 +62,8 @@ pub const MAX_RANK: u8 = 4;
 pub const MAX_NODES: usize = 4096;
 /// The most levels of an input tree; the root is level 1.
 pub const MAX_LEVELS: usize = 512;
+/// The most levels of an output tree that is given; the root is level 1.
+pub const MAX_OUTPUT_LEVELS: usize = 256;
 /// The most states.
 pub const MAX_STATES: usize = 128;
 /// The most marks of the initial term and of each right-hand side.
@@ -284,10 +288,43 @@ fn calls_each_once(term: &[u8]) -> bool {
         .all(|mark| !std::mem::replace(&mut called[usize::from(mark[0])], true))
 }
 
-/// The output tree of the transducer `file` on the input tree `tree`, of at most `limit` symbols.
-/// Refuses by 2, 4, 5, 3 and 6, the last as soon as one symbol more is due: what is built is never
-/// longer than `limit`.
+/// The output tree of the transducer `file` on the input tree `tree`, of at most `limit` symbols and
+/// [`MAX_OUTPUT_LEVELS`] levels. Refuses by 2, 4, 5, 3 and 6 as [`output_tree`] does, and then by 10.
 pub fn translate(stock: &[u8], file: &[u8], tree: &[u8], limit: usize) -> Result<Vec<u8>, u32> {
+    let output = output_tree(stock, file, tree, limit)?;
+    if levels(read_alphabets(stock)?.outputs, &output) > MAX_OUTPUT_LEVELS {
+        return Err(OUTPUT_TOO_DEEP);
+    }
+    Ok(output)
+}
+
+/// The nodes of the longest path of an output tree.
+fn levels(outputs: &[u8], tree: &[u8]) -> usize {
+    let mut levels = 0;
+    // For each node above the one at hand, how many of its sub-trees have not ended yet.
+    let mut above: Vec<u8> = Vec::new();
+    for &symbol in tree {
+        levels = levels.max(above.len() + 1);
+        let rank = outputs[usize::from(symbol)];
+        if rank > 0 {
+            above.push(rank);
+            continue;
+        }
+        while let Some(missing) = above.last_mut() {
+            *missing -= 1;
+            if *missing > 0 {
+                break;
+            }
+            above.pop();
+        }
+    }
+    levels
+}
+
+/// The output tree of the transducer `file` on the input tree `tree`, of at most `limit` symbols and
+/// any number of levels. Refuses by 2, 4, 5, 3 and 6, the last as soon as one symbol more is due: what
+/// is built is never longer than `limit`.
+pub fn output_tree(stock: &[u8], file: &[u8], tree: &[u8], limit: usize) -> Result<Vec<u8>, u32> {
     let alphabets = read_alphabets(stock)?;
     let transducer = parse_transducer(alphabets, file)?;
     let tree = parse_tree(alphabets, tree).ok_or(NOT_A_TREE)?;

@@ -1,6 +1,7 @@
 //! One case for every function: files that belong together, areas and a registry, all of it valid, or some of it
 //! damaged, cut, empty, of another kind or random bytes.
 use super::alike::{self, chain, chain_alphabets, small_alphabets, small_transducer};
+use super::deep;
 use super::joins::{self, Pair};
 use super::memory::Memory;
 use super::rows::{row_alphabets, Row};
@@ -58,15 +59,16 @@ impl Case {
 
     /// Files as they should be, or hardly over the limits. Areas may be too short.
     fn valid(random: &mut Random) -> Self {
-        let Pair { stocks: [stock, second_stock], files: [mut first, third] } = pair(random);
+        let (pair, deep) = if random.once_in(12) { deep_pair(random) } else { (pair(random), None) };
+        let Pair { stocks: [stock, second_stock], files: [mut first, third] } = pair;
         let (alphabets, sheet) = parsed(&stock, &first);
         let mut second = sheet.as_ref().map_or(first.clone(), |sheet| companion(random, &alphabets, sheet).file());
         if random.once_in(2) {
             std::mem::swap(&mut first, &mut second);
         }
-        let tree = super::input_tree(random, &alphabets);
+        let tree = deep.unwrap_or_else(|| super::input_tree(random, &alphabets));
         let limit = random.pick(&[50, 500, 500, 5_000, 50_000]);
-        let output = independent::translate(&stock, &first, &tree, limit).ok();
+        let output = independent::output_tree(&stock, &first, &tree, limit).ok();
         let (registry, entered) = registry(random, &stock, [&first, &second]);
         let parts = sheet.unwrap_or(Transducer { states: 1, terms: vec![vec![1, 0]] });
         Case {
@@ -162,6 +164,13 @@ fn pair(random: &mut Random) -> Pair {
             Pair::of(&first, &after)
         }
     }
+}
+
+/// Two transducers, with an input tree on which the output tree of the first has many levels.
+fn deep_pair(random: &mut Random) -> (Pair, Option<Vec<u8>>) {
+    let (alphabets, sheet, tree) = deep::any(random);
+    let after = after(random, &alphabets);
+    (Pair::of(&(alphabets, sheet), &after), Some(tree))
 }
 
 fn join_limits() -> &'static [Pair] {

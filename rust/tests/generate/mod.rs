@@ -5,6 +5,7 @@
 
 pub mod alike;
 pub mod cases;
+pub mod deep;
 pub mod joins;
 pub mod memory;
 pub mod rows;
@@ -377,6 +378,18 @@ pub fn address_of(plan: &[u8], outputs: &[u8], node: usize) -> Vec<u8> {
         }
     }
     unreachable!("the tree has no node {node}")
+}
+
+/// The levels of a tree over these ranks, from its leaves up.
+pub fn levels(ranks: &[u8], tree: &[u8]) -> usize {
+    let mut waiting: Vec<usize> = Vec::new();
+    for &symbol in tree.iter().rev() {
+        let left = waiting.len() - usize::from(ranks[usize::from(symbol)]);
+        let below = waiting.drain(left..).max().unwrap_or(0);
+        waiting.push(1 + below);
+    }
+    assert_eq!(waiting.len(), 1, "{tree:?} is one tree");
+    waiting[0]
 }
 
 /// The length of an area for a file: most often the least that is taken, or one byte less.

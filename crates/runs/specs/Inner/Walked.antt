@@ -1,6 +1,6 @@
 -- What a state of the second transducer writes on a right-hand side of the first, letter by letter: the marks of its own right-hand side in order, for each call what the state called
 -- writes on the child, and where it meets a call of the first, the letter of the pair.
-use Prim.Native.Nat.{ℕ, suc, _+_, _*_, _<_, _≤_}
+use Prim.Native.Nat.{ℕ, _+_, _*_, _<_, _≤_}
 use mathlib.Core.List.{List}
 use mathlib.Core.Path.{_≡_}
 use lib.ListN.{length, getD, drop}
@@ -25,11 +25,6 @@ bodyMark mids = markOf mids 128 4
 -- the terms that stand from mark number k of a body on
 abbrev pub termsAt : List ℕ → List ℕ → ℕ → Terms (ℕ × ℕ)
 termsAt mids s k = forest (bodyMark mids) (drop k (pairs s))
-
--- how many terms stand under a mark: as many as a symbol has places, and none under a call
-unfoldable pub childrenOf : List ℕ → Mark → ℕ
-childrenOf mids (ℕ.zero, x) = getD mids x 0
-childrenOf mids (suc i, x) = 0
 
 -- how many marks a body has
 abbrev pub marksOf : List ℕ → ℕ

@@ -4,7 +4,7 @@ use mathlib.Core.List.{List}
 use mathlib.Core.Path.{_≡_}
 use lib.ListN.{length}
 use lib.Seq.{sets}
-use Rattle.theory.specs.Size.{size}
+use Rattle.theory.specs.Size.{size, levels}
 use Rattle.theory.specs.Term.{Tree}
 use Rattle.theory.specs.Transducer.{Transducer, translate}
 use Rattle.trees.specs.Alphabets.{Alphabets, inputs, outputs}
@@ -32,5 +32,5 @@ pub record OutputBy (stock : List ℕ) (n : ℕ) (counts bytes s : List ℕ) (t 
 abbrev pub TranslatesBy : List ℕ → ℕ → List ℕ → List ℕ → List ℕ → List ℕ → List ℕ → Translation → Type 0
 TranslatesBy stock n counts bytes s before after r =
     Judged (after ≡ before) (λ k. (t : Tree) × (OutputBy stock n counts bytes s t × (k ≡ size t) × (after ≡ sets before 0 (code t))))
-    (treeCheck stock s (check 6 ((t : Tree) × (OutputBy stock n counts bytes s t × (size t ≤ length before))) done))
+    (treeCheck stock s (check 6 ((t : Tree) × (OutputBy stock n counts bytes s t × (size t ≤ length before))) (check 10 ((t : Tree) × (OutputBy stock n counts bytes s t × (levels t ≤ 256))) done)))
     (translated r)

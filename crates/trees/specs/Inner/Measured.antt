@@ -1,4 +1,4 @@
--- What measuring a tree answers: where it ends and how many levels it has.
+-- What measuring a tree answers: where it ends, counted in letters, and how many levels it has.
 use Prim.Native.Nat.{ℕ, _+_, _≤_, _<_}
 use mathlib.Core.Bool.{Bool, true, false}
 use mathlib.Core.List.{List}
@@ -7,6 +7,7 @@ use lib.Dec.{leb}
 use lib.ListN.{length, getD, drop}
 use Rattle.theory.specs.Term.{Terms, none, more}
 use Rattle.theory.specs.Size.{size, levels}
+use Rattle.theory.specs.Inner.Forests.{letters}
 use Rattle.trees.specs.Inner.Symbols.{tree, IsTree}
 use Rattle.trees.specs.declared.tree.Extent.{Extent}
 use Rattle.trees.specs.declared.tree.Extent.the-variants.{Tree, Bad}
@@ -16,9 +17,9 @@ treeIf true r = r
 treeIf false r = Bad
 
 -- of the trees from position at on, the first, if it has at most `room` levels
-unfoldable pub measured : ℕ → ℕ → Terms ⊥ → Extent
+unfoldable pub measured : {A : Type 0} → ℕ → ℕ → Terms A → Extent
 measured room at none = Bad
-measured room at (more t ts) = treeIf (leb (levels t) room) (Tree (at + size t) (levels t))
+measured room at (more t ts) = treeIf (leb (levels t) room) (Tree (at + letters t) (levels t))
 
 -- where the tree at position k ends
 abbrev pub endAt : List ℕ → List ℕ → ℕ → ℕ

@@ -70,7 +70,7 @@ const COMMANDS: &[Command] = &[
         words: (3, 3),
         choices: &[MOST, OUTPUT, PLAN],
         does: "give the plan that a sheet gives on a design",
-        more: "",
+        more: "A plan has at most 256 levels, the top block being level 1; one of more is refused by 10.",
         example: "caplune sew stock.txt t.txt design.txt",
         run: sew,
     },
@@ -79,7 +79,7 @@ const COMMANDS: &[Command] = &[
         takes: "STOCK SHEET DESIGN PLACE",
         words: (4, 4),
         choices: &[],
-        does: "give the block at a place of the plan, however large the plan is",
+        does: "give the block at a place of the plan, however large and deep the plan is",
         more: "A place is written 2.1, from the top on, sub-trees counting from 1; the top itself is `-`.\n\
                Where the plan has no such place, the answer is `no such place`.",
         example: "caplune place stock.txt t.txt design.txt 2.1",

@@ -1,5 +1,5 @@
 -- `skip_marks` meets its contract. Assumes nothing.
-use Prim.Native.Nat.{_<_}
+use Prim.Native.Nat.{_-_, _<_}
 use mathlib.Core.Path.{_≡_, sym, ap, _∙_}
 use native.Mathlib.Omega.{arith}
 use borrow.Author.Needs.{needs}
@@ -9,7 +9,9 @@ use Rattle.theory.specs.Term.{count}
 use Rattle.trees.specs.Inner.Decode.{forest, rests}
 use Rattle.formats.specs.Inner.Layout.{markOf, pairs}
 use Rattle.formats.specs.Inner.Marked.{part}
-use Rattle.queries.proofs.Following.{next-mark, no-mark}
+use Rattle.trees.proofs.Extents.{enough-room}
+use Rattle.formats.proofs.Marks.{marks-length}
+use Rattle.queries.proofs.Following.{in-part, next-mark}
 use Rattle.queries.proofs.address.skip_marks.Statement.{statement}
 use Rattle.queries.proofs.address.skip_marks.Tie as tie
 
@@ -22,8 +24,14 @@ abbrev μ-loop : tie.MeasureT-loop
 loop-holds : tie.Need-loop-holds Inv-loop μ-loop
 loop-holds c = search needs
 
-mark-end-requires : tie.Need-mark-end-requires Inv-loop μ-loop
-mark-end-requires c κs = search needs
+sub-measure-marks : tie.Need-sub-measure-marks Inv-loop μ-loop
+sub-measure-marks c =
+    let a = c .before .before .before .before .args in
+    let l = c .before .loop in
+    omega (arith, in-part (now (a .outs)) (a .n) (a .r) (now (a .marks)) (l .p) (a .to) (c .before .before .before .before .pre .0) (omega (arith, l .inv .0)))
+
+measure-marks-requires : tie.Need-measure-marks-requires Inv-loop μ-loop
+measure-marks-requires c κs = search needs
 
 enum-known-e : tie.Need-enum-known-e Inv-loop μ-loop
 enum-known-e c = search needs
@@ -38,8 +46,7 @@ loop-again : tie.Need-loop-again Inv-loop μ-loop
 loop-again c =
     let a = c .before .before .before .before .before .before .before .before .args in
     let l = c .before .before .before .before .before .loop in
-    let x = c .before .e .given in
-    let w = next-mark (markOf (now (a .outs)) (a .n) (a .r)) (take (a .to) (pairs (now (a .marks)))) (l .p) (l .left) (c .before .before .before .before .loop-test .taken) (l .inv .0) (x .0 .0) (sym (c .before .before .before .mark-end .ensures) ∙ x .1) in
+    let w = next-mark (markOf (now (a .outs)) (a .n) (a .r)) (take (a .to) (pairs (now (a .marks)))) (a .to - l .p) (l .p) (l .left) _ _ (c .before .before .before .before .loop-test .taken) (l .inv .0) (sym (c .before .before .before .measure-marks .ensures) ∙ c .before .e .given .1) in
     (w .0, w .1 ∙ l .inv .1)
 
 enum-told : tie.Need-enum-told Inv-loop μ-loop
@@ -49,7 +56,8 @@ returns : tie.Need-returns Inv-loop μ-loop
 returns c =
     let a = c .before .before .before .before .before .before .before .args in
     let l = c .before .before .before .before .loop in
-    absurd (no-mark (markOf (now (a .outs)) (a .n) (a .r)) (take (a .to) (pairs (now (a .marks)))) (l .p) (l .left) (c .before .before .before .loop-test .taken) (l .inv .0) (sym (c .before .before .mark-end .ensures) ∙ c .enum-told .given .1))
+    let z = marks-length (now (a .marks)) (a .to) (c .before .before .before .before .before .before .before .pre .0) in
+    absurd (enough-room (markOf (now (a .outs)) (a .n) (a .r)) (0, 0) (take (a .to) (pairs (now (a .marks)))) (l .p) (a .to - l .p) (omega (arith, l .inv .0)) (omega arith) (sym (c .before .before .measure-marks .ensures) ∙ c .enum-told .given .1))
 
 returns-2 : tie.Need-returns-2 Inv-loop μ-loop
 unfolding rests
@@ -66,7 +74,8 @@ skip-marks-spec =
     Inv-loop
     μ-loop
     loop-holds
-    mark-end-requires
+    sub-measure-marks
+    measure-marks-requires
     enum-known-e
     sub-left
     loop-less

@@ -6,7 +6,7 @@ use denote.Ref.{now}
 use Rattle.trees.specs.Refusal.{done as no-more}
 use Rattle.trees.specs.Tree.{treeCheck}
 use Rattle.formats.proofs.Verdicts.{accepted-alphabets, accepted-states, accepted-long}
-use Rattle.transducer.specs.Answers.{roomCheck}
+use Rattle.transducer.specs.Answers.{roomCheck, levelsCheck}
 use Rattle.transducer.proofs.Opening.{opened-at, opened-machine, not-opened}
 use Rattle.transducer.proofs.Translating.{file-translates}
 use Rattle.transducer.proofs.translate.translate.Statement.{statement}
@@ -54,7 +54,7 @@ returns c = file-translates (opened-at (now (c .before .before .before .before .
 returns-2 : tie.Need-returns-2
 returns-2 c =
     let a = c .before .before .before .before .before .before .before .before .args in
-    not-opened (now (a .stock)) (now (a .sheet)) (treeCheck (now (a .stock)) (now (a .design)) (roomCheck (now (a .stock)) (now (a .sheet)) (now (a .design)) (now (a .out)) no-more)) refl (c .before .before .before .read-transducer .ensures) (c .before .r .given .1)
+    not-opened (now (a .stock)) (now (a .sheet)) (treeCheck (now (a .stock)) (now (a .design)) (roomCheck (now (a .stock)) (now (a .sheet)) (now (a .design)) (now (a .out)) (levelsCheck (now (a .stock)) (now (a .sheet)) (now (a .design)) no-more))) refl (c .before .before .before .read-transducer .ensures) (c .before .r .given .1)
 
 pub translate-spec : {M : Type 1} → statement M
 translate-spec =
