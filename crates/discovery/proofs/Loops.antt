@@ -1,10 +1,10 @@
 -- What the loops answer that add the bodies of a transducer: how many states have been met, or that the form is over the limits of a file.
 -- Assumes nothing.
-use Prim.Native.Nat.{ℕ, suc, _≤_}
+use Prim.Native.Nat.{ℕ, _≤_}
 use native.Mathlib.Omega.{arith}
 use mathlib.Core.List.{List}
-use mathlib.Core.Path.{_≡_, refl}
-use lib.ListN.{length, getD, set, replicate, length-set, length-replicate}
+use mathlib.Core.Path.{_≡_}
+use lib.ListN.{length, set, replicate, length-set, length-replicate}
 use lib.Seq.{getD-set-same}
 use Rattle.theory.specs.Transducer.{Transducer}
 use Rattle.theory.proofs.Terms.{conflict}
@@ -15,25 +15,15 @@ use Rattle.discovery.specs.Inner.Letters.{spelt}
 use Rattle.discovery.specs.Inner.Bodies.{TooLarge, AddsBody}
 use Rattle.discovery.specs.Inner.Discovering.{ByNumbers, Empty, Found, Adds, AddsAll, Discovers}
 use Rattle.discovery.proofs.Finished.{found-layout, found-packed, found-met}
+use Rattle.discovery.proofs.Queues.{queue-none}
 use Rattle.discovery.proofs.Stages.{found-initial}
 use Rattle.discovery.proofs.TooLarge.{initial-over}
 
 -- ---- the start
-getD-zero : (n i : ℕ) → _≡_ {A = ℕ} (getD (replicate n 0) i 0) 0
-getD-zero ℕ.zero i = refl
-getD-zero (suc n) ℕ.zero = refl
-getD-zero (suc n) (suc i) = getD-zero n i
-
 -- nothing is there: no state has been met, and the first body starts at the first mark
 pub empty-start : (starts out : List ℕ) (n w : ℕ) → n ≡ 192 → 2050 ≤ length starts → length out ≡ 16384 → Empty w (set starts 0 0) out (replicate n 0) (replicate w 0)
 empty-start starts out n w e h g = record {
-  queue = record {
-    long = omega (arith, length-replicate {A = ℕ} n 0);
-    few = omega arith;
-    small = λ k l. absurd (omega arith);
-    number = λ k l. absurd (omega arith);
-    back = λ c l. absurd (omega (arith, getD-zero w c));
-  };
+  queue = queue-none n w e;
   wide = length-replicate {A = ℕ} w 0;
   long = omega (arith, length-set starts 0 0);
   room = g;

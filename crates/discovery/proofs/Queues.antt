@@ -11,13 +11,14 @@ use mathlib.Core.List.{List, [], _∷_, _++_}
 use mathlib.Core.Option.{some, Option·some-injective}
 use borrow.Author.Tests.{lt-ltb, le-ltb, ltb-false}
 use lib.Dec.{ltb}
-use lib.ListN.{length, getD, getElem?, take, set, length-set, length-append, List·getD-append, length-map}
+use lib.ListN.{length, getD, getElem?, take, set, replicate, length-set, length-replicate, length-append, List·getD-append, length-map}
 use lib.Seq.{sets, getD-set-same, getD-set-other, take-suc, take-suc-set, take-all, length-take-le, length-sets, getD-append-add}
 use Rattle.theory.specs.Inner.ReadCalls.{ReadCalls, no-call, one-call}
 use Rattle.theory.specs.Registry.{found, added}
 use Rattle.theory.specs.Term.{Term, var, node, Terms, none, more, bind, binds, mapT}
 use Rattle.theory.specs.Transducer.{renamed}
 use Rattle.theory.proofs.Discovery.{callsOf, callsIn}
+use Rattle.theory.proofs.Pigeon.{pigeon}
 use Rattle.theory.proofs.Terms.{conflict}
 use Rattle.trees.specs.Code.{Ranked, AllRanked, Call, preorder, preorders, marks}
 use Rattle.formats.specs.Sheet.{markBytes}
@@ -47,7 +48,27 @@ take-get (y ∷ l) ℕ.zero i e = conflict (cc)
 take-get (y ∷ l) (suc n) ℕ.zero e = (omega arith, Option·some-injective _ _ e)
 take-get (y ∷ l) (suc n) (suc i) e = let r = take-get l n i e in (omega arith, r .1)
 
+-- ---- the states met
+getD-zero : (n i : ℕ) → _≡_ {A = ℕ} (getD (replicate n 0) i 0) 0
+getD-zero ℕ.zero i = refl
+getD-zero (suc n) ℕ.zero = refl
+getD-zero (suc n) (suc i) = getD-zero n i
+
+-- none at first
+pub queue-none : (n w : ℕ) → n ≡ 192 → Queue (replicate n 0) (replicate w 0) 0
+queue-none n w e = record {
+  long = omega (arith, length-replicate {A = ℕ} n 0);
+  few = omega arith;
+  small = λ k l. absurd (omega arith);
+  number = λ k l. absurd (omega arith);
+  back = λ c l. absurd (omega (arith, getD-zero w c));
+}
+
 module _ {list place : List ℕ} {met : ℕ} (Q : Queue list place met) where
+  -- there are no more of them than places, since no two have one place
+  pub queue-few : met ≤ length place
+  queue-few = pigeon (length place) met (λ k l. getD list k 0) (λ k l. Q .small k l) (λ i j k l e. omega (arith, Q .number i k, Q .number j l, ap (λ c. getD place c 0) e))
+
   -- a state that has a place stands there
   pub enter-old : (c : ℕ) → 0 < getD place c 0 → Entered list place met c list place met
   enter-old c h =

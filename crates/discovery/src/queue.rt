@@ -19,7 +19,7 @@ pub fn letter(x: u32) -> usize
 }
 
 // Gives state c the next number, unless it has one, and says how many states have one.
-fn enter(list: &mut [u16], place: &mut [u8], met: usize, c: usize) -> usize
+pub fn enter(list: &mut [u16], place: &mut [u8], met: usize, c: usize) -> usize
     requires { ⌜ Queue (now list) (now place) met × (met < 192) × (c < length (now place)) × (c < 65536) ⌝ }
     ensures { λ n. ⌜ Entered (now (list .entry)) (now (place .entry)) met c (now (list .exit)) (now (place .exit)) n ⌝ }
 {

@@ -12,9 +12,11 @@ use Rattle.theory.specs.Discovered.{ReadRhs, no-rhs, skip-rhs, read-rhs, ReadSt
 use Rattle.theory.specs.Earliest.{Shows, Splits}
 use Rattle.theory.specs.Equivalent.{EquivStates}
 use Rattle.theory.specs.Grammar.{Allowed, AllAllowed, rule, end, next}
+use Rattle.theory.specs.Linear.{Linear}
 use Rattle.theory.specs.NormalForm.{Identical}
 use Rattle.theory.specs.Pref.{IsPref}
 use Rattle.theory.specs.Prefix.{Pattern}
+use Rattle.theory.specs.Reached.{Reached, by-initial, by-rhs}
 use Rattle.theory.specs.Term.{Tree, Terms}
 use Rattle.theory.specs.Transducer.{Transducer}
 use Rattle.theory.specs.Trimmed.{Trimmed}
@@ -51,6 +53,11 @@ module _ {ins : List ℕ} (l l′ : Leaf ins) where
     splits-leaf : {q : Q} {v : List ℕ} → Splits (alphabet ins l) M q v → Splits (alphabet ins l′) M q v
     splits-leaf s = record { one = s .one; two = s .two; shows-one = shows-leaf (s .shows-one); shows-two = shows-leaf (s .shows-two); differ = s .differ }
 
+    reached-leaf : {q : Q} → Reached (alphabet ins l) M q → Reached (alphabet ins l′) M q
+    unfolding alphabet
+    reached-leaf (by-initial c) = by-initial c
+    reached-leaf (by-rhs r e c) = by-rhs (reached-leaf r) e c
+
     rhs-leaf : {q : Q} {L L′ : List Q} {a : ℕ} → ReadRhs (alphabet ins l) M q L a L′ → ReadRhs (alphabet ins l′) M q L a L′
     unfolding alphabet
     rhs-leaf no-rhs = no-rhs
@@ -68,6 +75,10 @@ module _ {ins : List ℕ} (l l′ : Leaf ins) {Q : Type 0} {M : Transducer Q} wh
 
   pub pref-leaf : {q : Q} {h : Pattern} → IsPref (alphabet ins l) M q h → IsPref (alphabet ins l′) M q h
   pref-leaf P = record { common = λ d ok. P .common d (allowed-leaf l′ l ok); splits = λ w o. splits-leaf l l′ (P .splits w o) }
+
+  pub linear-leaf : Linear (alphabet ins l) M → Linear (alphabet ins l′) M
+  unfolding alphabet
+  linear-leaf L = record { initial = L .initial; rhs = λ q a r e. L .rhs q a (reached-leaf l′ l r) e }
 
   pub trimmed-leaf : {Valid : Q → Type 0} {N : Transducer ℕ} {k : ℕ} → Trimmed (alphabet ins l) M Valid N k → Trimmed (alphabet ins l′) M Valid N k
   trimmed-leaf T = record { prefix = T .prefix; prefs = λ q v. pref-leaf (T .prefs q v); states = T .states; number = T .number; numbers = T .numbers; met = states-leaf l l′ (T .met); form = identical-leaf l l′ (T .form) }

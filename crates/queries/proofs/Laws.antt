@@ -2,30 +2,39 @@
 -- Assumes nothing.
 use Prim.Native.Nat.{ℕ, _≤_, _<_}
 use native.Mathlib.Omega.{arith}
-use mathlib.Core.Bool.{Bool}
+use mathlib.Core.Bool.{Bool, true, false}
 use mathlib.Core.List.{List}
-use mathlib.Core.Path.{_≡_, sym, ap, _∙_}
+use mathlib.Core.Path.{_≡_, refl, sym, ap, _∙_}
 use lib.ListN.{length, take}
 use lib.Seq.{sets-eq, take-at}
+use Rattle.theory.specs.Grammar.{Grammar}
+use Rattle.theory.specs.Linear.{Linear}
+use Rattle.theory.specs.NormalForm.{Identical}
+use Rattle.theory.specs.Reached.{AllReached}
 use Rattle.theory.specs.Size.{size}
 use Rattle.theory.specs.Term.{Tree, symbolAt}
 use Rattle.theory.specs.Transducer.{Transducer}
+use Rattle.theory.proofs.Identity.{identical-sym, identical-wf}
+use Rattle.theory.proofs.Reach.{linear-all, identical-linear}
 use Rattle.trees.specs.Alphabets.{Alphabets, inputs, outputs}
 use Rattle.trees.specs.Code.{code}
 use Rattle.trees.specs.Refusal.{accepted, Holds, Decides}
 use Rattle.formats.specs.Sheet.{Sheet}
 use Rattle.trees.proofs.Deciding.{decides-same}
 use Rattle.trees.proofs.Judging.{accepted-holds, must-accept}
-use Rattle.formats.proofs.Sheets.{sheet-counted, sheet-unique}
+use Rattle.formats.proofs.Sheets.{sheet-counted}
 use Rattle.transducer.specs.Answers.{Translates}
 use Rattle.transducer.specs.Output.{Output}
 use Rattle.transducer.specs.declared.translate.Translation.the-variants.{Symbols}
 use Rattle.transducer.proofs.Laws.{file-output-unique, files-hold}
 use Rattle.transducer.proofs.Outputs.{code-size}
+use Rattle.forms.specs.Alphabet.{alphabet, children-inside, children-of}
+use Rattle.forms.proofs.Files.{encoded-wf}
 use Rattle.queries.specs.Answers.{linearTest, TestsLinear, found, named, FindsSymbol}
-use Rattle.queries.specs.Linear.{Linear}
+use Rattle.queries.specs.Linear.{AllOnce}
 use Rattle.queries.specs.declared.address.Found.{Found}
 use Rattle.queries.specs.declared.linear.LinearTest.{LinearTest}
+use Rattle.queries.proofs.Reached.{of-file, to-file}
 
 -- ---- the reader of one symbol
 module _ {stock sheet design : List ℕ} {t : Tree} (A : Alphabets stock) (O : Output stock sheet design t) where
@@ -46,15 +55,52 @@ agree stock sheet design before after k v r J F =
     (t, (ap (take k) (a ∙ sets-eq (code t) before 0 (omega arith)) ∙ take-at (code t) _ k (n ∙ sym z), must-find (w .0) O v r F))
 
 -- ---- the linear test
--- what a file says of its transducer being linear, it says of each that it encodes
-linear-same : {ins outs s : List ℕ} {n n′ : ℕ} {M M′ : Transducer ℕ} → Sheet ins outs s n M → Sheet ins outs s n′ M′ → Linear (length ins) n M → Linear (length ins) n′ M′
-linear-same {ins} {outs} {s} {n} {n′} {M} {M′} S S′ L =
-    let u = sheet-unique ins outs s n n′ M M′ S S′ in
-    record { initial = rw (← u .3) (L .initial); rhs = λ q a h g. let h′ : q < n = omega (arith, u .0) in rw (← u .4 q a h′ g) (L .rhs q a h′ g) }
+-- a question has one answer
+decides-one : {P : Type 0} (b b′ : Bool) → Decides P b → Decides P b′ → b ≡ b′
+decides-one true true D D′ = refl
+decides-one true false D D′ = sym (D′ .complete (D .sound refl))
+decides-one false true D D′ = D .complete (D′ .sound refl)
+decides-one false false D D′ = refl
 
--- of the file of a transducer the answer is yes or no, and yes exactly if the transducer is linear
-pub must-test : {stock s : List ℕ} {n : ℕ} {M : Transducer ℕ} → Alphabets stock → Sheet (inputs stock) (outputs stock) s n M → (r : LinearTest) → TestsLinear stock s r → (b : Bool) × ((linearTest r ≡ accepted b) × Decides (Linear (length (inputs stock)) n M) b)
-unfolding Holds
-must-test {n = n} {M = M} A S r J =
-    let (b, (e, (m, (N, (S′, D))))) = must-accept (A, (sheet-counted S, ((n, (M, S)), tt))) J in
-    (b, (e, decides-same (linear-same S′ S) (linear-same S S′) D))
+module _ {stock s : List ℕ} {n : ℕ} {M : Transducer ℕ} (A : Alphabets stock) (S : Sheet (inputs stock) (outputs stock) s n M) where
+  abbrev G : Grammar
+  G = alphabet (inputs stock) (A .leaf)
+
+  -- of the file of a transducer the answer is yes or no, and yes exactly if the transducer is linear
+  pub must-test : (r : LinearTest) → TestsLinear stock s r → (b : Bool) × ((linearTest r ≡ accepted b) × Decides (Linear G M) b)
+  unfolding Holds
+  must-test r J =
+      let (b, (e, D)) = must-accept (A, (sheet-counted S, ((n, (M, S)), tt))) J in
+      (b, (e, decides-same (of-file (A .leaf) S) (to-file A S) D))
+
+  -- where every state is reached, yes exactly if no right-hand side calls a child twice: the test of 01
+  pub must-test-all : AllReached G M n → (r : LinearTest) → TestsLinear stock s r → (b : Bool) × ((linearTest r ≡ accepted b) × Decides (AllOnce (length (inputs stock)) n M) b)
+  unfolding alphabet
+  must-test-all all r J =
+      let (b, (e, D)) = must-test r J in
+      let w = linear-all (encoded-wf (A .ins .few) (A .leaf) (S .encodes)) all in (
+        b,
+        (
+          e,
+          decides-same
+              (λ L. record { initial = w .0 L .0; rhs = λ q a h g. w .0 L .1 q a _ h (children-of (inputs stock) a g) })
+              (λ O. w .1 (O .initial, λ q a sorts h k. O .rhs q a h (children-inside (inputs stock) a k .0)))
+              D,
+        ),
+      )
+
+-- with more states, none of which these call, the answer is the same
+pub must-test-more : {stock s s′ : List ℕ} {n n′ : ℕ} {M M′ : Transducer ℕ} → Alphabets stock → Sheet (inputs stock) (outputs stock) s n M → Sheet (inputs stock) (outputs stock) s′ n′ M′
+    → n ≤ n′ → M .initial ≡ M′ .initial → ((q a : ℕ) → q < n → a < length (inputs stock) → M .rhs q a ≡ M′ .rhs q a) → (r r′ : LinearTest) → TestsLinear stock s r → TestsLinear stock s′ r′ → linearTest r ≡ linearTest r′
+unfolding alphabet
+must-test-more {stock} {n = n} {M = M} {M′} A S S′ h e f r r′ J J′ =
+    let (b, (x, D)) = must-test A S r J in
+    let (b′, (x′, D′)) = must-test A S′ r′ J′ in
+    let i : Identical (alphabet (inputs stock) (A .leaf)) M M′ n n = record {
+      number = refl;
+      initial = e;
+      sort = λ p l. S .encodes .over .sort p l ∙ sym (S′ .encodes .over .sort p (omega arith));
+      rhs = λ p a sorts l k. f p a l (children-inside (inputs stock) a k .0);
+    } in
+    let W = encoded-wf (A .ins .few) (A .leaf) (S .encodes) in
+    x ∙ (ap accepted (decides-one b b′ (decides-same (identical-linear W i) (identical-linear (identical-wf i W) (identical-sym i)) D) D′) ∙ sym x′)

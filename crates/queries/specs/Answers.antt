@@ -4,16 +4,14 @@ use mathlib.Core.Bool.{Bool, true, false}
 use mathlib.Core.List.{List}
 use mathlib.Core.Option.{Option, some, none as nothing}
 use mathlib.Core.Path.{_≡_}
-use lib.ListN.{length}
 use Rattle.theory.specs.Term.{Symbol, Tree, symbolAt}
-use Rattle.theory.specs.Transducer.{Transducer}
-use Rattle.trees.specs.Alphabets.{inputs, outputs, alphabetCheck}
+use Rattle.trees.specs.Alphabets.{alphabetCheck}
 use Rattle.trees.specs.Answers.{Nothing}
 use Rattle.trees.specs.Refusal.{refusalNumber, Outcome, accepted, refused, done, Judged, Decides}
-use Rattle.formats.specs.Sheet.{Sheet, sheetCheck}
+use Rattle.formats.specs.Sheet.{sheetCheck}
 use Rattle.trees.specs.Tree.{treeCheck}
 use Rattle.transducer.specs.Output.{Output}
-use Rattle.queries.specs.Linear.{Linear}
+use Rattle.queries.specs.Linear.{LinearFile}
 use Rattle.queries.specs.declared.address.Found.{Found}
 use Rattle.queries.specs.declared.address.Found.the-variants as finding
 use Rattle.queries.specs.declared.linear.LinearTest.{LinearTest}
@@ -27,7 +25,7 @@ linearTest (linear.Refused r) = refused (refusalNumber r)
 
 abbrev pub TestsLinear : List ℕ → List ℕ → LinearTest → Type 0
 TestsLinear stock s r =
-    Judged Nothing (λ b. (n : ℕ) × ((M : Transducer ℕ) × (Sheet (inputs stock) (outputs stock) s n M × Decides (Linear (length (inputs stock)) n M) b)))
+    Judged Nothing (Decides (LinearFile stock s))
     (alphabetCheck stock (sheetCheck stock s done))
     (linearTest r)
 

@@ -1,21 +1,21 @@
--- Linear transducers (01: single sheets): in the initial term, and in each right-hand side, no child is called twice.
-use Prim.Native.Nat.{ℕ, _+_, _<_, _≤_}
-use lib.Dec.{eqb}
-use Rattle.theory.specs.Term.{Term, var, node, Terms, none, more}
+-- Files of linear transducers (01: single sheets; 02: the lines that can be met).
+use Prim.Native.Nat.{ℕ, _<_}
+use mathlib.Core.List.{List}
+use Rattle.theory.specs.Linear.{Once, Linear}
 use Rattle.theory.specs.Transducer.{Transducer}
-use Rattle.theory.specs.Weight.{oneIf}
+use Rattle.trees.specs.Alphabets.{Alphabets, inputs, outputs}
+use Rattle.formats.specs.Sheet.{Sheet}
+use Rattle.forms.specs.Alphabet.{alphabet}
 
--- how many calls a term makes on child i
-unfoldable mutual
-  pub calls : ℕ → Term (ℕ × ℕ) → ℕ
-  calls i (var e) = oneIf (eqb (e .0) i)
-  calls i (node k ts) = callsIn i ts
+-- s is the file of a transducer that is linear: no child is called twice in its initial term, nor in a right-hand side of a state that is reached from it
+pub record LinearFile (stock s : List ℕ) : Type 0 where
+  pub alphabets : Alphabets stock
+  pub states : ℕ
+  pub machine : Transducer ℕ
+  pub sheet : Sheet (inputs stock) (outputs stock) s states machine
+  pub linear : Linear (alphabet (inputs stock) (alphabets .leaf)) machine
 
-  pub callsIn : ℕ → Terms (ℕ × ℕ) → ℕ
-  callsIn i none = 0
-  callsIn i (more t ts) = calls i t + callsIn i ts
-
--- M with the states below n, over P input symbols
-pub record Linear (P n : ℕ) (M : Transducer ℕ) : Type 0 where
-  pub initial : (i : ℕ) → calls i (M .initial) ≤ 1
-  pub rhs : (q a : ℕ) → q < n → a < P → (i : ℕ) → calls i (M .rhs q a) ≤ 1
+-- no child is called twice in the initial term, nor in a right-hand side of any of n states over P input symbols, reached or not (01, before 02)
+pub record AllOnce (P n : ℕ) (M : Transducer ℕ) : Type 0 where
+  pub initial : Once (M .initial)
+  pub rhs : (q a : ℕ) → q < n → a < P → Once (M .rhs q a)

@@ -68,7 +68,8 @@ M-shares : Says (prefix pairs M 0 M-pref)
 M-shares = (1, (M-machine, (M-sheet, omega arith, M-is-pref)))
 
 T-calls-twice : Says (not-linear S T)
-T-calls-twice = (1, (T-machine, (T-sheet, T-not-linear)))
+unfolding Holds
+T-calls-twice = ((S-alphabets, (sheet-counted T-sheet, ((1, (T-machine, T-sheet)), tt))), T-not-linear)
 
 T-T′-U-registered : Says (registers S 60 ((U, 2) ∷ (T′, 1) ∷ (T, 1) ∷ []) 56 3)
 T-T′-U-registered = record { one = possible; every = three-registered }

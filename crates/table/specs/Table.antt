@@ -16,7 +16,7 @@ use Rattle.formats.specs.Sheet.{Sheet, file, sheetCheck}
 use Rattle.trees.specs.Tree.{treeCheck}
 use Rattle.transducer.specs.Answers.{translated, roomCheck, levelsCheck, Translates}
 use Rattle.transducer.specs.declared.translate.Translation.{Translation}
-use Rattle.queries.specs.Linear.{Linear}
+use Rattle.queries.specs.Linear.{LinearFile}
 use Rattle.transducer.specs.Output.{Output}
 use Rattle.forms.specs.Alphabet.{alphabet}
 use Rattle.earliest.specs.Answers.{EarliestFile, formCheck}
@@ -32,7 +32,7 @@ pub data Row : Type 0 where
   translates : (stock sheet design plan : List ℕ) → Row
   -- with an area of k bytes the translation (01: sewing) is accepted
   fits : (stock sheet design : List ℕ) (k : ℕ) → Row
-  -- the transducer of the sheet is not linear (01: single)
+  -- the sheet is accepted, and its transducer is not linear (01: single; 02: by the lines that can be met)
   not-linear : (stock sheet : List ℕ) → Row
   -- pref(q) of this state of the transducer of the sheet is the pattern (01: its head)
   prefix : (stock sheet : List ℕ) (state : ℕ) (pattern : Pattern) → Row
@@ -84,7 +84,7 @@ abbrev pub Says : Row → Type 0
 Says (alphabets stock) = Alphabets stock
 Says (translates stock sheet design plan) = (t : Tree) × (Output stock sheet design t × (code t ≡ plan))
 Says (fits stock sheet design k) = Fits stock sheet design k
-Says (not-linear stock sheet) = (n : ℕ) × ((M : Transducer ℕ) × (Sheet (inputs stock) (outputs stock) sheet n M × (Linear (length (inputs stock)) n M → ⊥)))
+Says (not-linear stock sheet) = Holds (alphabetCheck stock (sheetCheck stock sheet done)) × (LinearFile stock sheet → ⊥)
 Says (prefix stock sheet state pattern) = (n : ℕ) × ((M : Transducer ℕ) × (Sheet (inputs stock) (outputs stock) sheet n M × (state < n) × ((l : Leaf (inputs stock)) → IsPref (alphabet (inputs stock) l) M state pattern)))
 Says (cleans stock sheet clean) = (k : ℕ) × ((counts : List ℕ) × ((bytes : List ℕ) × (Clean stock sheet k counts bytes × (file k counts bytes ≡ clean))))
 Says (normal stock sheet states marks) = (counts : List ℕ) × ((bytes : List ℕ) × (Clean stock sheet states counts bytes × (length bytes ≡ 2 * marks)))

@@ -1,6 +1,6 @@
 -- The states that are reached: the least set with the states of the initial term that goes with the calls; they are those of the list in the order of first meeting.
-use Prim.Native.Nat.{ℕ}
-use mathlib.Core.Path.{_≡_}
+use Prim.Native.Nat.{ℕ, _<_}
+use mathlib.Core.Path.{_≡_, sym}
 use mathlib.Core.Logic.{_↔_}
 use mathlib.Core.List.{List}
 use mathlib.Core.Option.{some}
@@ -9,12 +9,14 @@ use Rattle.theory.specs.Discovered.{Discovered}
 use Rattle.theory.specs.Grammar.{Grammar}
 use Rattle.theory.specs.Inner.Closed.{Listed, Closed}
 use Rattle.theory.specs.Linear.{Once, Linear}
+use Rattle.theory.specs.NormalForm.{Identical}
 use Rattle.theory.specs.Reached.{Reached, by-initial, by-rhs}
 use Rattle.theory.specs.Term.{Term}
 use Rattle.theory.specs.Transducer.{Transducer}
 use Rattle.theory.specs.Vars.{AllVars}
 use Rattle.theory.specs.Wf.{Wf, Fits}
 use Rattle.theory.proofs.Discovery.{states-valid}
+use Rattle.theory.proofs.Identity.{identical-sym, identical-wf}
 use Rattle.theory.proofs.Listings.{all-both}
 use Rattle.theory.proofs.Vars.{all-at, all-map, at-all}
 
@@ -62,3 +64,26 @@ reached-listed {L} {idx} C = reached-least (Listed L idx) (C .initial) (λ q a s
 pub linear-all : {Q : Type 0} {G : Grammar} {M : Transducer Q} {Valid : Q → Type 0} → Wf G M Valid → ((q : Q) → Valid q → Reached G M q)
     → Linear G M ↔ (Once (M .initial) × ((q : Q) (a : ℕ) (sorts : List ℕ) → Valid q → G .children (M .sort q) a ≡ some sorts → Once (M .rhs q a)))
 linear-all W all = (λ l. (l .initial, λ q a sorts v k. l .rhs q a (all q v) k), λ h. record { initial = h .0; rhs = λ q a r k. h .1 q a _ (reached-valid W r) k })
+
+-- identical transducers reach the same states
+pub identical-reached : {G : Grammar} {M M′ : Transducer ℕ} {n n′ : ℕ} → Wf G M (λ q. q < n) → Identical G M M′ n n′ → {q : ℕ} → Reached G M q → Reached G M′ q
+identical-reached {G} {M} {M′} {n} W i r =
+    reached-least (λ q. (q < n) × Reached G M′ q)
+    (all-both (all-map (λ e f. f .valid) (W .initial)) (rw (i .initial) (reached-initial G M′)))
+    (λ q a sorts p k.
+    let t : M .rhs q a ≡ M′ .rhs q a = i .rhs q a sorts (p .0) k in
+    let k′ : G .children (M′ .sort q) a ≡ some sorts = rw (i .sort q (p .0)) at k in
+    all-both (all-map (λ e f. f .valid) (W .rhs q a (p .0) k)) (rw t (reached-rhs G M′ q a (p .1) k′)))
+    r .1
+
+-- so both are linear, or none
+pub identical-linear : {G : Grammar} {M M′ : Transducer ℕ} {n n′ : ℕ} → Wf G M (λ q. q < n) → Identical G M M′ n n′ → Linear G M → Linear G M′
+identical-linear {G} {M} {M′} W i l = record {
+  initial = rw (← i .initial) (l .initial);
+  rhs = λ q a r k.
+      let r′ = identical-reached (identical-wf i W) (identical-sym i) r in
+      let v = reached-valid W r′ in
+      let k′ : G .children (M .sort q) a ≡ some _ = rw (← i .sort q v) at k in
+      let t : M′ .rhs q a ≡ M .rhs q a = sym (i .rhs q a _ v k′) in
+      rw t (l .rhs q a r′ k′);
+}

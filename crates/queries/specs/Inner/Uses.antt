@@ -16,17 +16,14 @@ uses i (m ∷ ms) = oneIf (eqb (m .0) i) + uses i ms
 abbrev pub Once : List Mark → Type 0
 Once ms = (i : ℕ) → 1 ≤ i → uses i ms ≤ 1
 
--- children are numbered to 4
-unfoldable pub Low : List Mark → Type 0
-Low [] = Unit {0}
-Low (m ∷ ms) = (m .0 ≤ 4) × Low ms
+-- children are numbered to 4, and the states called are below n
+unfoldable pub Low : ℕ → List Mark → Type 0
+Low n [] = Unit {0}
+Low n (m ∷ ms) = ((m .0 ≤ 4) × (1 ≤ m .0 → m .1 < n)) × Low n ms
 
--- each of m bodies calls no child twice
-abbrev pub AllOnce : ℕ → (ℕ → ℕ) → List ℕ → Type 0
-AllOnce m start bytes = (j : ℕ) → j < m → Once (body start bytes j)
-
--- m bodies lie where the table of starts says, and their calls are on children to 4
-pub record LowBodies (m : ℕ) (starts bytes : List ℕ) : Type 0 where
+-- m bodies lie where the table of starts says, and their calls are of at most 128 states
+pub record LowBodies (m n : ℕ) (starts bytes : List ℕ) : Type 0 where
+  pub few : n ≤ 128
   pub long : m < length starts
   pub inside : (j : ℕ) → j ≤ m → 2 * getD starts j 0 ≤ length bytes
-  pub low : (j : ℕ) → j < m → Low (body (λ j. getD starts j 0) bytes j)
+  pub low : (j : ℕ) → j < m → Low n (body (λ j. getD starts j 0) bytes j)

@@ -37,7 +37,7 @@ written body = made (λ g q a. spell g (body q a)) (0 ∷ [])
 abbrev pub called : (ℕ → ℕ → List Mark) → Terms ⊥ → ℕ → ℕ → List ℕ
 called body = madeBelow (λ g q a. spell g (body q a)) (0 ∷ [])
 
--- the levels of what marks write, below each of which so many symbols stand above: the call (i, q) gives g i q levels
+-- the levels of what marks write, above each of which so many symbols stand: the call (i, q) gives g i q levels
 unfoldable pub lowest : (ℕ → ℕ → ℕ) → List ℕ → List Mark → ℕ
 lowest g ds [] = 0
 lowest g [] (m ∷ ms) = 0
