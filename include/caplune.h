@@ -134,9 +134,9 @@ uint32_t caplune_write_transducer(const uint8_t *stock, size_t stock_length, siz
 
 /*
  * Tests a transducer for being linear (the paper: single), as it is read: no child is called twice in the initial
- * term, nor in a right-hand side.
+ * term, nor in a right-hand side of a state that is reached from there through any number of calls.
  * Writes 1 or 0 to `linear`.
- * Refuses by 2, then 4, then 5; all then is as it was.
+ * Refuses by 2, then 4, then 5, whatever is reached; all then is as it was.
  */
 uint32_t caplune_is_linear(const uint8_t *stock, size_t stock_length, const uint8_t *file, size_t file_length,
                            size_t *linear);

@@ -37,6 +37,22 @@ struct bytes {
 /* a of rank 1 and e to g of rank 1 and c; and a copy, q(a(x1)) = g(q(x1)), q(e) = c. */
 #define UNARY BYTES(2, 1, 0, 2, 1, 0)
 #define COPY BYTES(1, 0, 1, 0, 2, 0, 1, 1, 0, 0, 0, 1, 0, 0, 1)
+/* Over S, with passes 0, 1 and 2 that give e at e. The opening calls pass 0, which calls itself; pass 1 is not reached,
+ * and calls pass 2 twice, itself, or pass 0. */
+#define OLD_PASS \
+    BYTES(3, 0, 1, 0, 1, 0, 1, 0, 3, 0, 1, 0, 1, 0, 1, 1, 0, 1, 0, 0, 1, 0, 0, 1, 2, 1, 2, 0, 1, 1, 2, 0, 1)
+#define OLD_OWN BYTES(2, 0, 1, 0, 1, 0, 1, 0, 3, 0, 1, 1, 0, 1, 0, 0, 1, 0, 0, 1, 1, 1, 1, 0, 1)
+#define OLD_CALLER BYTES(2, 0, 1, 0, 1, 0, 1, 0, 3, 0, 1, 1, 0, 1, 0, 0, 1, 0, 0, 1, 0, 1, 0, 0, 1)
+/* The opening calls pass 1, that calls pass 0, and that calls itself twice. */
+#define THROUGH BYTES(2, 0, 1, 0, 3, 0, 1, 0, 1, 0, 1, 1, 1, 0, 0, 1, 0, 1, 0, 0, 1, 1, 0, 0, 1)
+/* a and b of rank 1 and e; f of rank 2 and e. Pass 0 calls pass 1 at b only, and that calls itself twice at a. */
+#define TWO BYTES(3, 1, 1, 0, 2, 2, 0)
+#define AT_SECOND \
+    BYTES(2, 0, 1, 0, 1, 0, 1, 0, 1, 0, 3, 0, 1, 0, 1, 1, 0, 1, 0, 1, 1, 0, 1, 0, 0, 1, 1, 1, 1, 0, 1, 0, 1)
+/* Over S: only the opening calls pass 0 twice; only pass 0, which the opening does not call; and it calls a pass 1. */
+#define OPENING_TWICE BYTES(1, 0, 3, 0, 1, 0, 1, 0, 0, 1, 0, 1, 0, 0, 1, 0, 1)
+#define NOT_CALLED BYTES(1, 0, 1, 0, 3, 0, 1, 0, 1, 0, 0, 1, 0, 1, 0, 0, 1)
+#define NOT_CALLED_BAD BYTES(1, 0, 1, 0, 3, 0, 1, 0, 1, 0, 0, 1, 0, 1, 1, 0, 1)
 /* The small inputs of the rows 2, 3, 4 and 5. */
 #define NO_STOCK BYTES(1, 1, 1, 0)
 #define NO_TREE BYTES(0)
@@ -381,6 +397,14 @@ static void reading(void)
     check("a sheet: 2 before 4", refuses(read_transducer(NO_STOCK, NO_CONTENTS), CAPLUNE_BAD_ALPHABETS));
     check("T is not single", gives(is_linear(S, T), NUMBERS(0)));
     check("0 0 1 0 1 is single", gives(is_linear(S, CONSTANT), NUMBERS(1)));
+    check("single: a pass that is not reached does not count", gives(is_linear(S, OLD_PASS), NUMBERS(1)));
+    check("single: not reached, and calls itself", gives(is_linear(S, OLD_OWN), NUMBERS(1)));
+    check("single: not reached, and calls a reached pass", gives(is_linear(S, OLD_CALLER), NUMBERS(1)));
+    check("not single: reached through another pass", gives(is_linear(S, THROUGH), NUMBERS(0)));
+    check("not single: reached by the second kind only", gives(is_linear(TWO, AT_SECOND), NUMBERS(0)));
+    check("not single: the opening alone", gives(is_linear(S, OPENING_TWICE), NUMBERS(0)));
+    check("single: the opening calls no pass", gives(is_linear(S, NOT_CALLED), NUMBERS(1)));
+    check("single: 5 also where no pass is reached", refuses(is_linear(S, NOT_CALLED_BAD), CAPLUNE_BAD_BODY));
     check("single: 5", refuses(is_linear(S, NO_BODY), CAPLUNE_BAD_BODY));
 }
 

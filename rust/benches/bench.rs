@@ -47,6 +47,7 @@ fn main() {
     println!("{:52} {:>9} {:>12} {:>12} {:>8}", "", "size", "proved", "independent", "ratio");
     let (cases, few_levels) = (cases(), few_levels());
     reading(&cases);
+    reaching();
     translating(&few_levels);
     addressing(&cases);
     cleaning();
@@ -161,6 +162,35 @@ fn reading(cases: &[Case]) {
                 let area = &mut area.borrow_mut()[..];
                 discard(black_box(independent::write_transducer(stock, states, counts, black_box(marks), area)))
             },
+        );
+    }
+}
+
+/// The linear test where states are reached one after another.
+fn reaching() {
+    // 15 symbols of rank 1 and one of rank 0 to g and c of ranks 1 and 0. The k-th state has the number `number(k)`,
+    // and the state with the number k is the `number(k)`-th; it calls the next one at the symbols of rank 1, but those
+    // at `ends` call themselves.
+    let stock = [vec![16], vec![1; 15], vec![0, 2, 1, 0]].concat();
+    let row = |ends: [u8; 2], number: &dyn Fn(u8) -> u8| {
+        rows(128, 16, &[1, number(0)], &|state, symbol| match number(state) {
+            _ if symbol == 15 => vec![0, 1],
+            place if ends.contains(&place) => vec![1, state],
+            place => vec![1, number(place + 1)],
+        })
+    };
+    let sheets = [
+        ("128 states in a row", row([127; 2], &|k| k)),
+        ("128 in a row, backwards", row([127; 2], &|k| 127 - k)),
+        ("128 in a row, 64 not reached", row([63, 127], &|k| k)),
+    ];
+    for (name, file) in sheets {
+        assert_eq!((slices::is_linear(&stock, &file), independent::is_linear(&stock, &file)), (Ok(true), Ok(true)));
+        line(
+            &format!("linear test, {name}"),
+            file.len(),
+            &mut || discard(black_box(slices::is_linear(&stock, black_box(&file)))),
+            &mut || discard(black_box(independent::is_linear(&stock, black_box(&file)))),
         );
     }
 }

@@ -230,7 +230,8 @@ pub fn write_transducer(
     }
 }
 
-/// Tests whether a transducer is linear: 1 or 0. Refuses by 2, 4 and 5.
+/// Tests whether a transducer is linear, in its initial term and in the states that are reached from
+/// there: 1 or 0. Refuses by 2, 4 and 5.
 pub fn is_linear(stock: &[u8], file: &[u8], linear: &mut usize) -> u32 {
     // SAFETY: the arguments are borrows, as said above.
     unsafe { c::caplune_is_linear(stock.as_ptr(), stock.len(), file.as_ptr(), file.len(), linear) }

@@ -211,8 +211,9 @@ pub fn write_transducer(
 
 /// Tests a transducer for being linear (the paper: single), as it is read.
 ///
-/// Returns whether in its initial term and in each right-hand side no sub-tree is called twice.
-/// Refuses by 2, 4 and 5 as [`read_transducer`] does.
+/// Returns whether in its initial term, and in each right-hand side of a state that is reached from
+/// there through any number of calls, no sub-tree is called twice. Refuses by 2, 4 and 5 as
+/// [`read_transducer`] does, whatever is reached.
 pub fn is_linear(stock: &[u8], file: &[u8]) -> Result<bool, Refusal> {
     let mut linear = 0;
     let number = ffi::is_linear(stock, file, &mut linear);

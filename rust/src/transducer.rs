@@ -168,8 +168,8 @@ impl Transducer {
         self.file[self.starts[number]..self.starts[number + 1]].chunks_exact(2).map(Mark::of).collect()
     }
 
-    /// Whether in its initial term and in each right-hand side no child is called twice (the paper: whether the sheet
-    /// is single).
+    /// Whether in its initial term, and in each right-hand side of a state that is reached from there through any
+    /// number of calls, no child is called twice (the paper: whether the sheet is single).
     #[must_use]
     pub fn is_linear(&self) -> bool {
         slices::is_linear(self.alphabets.as_bytes(), &self.file) == Ok(true)

@@ -19,7 +19,7 @@ mod lent;
 use caplune::ffi;
 use caplune::slices::{ADDRESS_AREA, TREE_AREA};
 use caplune_independent as independent;
-use generate::cases::Case;
+use generate::cases::{parsed, Case};
 use generate::joins;
 use independent::{Verdict, AREA_TOO_SHORT, MAX_FILE};
 use lent::{Lent, Tally, BEFORE};
@@ -57,7 +57,7 @@ const FUNCTIONS: [Function; 15] = [
     function("read_tree", read_tree, &["accepted"], &[2, 3]),
     function("read_transducer", read_transducer, &["accepted"], &[2, 4, 5]),
     function("write_transducer", write_transducer, &["accepted"], &[1, 2, 4, 5]),
-    function("is_linear", is_linear, &["yes", "no"], &[2, 4, 5]),
+    function("is_linear", is_linear, &["yes", "yes, unreached copies", "no"], &[2, 4, 5]),
     function("translate", translate, &["accepted"], &[2, 4, 5, 3, 6, 10]),
     function("symbol_at", symbol_at, &["symbol", "nowhere"], &[2, 4, 5, 3]),
     function("earliest_form", earliest_form, &["accepted"], &[1, 2, 4, 5, 7]),
@@ -145,7 +145,13 @@ fn is_linear(case: &Case) -> Checked {
     let [mut linear] = before();
     let refused = ffi::is_linear(&case.stock, &case.first, &mut linear);
     agree(refused, [linear], expected.map(|linear| [usize::from(linear)]))?;
-    Ok(expected.map(|linear| if linear { "yes" } else { "no" }))
+    // where it is linear, a term that calls a child twice is of a state that is not reached
+    let copies = || parsed(&case.stock, &case.first).1.is_some_and(|sheet| sheet.copies());
+    Ok(expected.map(|linear| match linear {
+        true if copies() => "yes, unreached copies",
+        true => "yes",
+        false => "no",
+    }))
 }
 
 fn translate(case: &Case) -> Checked {

@@ -381,6 +381,12 @@ fn single() {
     folder.write("once", b"sheet opening q(x1) q(a(x1)) -> f(q(x1), e) q(e) -> e");
     assert_eq!(folder.prints("single stock.txt t.txt"), "not single\n");
     assert_eq!(folder.prints("single stock.txt once"), "single\n");
+    // an old pass at the back that copies: not reached, though it calls itself and q; and reached
+    let old = "p(a(x1)) -> f(p(x1), q(x1)) p(e) -> e";
+    folder.write("old", format!("sheet opening q(x1) q(a(x1)) -> f(q(x1), e) q(e) -> e {old}").as_bytes());
+    folder.write("met", format!("sheet opening q(x1) q(a(x1)) -> f(p(x1), e) q(e) -> e {old}").as_bytes());
+    assert_eq!(folder.prints("single stock.txt old"), "single\n");
+    assert_eq!(folder.prints("single stock.txt met"), "not single\n");
 }
 
 #[test]

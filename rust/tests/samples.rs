@@ -1,6 +1,9 @@
 //! The paper's samples: on the independent implementation, and last on the proved library.
+mod generate;
+
 use caplune::slices;
 use caplune_independent::*;
+use generate::samples::file;
 
 const S: &[u8] = &[2, 1, 0, 2, 2, 0];
 const T: &[u8] = &[1, 0, 3, 0, 3, 0, 1, 0, 0, 1, 0, 1, 0, 0, 0, 1, 0, 1, 0, 0, 1];
@@ -134,6 +137,29 @@ fn writing() {
     assert!(area.iter().all(|&byte| byte == 0xa5));
 }
 
+/// Stocks and transducers, and whether they are linear: of the states only those count that are reached.
+fn near_linear() -> [(&'static [u8], Vec<u8>, bool); 8] {
+    // the states are q, p and r, and each gives e at e
+    let (e, q, p, r): (&[u8], &[u8], &[u8], &[u8]) = (&[0, 1], &[1, 0], &[1, 1], &[1, 2]);
+    let twice = |call: &[u8]| [&[0, 0], call, call].concat();
+    // a and b of rank 1, e of rank 0
+    let two: &[u8] = &[3, 1, 1, 0, 2, 2, 0];
+    [
+        // p is not reached, and calls r twice, itself, or q, which is reached
+        (S, file(3, &[q, q, e, &twice(r), e, r, e]), true),
+        (S, file(2, &[q, q, e, &twice(p), e]), true),
+        (S, file(2, &[q, q, e, &twice(q), e]), true),
+        // the initial term calls p, that calls q, and that copies
+        (S, file(2, &[p, &twice(q), e, q, e]), false),
+        // p is called at b only
+        (two, file(2, &[q, q, p, e, &twice(p), e, e]), false),
+        (two, file(2, &[q, q, q, e, &twice(p), e, e]), true),
+        // the initial term alone copies; it calls no state
+        (S, file(1, &[&twice(q), e, e]), false),
+        (S, file(1, &[e, &twice(q), e]), true),
+    ]
+}
+
 #[test]
 fn linear() {
     assert_eq!(is_linear(S, T), Ok(false));
@@ -141,7 +167,12 @@ fn linear() {
     assert_eq!(is_linear(S, &[0, 0, 1, 0, 1]), Ok(true));
     // q(a(x1)) = q(x1), q(e) = e
     assert_eq!(is_linear(S, &[1, 0, 1, 0, 1, 0, 1, 1, 0, 1, 0, 0, 1]), Ok(true));
+    for (stock, file, expected) in near_linear() {
+        assert_eq!(is_linear(stock, &file), Ok(expected), "{file:?}");
+    }
     assert_eq!(is_linear(S, &[1, 0, 3]), Err(4));
+    // q is not reached, and calls p, which is not there
+    assert_eq!(is_linear(S, &file(1, &[&[0, 1], &[1, 1], &[0, 1]])), Err(5));
 }
 
 #[test]
@@ -211,6 +242,16 @@ fn proved_library() {
     assert_eq!(slices::write_transducer(S, 1, parts.counts, parts.marks, &mut area), Ok(T.len()));
     assert_eq!(&area[..T.len()], T);
     assert!(area[T.len()..].iter().all(|&byte| byte == 0xa5));
+}
+
+#[test]
+fn proved_linear() {
+    for (stock, file, expected) in near_linear() {
+        assert_eq!(slices::is_linear(stock, &file), Ok(expected), "{file:?}");
+    }
+    assert_eq!(slices::is_linear(S, &[1, 0, 3]).map_err(caplune::Refusal::number), Err(4));
+    let wrong = file(1, &[&[0, 1], &[1, 1], &[0, 1]]);
+    assert_eq!(slices::is_linear(S, &wrong).map_err(caplune::Refusal::number), Err(5));
 }
 
 #[test]

@@ -251,6 +251,12 @@ impl<'a> Transducer<'a> {
     fn right_hand_side(&self, state: u8, symbol: u8) -> &'a [u8] {
         self.terms[1 + usize::from(state) * self.inputs + usize::from(symbol)]
     }
+
+    /// The right-hand sides of a state, by input symbol.
+    fn right_hand_sides(&self, state: u8) -> &[&'a [u8]] {
+        let first = 1 + usize::from(state) * self.inputs;
+        &self.terms[first..first + self.inputs]
+    }
 }
 
 /// Writes the transducer with these parts to the start of `area`, and answers its length. Refuses
@@ -274,10 +280,32 @@ pub fn write_transducer(
     Ok(length)
 }
 
-/// Whether the transducer is linear (the paper: single): in the initial term and in each
-/// right-hand side no sub-tree is called twice. Refuses by 2, 4 and 5.
+/// Whether the transducer is linear (the paper: single): in the initial term, and in each right-hand
+/// side of a state that is reached from it, no sub-tree is called twice. A state is reached if the
+/// initial term calls it, or a right-hand side of a reached state does. Refuses by 2, 4 and 5.
 pub fn is_linear(stock: &[u8], file: &[u8]) -> Result<bool, u32> {
-    Ok(read_transducer(stock, file)?.terms.iter().all(|term| calls_each_once(term)))
+    let transducer = read_transducer(stock, file)?;
+    let mut met = [false; MAX_STATES];
+    // The terms that are reached and not looked at yet: first the initial term, then all of a state.
+    let mut waiting = vec![&transducer.terms[..1]];
+    while let Some(terms) = waiting.pop() {
+        for term in terms {
+            if !calls_each_once(term) {
+                return Ok(false);
+            }
+            for state in called_states(term) {
+                if !std::mem::replace(&mut met[usize::from(state)], true) {
+                    waiting.push(transducer.right_hand_sides(state));
+                }
+            }
+        }
+    }
+    Ok(true)
+}
+
+/// The states that `term` calls.
+fn called_states(term: &[u8]) -> impl Iterator<Item = u8> + '_ {
+    term.chunks_exact(2).filter(|mark| mark[0] != 0).map(|mark| mark[1])
 }
 
 /// Whether no two calls of `term` are on one sub-tree.

@@ -149,12 +149,12 @@ impl Transducer {
             && self.terms.iter().map(Vec::len).sum::<usize>() <= 2 * 8192
     }
 
-    fn right_hand_sides(&self, state: usize) -> &[Vec<u8>] {
+    pub(super) fn right_hand_sides(&self, state: usize) -> &[Vec<u8>] {
         let inputs = (self.terms.len() - 1) / self.states;
         &self.terms[1 + state * inputs..][..inputs]
     }
 
-    fn rename(&mut self, mut of: impl FnMut(u8, u8) -> Vec<u8>) {
+    pub(super) fn rename(&mut self, mut of: impl FnMut(u8, u8) -> Vec<u8>) {
         self.terms.iter_mut().for_each(|term| *term = replace_calls(term, &mut of));
     }
 

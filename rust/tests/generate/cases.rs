@@ -119,7 +119,7 @@ impl Case {
 }
 
 /// The alphabets of a stock that is one, and the transducer of the file if it is one.
-fn parsed(stock: &[u8], file: &[u8]) -> (Alphabets, Option<Transducer>) {
+pub fn parsed(stock: &[u8], file: &[u8]) -> (Alphabets, Option<Transducer>) {
     let read = independent::read_alphabets(stock).expect("the generators make stocks");
     let alphabets = Alphabets { inputs: read.inputs.to_vec(), outputs: read.outputs.to_vec() };
     let sheet = independent::read_transducer(stock, file).ok().map(|read| {

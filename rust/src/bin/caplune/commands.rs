@@ -90,8 +90,10 @@ const COMMANDS: &[Command] = &[
         takes: "STOCK SHEET",
         words: (2, 2),
         choices: &[],
-        does: "tell whether a sheet is single: in its opening, and in each line, no sub-part stands twice",
-        more: "The answer is `single` or `not single`.",
+        does: "tell whether a sheet is single, by its opening and the lines that the opening can reach",
+        more: "It is if in its opening, and in each line that the opening can reach, no sub-part stands twice.\n\
+               The opening reaches the lines of the passes that it names, and of those that such lines name.\n\
+               The answer is `single` or `not single`.",
         example: "caplune single stock.txt t.txt",
         run: single,
     },
