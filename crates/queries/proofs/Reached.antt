@@ -35,7 +35,7 @@ use Rattle.queries.specs.Answers.{linearTest, TestsLinear}
 use Rattle.queries.specs.Linear.{LinearFile}
 use Rattle.queries.specs.declared.linear.LinearTest.{LinearTest}
 use Rattle.queries.specs.Inner.Uses.{Once, LowBodies}
-use Rattle.queries.specs.Inner.Reading.{ReadMarks, ReadBodies, no-body, one-body, ReadTable, read-initial as table-initial, read-state as table-state, NotOnce, ReadsTable}
+use Rattle.queries.specs.Inner.Reading.{ReadMarks, ReadBodies, no-body, one-body, ReadTable, read-initial as table-initial, read-state as table-state, NotOnce, Stopped, ReadsTable}
 use Rattle.queries.proofs.Calls.{calls-marks, once-calls, calls-once, initial-body, rhs-body, low-bodies}
 use Rattle.queries.proofs.Reading.{bodies-extend}
 
@@ -105,15 +105,16 @@ module _ {ins outs : List ℕ} {n : ℕ} {counts bytes : List ℕ} {M : Transduc
   not-first : NotOnce start bytes 0 1 → Linear (alphabet ins l) M → ⊥
   not-first N K = N (λ j h. let z : 0 + j ≡ 0 = omega arith in rw z (rw (initial-body E starts S) at (calls-once (M .initial) (K .initial))))
 
-  not-state : {p q : ℕ} {L : List ℕ} → ReadTable (length ins) start bytes p L → getElem? L p ≡ some q → NotOnce start bytes (1 + q * length ins) (length ins) → Linear (alphabet ins l) M → ⊥
+  not-state : Stopped (length ins) start bytes → Linear (alphabet ins l) M → ⊥
   unfolding alphabet
-  not-state {p} {q} T e N K =
-      let r = states-valid (reached-wf W) (table-states T) .every p q e in
-      N (λ a g. rw (rhs-body E starts S q a (reached-valid W r) g) at (calls-once (M .rhs q a) (K .rhs q a r (children-of ins a g))))
+  not-state Z K =
+      let q = Z .state in
+      let r = states-valid (reached-wf W) (table-states (Z .read)) .every (Z .number) q (Z .there) in
+      Z .twice (λ a g. rw (rhs-body E starts S q a (reached-valid W r) g) at (calls-once (M .rhs q a) (K .rhs q a r (children-of ins a g))))
 
   pub decides-linear : (b : Bool) → ReadsTable (length ins) start bytes b → Decides (Linear (alphabet ins l) M) b
   decides-linear true R = decides-yes (table-linear (R .yes refl .1))
-  decides-linear false R = decides-no (λ K. ⊎-elim (λ N. not-first N K) (λ w. not-state (w .1 .1 .1 .0) (w .1 .1 .1 .1) (w .1 .1 .1 .2) K) (R .no refl))
+  decides-linear false R = decides-no (λ K. ⊎-elim (λ N. not-first N K) (λ Z. not-state Z K) (R .no refl))
 
 -- ---- the answer
 -- what a file says of its transducer, it says of each that it encodes, whichever leaf the grammar names

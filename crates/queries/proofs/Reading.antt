@@ -109,7 +109,7 @@ module _ {P : ℕ} {start : ℕ → ℕ} {bytes : List ℕ} where
         state-read {m} x = record { read = rw (add-one p) (read-state (T .read) state-there (R .read m x)); queue = R .queue m x }
 
         pub state-stop : r ≡ Twice → ReadsTable P start bytes false
-        state-stop x = record { yes = λ e. conflict (cc); no = λ e. inr (p, (q, (metOf list n, (T .read, state-there, R .stop x)))) }
+        state-stop x = record { yes = λ e. conflict (cc); no = λ e. inr (record { number = p; state = q; list = metOf list n; read = T .read; there = state-there; twice = R .stop x }) }
 
     -- no state is left
     pub states-all : n ≤ p → ReadsTable P start bytes true

@@ -1,4 +1,4 @@
-// Whether a transducer is linear (01: a single sheet).
+// Whether a transducer is linear (01: a single sheet; 02: by the lines that can be met).
 ghost use Prim.Native.Nat.{_+_, _*_, _≤_};
 ghost use lib.ListN.{length, getD};
 ghost use Rattle.formats.specs.Inner.Marked.{part};

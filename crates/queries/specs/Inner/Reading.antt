@@ -44,7 +44,16 @@ pub record Reads (Stop : Type 0) (Read : List ℕ → Type 0) (list place : List
   pub read : (n : ℕ) → r ≡ Met n → Read (metOf list n)
   pub queue : (n : ℕ) → r ≡ Met n → Queue list place n
 
--- whether the bodies of the table can all be read that are met
+-- reading came to a state of the list of which a body calls a child twice
+pub record Stopped (P : ℕ) (start : ℕ → ℕ) (bytes : List ℕ) : Type 0 where
+  pub number : ℕ
+  pub state : ℕ
+  pub list : List ℕ
+  pub read : ReadTable P start bytes number list
+  pub there : getElem? list number ≡ some state
+  pub twice : NotOnce start bytes (1 + state * P) P
+
+-- whether body 0, and those of all states that are met, have been read
 pub record ReadsTable (P : ℕ) (start : ℕ → ℕ) (bytes : List ℕ) (b : Bool) : Type 0 where
   pub yes : b ≡ true → (L : List ℕ) × ReadTable P start bytes (length L) L
-  pub no : b ≡ false → NotOnce start bytes 0 1 ⊎ ((p : ℕ) × ((q : ℕ) × ((L : List ℕ) × (ReadTable P start bytes p L × (getElem? L p ≡ some q) × NotOnce start bytes (1 + q * P) P))))
+  pub no : b ≡ false → NotOnce start bytes 0 1 ⊎ Stopped P start bytes
