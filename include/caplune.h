@@ -49,6 +49,8 @@ extern "C" {
 #define CAPLUNE_RECORDS 33
 /* The longest file of two alphabets. */
 #define CAPLUNE_LONGEST_STOCK 82
+/* The least length of the area for the codes of all output symbols: 64 of two bytes. */
+#define CAPLUNE_CODES_AREA 128
 
 /* What a function answers: 0, or the number that the paper's table gives the refusal. */
 enum caplune_refusal {
@@ -255,6 +257,13 @@ uint32_t caplune_enter(struct caplune_head *head, struct caplune_record *records
  */
 size_t caplune_body(const struct caplune_head *head, const struct caplune_record *records, size_t records_length,
                     const uint8_t *area, size_t area_length, size_t number, size_t *start);
+
+/*
+ * Writes the codes of all 64 output symbols (the paper: the codes of blocks) to the start of `area`: two bytes each, a
+ * letter from A to H and a digit from 1 to 8, that of symbol k from byte 2 k on.
+ * Refuses by 1 where the area is under CAPLUNE_CODES_AREA; all then is as it was.
+ */
+uint32_t caplune_write_codes(uint8_t *area, size_t area_length);
 
 #ifdef __cplusplus
 }

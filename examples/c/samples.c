@@ -306,6 +306,14 @@ static struct answer shorter(struct bytes first, struct bytes second)
     return answer;
 }
 
+static struct answer write_codes(size_t length)
+{
+    struct answer answer = no_answer();
+    lend(length, 0);
+    answer.refusal = caplune_write_codes(start_of(&area), area.length);
+    return answer;
+}
+
 /* Files of any size, each in memory of its own. */
 
 static void append(struct bytes *file, uint8_t *memory, struct bytes part)
@@ -441,6 +449,26 @@ static void writing(void)
           refuses(write_transducer(S, 1, counts, one_mark_less, enough), CAPLUNE_BAD_CONTENTS));
     check("writing an opening with sub-part 2: 5",
           refuses(write_transducer(S, 1, counts, two_ends, enough), CAPLUNE_BAD_BODY));
+}
+
+/* The card of the 64 codes, a line a letter. */
+static const char card[] = "A1A2A3A4A5A6A7A8"
+                           "B1B2B3B4B5B6B7B8"
+                           "C1C2C3C4C5C6C7C8"
+                           "D1D2D3D4D5D6D7D8"
+                           "E1E2E3E4E5E6E7E8"
+                           "F1F2F3F4F5F6F7F8"
+                           "G1G2G3G4G5G6G7G8"
+                           "H1H2H3H4H5H6H7H8";
+
+static void codes(void)
+{
+    const size_t enough = CAPLUNE_CODES_AREA;
+    struct bytes all = {(const uint8_t *)card, sizeof card - 1};
+    check("the codes of all blocks", writes(all, write_codes(enough), 0, NULL));
+    check("the codes in a longer area", writes(all, write_codes(enough + 1), 0, NULL));
+    check("the codes in an area of 127: 1", refuses(write_codes(enough - 1), CAPLUNE_SHORT_AREA));
+    check("the codes in no area: 1", refuses(write_codes(0), CAPLUNE_SHORT_AREA));
 }
 
 static void translating(void)
@@ -792,6 +820,7 @@ int main(void)
 {
     reading();
     writing();
+    codes();
     translating();
     places();
     cleaning();

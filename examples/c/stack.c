@@ -127,6 +127,11 @@ static void body(void)
     refused = caplune_body(&head, records, CAPLUNE_RECORDS, area, sizeof area, 1, numbers) > 0 ? 0 : 99;
 }
 
+static void write_codes(void)
+{
+    refused = caplune_write_codes(area, sizeof area);
+}
+
 static void *run(void *call)
 {
     uint8_t here = 0;
@@ -184,6 +189,7 @@ int main(void)
         {"translate", translate}, {"symbol_at", symbol_at}, {"join", join},
         {"earliest_form", earliest_form}, {"clean", clean}, {"compare", compare}, {"shorter", shorter},
         {"make_registry", make_registry}, {"enter", enter}, {"body", body},
+        {"write_codes", write_codes},
     };
     memset(chain, 0, LEVELS);
     chain[LEVELS - 1] = 1;

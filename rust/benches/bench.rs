@@ -114,7 +114,7 @@ fn show(seconds: f64) -> String {
     }
 }
 
-/// Reading, writing and the linear test.
+/// Reading, writing, the codes and the linear test.
 fn reading(cases: &[Case]) {
     let largest = largest();
     let small = &cases[0];
@@ -126,6 +126,13 @@ fn reading(cases: &[Case]) {
             &mut || discard(black_box(independent::read_alphabets(black_box(&case.stock)))),
         );
     }
+    let area = RefCell::new([1; slices::CODES_AREA]);
+    line(
+        "write the codes",
+        slices::CODES_AREA,
+        &mut || discard(black_box(slices::write_codes(black_box(&mut area.borrow_mut()[..])))),
+        &mut || discard(black_box(independent::write_codes(black_box(&mut area.borrow_mut()[..])))),
+    );
     for case in &cases[..4] {
         line(
             &format!("read tree, {}", case.name),

@@ -181,6 +181,7 @@ mod c {
             number: usize,
             start: *mut usize,
         ) -> usize;
+        pub fn caplune_write_codes(area: *mut u8, area_length: usize) -> u32;
     }
 }
 
@@ -458,4 +459,10 @@ pub fn enter(head: &mut Head, records: &mut [Record], area: &mut [u8], file: &[u
 pub fn body(head: &Head, records: &[Record], area: &[u8], number: usize, start: &mut usize) -> usize {
     // SAFETY: the arguments are borrows, as said above.
     unsafe { c::caplune_body(head, records.as_ptr(), records.len(), area.as_ptr(), area.len(), number, start) }
+}
+
+/// Writes the codes of all output symbols to the start of the area. Refuses by 1.
+pub fn write_codes(area: &mut [u8]) -> u32 {
+    // SAFETY: the argument is a borrow, as said above.
+    unsafe { c::caplune_write_codes(area.as_mut_ptr(), area.len()) }
 }

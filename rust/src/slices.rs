@@ -57,6 +57,10 @@
 //! assert_eq!((enter(&file), enter(&other), enter(&third)), (1, 1, 2));
 //! assert_eq!(head, slices::Head { held: 2, used: 56, answered: 3 });
 //! assert_eq!(slices::body(&head, &records, &area, 1), &file[..]);
+//! // the codes of all output symbols: that of symbol 63 are the last two bytes
+//! let mut codes = [0; slices::CODES_AREA];
+//! slices::write_codes(&mut codes).unwrap();
+//! assert_eq!((&codes[..4], &codes[126..]), (&b"A1A2"[..], &b"H8"[..]));
 //! ```
 use crate::{ffi, Refusal};
 
@@ -113,6 +117,8 @@ pub struct Form {
 pub const TREE_AREA: usize = 1_536;
 /// The least length of the area for the address of a difference: 256 right-hand sides of 63 levels.
 pub const ADDRESS_AREA: usize = 16_128;
+/// The least length of the area for the codes of all output symbols: 64 of two bytes.
+pub const CODES_AREA: usize = 128;
 
 /// What a comparison finds.
 #[derive(Clone, Copy, Debug, PartialEq, Eq)]
@@ -376,4 +382,13 @@ pub fn body<'a>(head: &Head, records: &[Record], area: &'a [u8], number: usize) 
     let mut start = 0;
     let size = ffi::body(head, records, area, number, &mut start);
     &area[start..start + size]
+}
+
+/// Writes the codes of all 64 output symbols to the start of `area` (the paper: the codes of blocks).
+///
+/// A code is two bytes, a letter from `A` to `H` and a digit from `1` to `8`, and that of symbol k stands
+/// from byte 2 k on. What follows them in the area stays. Refuses by 1 an area under [`CODES_AREA`]
+/// bytes, which then is as it was.
+pub fn write_codes(area: &mut [u8]) -> Result<(), Refusal> {
+    answer(ffi::write_codes(area), || ())
 }

@@ -19,7 +19,7 @@
 //! assert_eq!(error.to_string(), "1:10: expected a part kind (a, e), found `b`");
 //! # Ok::<(), Box<dyn std::error::Error>>(())
 //! ```
-use crate::{Alphabets, Refusal, Transducer};
+use crate::{slices, Alphabets, Refusal, Transducer};
 use std::borrow::Cow;
 use std::collections::HashSet;
 use std::fmt;
@@ -34,7 +34,7 @@ use words::is_name;
 
 pub use reading::{kind, read_alphabets, read_input_tree, read_names, read_state_names, read_transducer};
 pub use writing::{
-    write_alphabets, write_input_tree, write_names, write_output_tree, write_state_names, write_transducer,
+    write_alphabets, write_card, write_input_tree, write_names, write_output_tree, write_state_names, write_transducer,
 };
 
 /// The names of the symbols of two alphabets. Within each of the two lists no name stands twice.
@@ -72,7 +72,7 @@ impl Names {
     /// ```
     pub fn codes(alphabets: &Alphabets) -> Names {
         let [inputs, outputs] = [alphabets.input_ranks().len(), alphabets.output_ranks().len()];
-        Names { inputs: (0..inputs).map(input_code).collect(), outputs: (0..outputs).map(output_code).collect() }
+        Names { inputs: input_codes(inputs), outputs: output_codes(outputs) }
     }
 
     /// The names of the input symbols (the paper: part kinds), by number.
@@ -108,7 +108,7 @@ impl StateNames {
 
     /// The names that are used where there are no others: `q0`, `q1` and so on.
     pub fn numbered(states: usize) -> Self {
-        StateNames((0..states.min(Transducer::MOST_STATES)).map(state_code).collect())
+        StateNames(state_codes(states.min(Transducer::MOST_STATES)))
     }
 
     /// The names, by number.
@@ -124,30 +124,29 @@ fn are_names(names: &[String]) -> bool {
     names.iter().all(|name| is_name(name) && used.insert(name))
 }
 
-fn input_code(symbol: usize) -> String {
-    code(b'a', symbol)
+/// The codes of the first output symbols, at most 64, from the proved library's table.
+fn output_codes(count: usize) -> Vec<String> {
+    let mut codes = [0; slices::CODES_AREA];
+    // only a shorter area is refused
+    let _ = slices::write_codes(&mut codes);
+    codes.chunks(2).take(count).map(|code| code.iter().copied().map(char::from).collect()).collect()
 }
 
-fn output_code(symbol: usize) -> String {
-    code(b'A', symbol)
+/// Those of input symbols: the same with a small letter.
+fn input_codes(count: usize) -> Vec<String> {
+    output_codes(count).iter().map(|code| code.to_ascii_lowercase()).collect()
 }
 
-/// A letter, from `first` on, for each eight symbols, and a digit from 1 to 8. The alphabets have at most 64 symbols,
-/// so the letter is at most the eighth.
-fn code(first: u8, symbol: usize) -> String {
-    format!("{}{}", char::from(first + (symbol / 8 % 8) as u8), symbol % 8 + 1)
-}
-
-fn state_code(state: usize) -> String {
-    format!("q{state}")
+fn state_codes(count: usize) -> Vec<String> {
+    (0..count).map(|state| format!("q{state}")).collect()
 }
 
 /// The names of so many symbols or states: their codes where there are too few names, as with the names of other
 /// alphabets.
-fn fitted(names: &[String], count: usize, code: fn(usize) -> String) -> Vec<Cow<'_, str>> {
+fn fitted(names: &[String], count: usize, codes: fn(usize) -> Vec<String>) -> Vec<Cow<'_, str>> {
     match names.get(..count) {
         Some(names) => names.iter().map(|name| Cow::from(name.as_str())).collect(),
-        None => (0..count).map(|number| Cow::from(code(number))).collect(),
+        None => codes(count).into_iter().map(Cow::from).collect(),
     }
 }
 
@@ -162,12 +161,12 @@ struct Symbols<'a> {
 impl<'a> Symbols<'a> {
     fn inputs(alphabets: &'a Alphabets, names: &'a Names) -> Self {
         let ranks = alphabets.input_ranks();
-        Symbols { kind: "part kind", names: fitted(&names.inputs, ranks.len(), input_code), ranks }
+        Symbols { kind: "part kind", names: fitted(&names.inputs, ranks.len(), input_codes), ranks }
     }
 
     fn outputs(alphabets: &'a Alphabets, names: &'a Names) -> Self {
         let ranks = alphabets.output_ranks();
-        Symbols { kind: "block kind", names: fitted(&names.outputs, ranks.len(), output_code), ranks }
+        Symbols { kind: "block kind", names: fitted(&names.outputs, ranks.len(), output_codes), ranks }
     }
 
     fn find(&self, name: &str) -> Option<u8> {

@@ -52,7 +52,7 @@ const fn function(
 }
 
 /// All functions. `shorter` and `body` give no number: they are counted by that for which they give nothing.
-const FUNCTIONS: [Function; 15] = [
+const FUNCTIONS: [Function; 16] = [
     function("read_alphabets", read_alphabets, &["accepted"], &[2]),
     function("read_tree", read_tree, &["accepted"], &[2, 3]),
     function("read_transducer", read_transducer, &["accepted"], &[2, 4, 5]),
@@ -68,6 +68,7 @@ const FUNCTIONS: [Function; 15] = [
     function("make_registry", make_registry, &["accepted"], &[9, 2, 8]),
     function("enter", enter, &["added", "found"], &[9, 4, 5, 7, 8]),
     function("body", body, &["body", "empty"], &[9]),
+    function("write_codes", write_codes, &["accepted"], &[1]),
 ];
 
 /// Numbers that a refusal has to leave.
@@ -317,6 +318,16 @@ fn body(case: &Case) -> Checked {
     let size = ffi::body(head, records, area, case.number, &mut start);
     same((start, size), expected.unwrap_or((0, 0)))?;
     Ok(expected.map(|(_, size)| if size > 0 { "body" } else { "empty" }))
+}
+
+fn write_codes(case: &Case) -> Checked {
+    let [mut lent, mut other] = [Lent::new(case.codes_area), Lent::new(case.codes_area)];
+    let expected = independent::write_codes(other.area());
+    agree(ffi::write_codes(lent.area()), [], expected.map(|()| []))?;
+    let codes = other.area()[..expected.map_or(0, |()| independent::CODES)].to_vec();
+    holds(&lent, &codes)?;
+    holds(&other, &codes)?;
+    Ok(expected.map(|()| "accepted"))
 }
 
 /// What `call` gives; the message if it panics.

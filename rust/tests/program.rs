@@ -124,7 +124,7 @@ fn help() {
     let overview = folder.prints("--help");
     assert_eq!((folder.prints("help"), folder.prints("-h")), (overview.clone(), overview.clone()));
     let commands: Vec<&str> = overview.lines().filter_map(|line| line.strip_prefix("  caplune ")).collect();
-    assert_eq!(commands.len(), 12);
+    assert_eq!(commands.len(), 13);
     folder.caplune("convert -o stock stock.txt");
     folder.caplune("convert -o t stock.txt t.txt");
     folder.write("layout.stock", b"stock parts a/1 e/0 blocks f/2 e/0");
@@ -143,7 +143,7 @@ fn help() {
         assert!(matches!(ended.status, Some(0 | 1)) && ended.err.is_empty(), "{example}: {ended:?}");
         tried += 1;
     }
-    assert_eq!(tried, 12);
+    assert_eq!(tried, 13);
     assert_eq!(folder.prints("book --help").lines().filter(|line| line.starts_with("  caplune book ")).count(), 4);
     assert_eq!(folder.prints("--version"), "caplune 0.1.0\n");
 }
@@ -182,6 +182,7 @@ fn wrong_usage() {
             "both: it would be overwritten: give another file",
         ),
         ("compare stock.txt t.txt", "compare: it takes STOCK SHEET SHEET...; `caplune compare --help` tells more"),
+        ("card stock.txt t.txt", "card: it takes [STOCK]; `caplune card --help` tells more"),
         (
             "place stock.txt t.txt design.txt 1,2",
             "`1,2`: an address (a place) is `-` for the root or numbers from 0 to 255 with dots between, as in 1.2",
@@ -387,6 +388,24 @@ fn single() {
     folder.write("met", format!("sheet opening q(x1) q(a(x1)) -> f(p(x1), e) q(e) -> e {old}").as_bytes());
     assert_eq!(folder.prints("single stock.txt old"), "single\n");
     assert_eq!(folder.prints("single stock.txt met"), "not single\n");
+}
+
+/// The card is that of docs/FORMATS.md, and the codes of a stock stand before its names and places.
+#[test]
+fn card() {
+    let folder = first();
+    let card = folder.prints("card");
+    let formats = fs::read_to_string(repository("docs/FORMATS.md")).unwrap();
+    let shown: String = card.lines().map(|line| format!("    {line}\n")).collect();
+    assert!(formats.contains(&format!("\n\n{shown}\n")), "{card}");
+    let words: Vec<&str> = card.split_whitespace().collect();
+    assert_eq!((card.lines().count(), words.len(), words[0], words[63]), (8, 64, "A1", "H8"));
+    assert_eq!(folder.prints("card stock.txt"), "A1 f/2\nA2 e/0\n");
+    // without names, all 64 kinds by their codes
+    folder.write("stock", &[&[1, 0, 64][..], &[0; 64]].concat());
+    let codes: String = words.iter().map(|code| format!("{code} {code}/0\n")).collect();
+    assert_eq!(folder.prints("card stock"), codes);
+    assert_eq!(folder.says("card t.txt"), folder.says("show t.txt"));
 }
 
 #[test]

@@ -132,6 +132,18 @@ fn lengths_of_stocks() {
     }
 }
 
+/// Every code, as the first block's and as the second's.
+#[test]
+fn codes() {
+    let stock = [&[1, 0, 64][..], &[0; 64]].concat();
+    for symbol in 0..64 {
+        let next = (symbol + 1) % 64;
+        let [first, second] = [symbol, next].map(|symbol| [0, 0, 1, 0, symbol]);
+        let expected = format!("first 0 1\nsecond 0 1\ndiffer 0 at - {} {}\n", block(symbol), block(next));
+        assert_eq!(printed(&stock, &first, &second), expected);
+    }
+}
+
 /// 128 passes, all lines and all marks that there may be: 20,483 bytes.
 #[test]
 fn lengths_of_sheets() {

@@ -132,6 +132,10 @@ fn codes() {
     let names = Names::codes(&alphabets);
     assert_eq!((names.inputs()[8].as_str(), names.inputs()[15].as_str()), ("b1", "b8"));
     assert_eq!((names.outputs()[0].as_str(), names.outputs()[63].as_str()), ("A1", "H8"));
+    let code = |first: u8, symbol: usize| format!("{}{}", char::from(first + symbol as u8 / 8), symbol % 8 + 1);
+    assert_eq!(names.inputs(), (0..16).map(|symbol| code(b'a', symbol)).collect::<Vec<_>>());
+    assert_eq!(names.outputs(), (0..64).map(|symbol| code(b'A', symbol)).collect::<Vec<_>>());
+    assert_eq!(text::write_card().split_whitespace().collect::<Vec<_>>(), names.outputs());
     assert_eq!(StateNames::numbered(128).as_slice()[127], "q127");
     let joined = s().1.joined(&names);
     assert_eq!((joined.inputs(), joined.outputs()), (s().1.inputs(), names.outputs()));

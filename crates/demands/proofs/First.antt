@@ -42,6 +42,7 @@ demand-1 = record {
   joining = λ stock stock′ s s′ before after r J. answered J;
   comparison = λ stock s s′ tree tree′ address address′ r J. answered J;
   shorter = λ stock s s′ part. none-handed;
+  codes = λ before after r J. answered J;
   making = λ stock area area′ h h′ rs rs′ r J. answered J;
   entry = λ s area area′ h h′ rs rs′ r J. answered J;
   body-of = λ area part h rs n H f. none-handed H (λ w. f (w .0));

@@ -24,6 +24,8 @@ use Rattle.forms.specs.Answers.{formOf}
 use Rattle.forms.specs.declared.write.Formed.{Formed}
 use Rattle.canonical.specs.Answers.{Cleans}
 use Rattle.join.specs.Answers.{joinable, Joins}
+use Rattle.codes.specs.Answers.{codesArea, codesWritten, WritesCodes}
+use Rattle.codes.specs.declared.symbol.CodesWritten.{CodesWritten}
 use Rattle.witness.specs.Difference.{treeArea, addressArea}
 use Rattle.comparison.specs.Answers.{pairCheck, comparedAs, Compares, HandsShorter}
 use Rattle.comparison.specs.declared.compare.Comparison.{Comparison}
@@ -65,6 +67,8 @@ pub record Demand1 : Type 0 where
   -- comparison, and the bodies of the shorter one
   pub comparison : (stock s s′ tree tree′ address address′ : List ℕ) (r : Comparison) → Compares stock s s′ tree tree′ address address′ r → Answered (check 1 ((treeArea ≤ length tree) × (addressArea ≤ length address)) (pairCheck stock s s′)) ((tree′ ≡ tree) × (address′ ≡ address)) (comparedAs r)
   pub shorter : (stock s s′ part : List ℕ) → HandsShorter stock s s′ part → (Holds (pairCheck stock s s′) → ⊥) → part ≡ []
+  -- the codes of blocks
+  pub codes : (before after : List ℕ) (r : CodesWritten) → WritesCodes before after r → Answered (check 1 (codesArea ≤ length before) done) (after ≡ before) (codesWritten r)
   -- the book
   pub making : (stock area area′ : List ℕ) (h h′ : Head) (rs rs′ : List Record) (r : Made) → Makes stock h rs area h′ rs′ area′ r → Answered (check 9 (33 ≤ length rs) (alphabetCheck stock (check 8 (length stock ≤ length area) done))) (Kept h rs area h′ rs′ area′) (madeOf r)
   pub entry : (s area area′ : List ℕ) (h h′ : Head) (rs rs′ : List Record) (r : Entered) → Enters s h rs area h′ rs′ area′ r → Answered (check 9 (Chained h rs area) (sheetCheck (body rs area 0) s (formCheck (body rs area 0) s (check 8 ((x : List ℕ) × (CleanFile (body rs area 0) s x × HasPlace h rs area x)) done)))) (Kept h rs area h′ rs′ area′) (numberOf r)

@@ -18,6 +18,7 @@ use Rattle.forms.specs.Answers.{formOf}
 use Rattle.earliest.specs.Answers.{MakesEarliest}
 use Rattle.canonical.specs.Answers.{Cleans}
 use Rattle.join.specs.Answers.{Joins}
+use Rattle.codes.specs.Answers.{codesWritten, WritesCodes}
 use Rattle.comparison.specs.Answers.{comparedAs, Compares, HandsShorter}
 
 -- an acceptance is returned as 0, and what is left is told by its values; a refusal as its number, and all is left as before
@@ -107,3 +108,7 @@ pub record ExportsShorter (stock s s′ : List ℕ) (start size which : ℕ) : T
   pub part : List ℕ
   pub handed : HandsShorter stock s s′ part
   pub told-by : TellsPart stock s s′ part start size which
+
+-- an acceptance has no value; the promise says what is left in the area, also by a refusal
+abbrev pub ExportsCodes : List ℕ → List ℕ → ℕ → Type 0
+ExportsCodes area area′ r = Exported (WritesCodes area area′) codesWritten (λ v after. after ≡ v) tt tt r

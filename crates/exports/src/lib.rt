@@ -1,11 +1,13 @@
 // The library for Rust and C: numbers and slices of numbers only. Each function returns 0, or the refusal's number in the
 // table of documents 01 and 02, and gives its values through its last parameters, which a refusal leaves as they were. The two
 // that hand out a part of what is lent say what they return.
-ghost use Rattle.exports.specs.Exported.{ExportsAlphabets, ExportsTree, ExportsFile, ExportsWriting, ExportsLinear, ExportsTranslation, ExportsSymbol, ExportsEarliest, ExportsClean, ExportsJoin, ExportsComparison, ExportsShorter};
+ghost use Rattle.exports.specs.Exported.{ExportsAlphabets, ExportsTree, ExportsFile, ExportsWriting, ExportsLinear, ExportsTranslation, ExportsSymbol, ExportsEarliest, ExportsClean, ExportsJoin, ExportsComparison, ExportsShorter, ExportsCodes};
 
 pub mod registered;
 
 use canonical::normal::clean;
+use codes::symbol::CodesWritten;
+use codes::symbol::write_codes;
 use comparison::compare::Comparison;
 use comparison::compare::compare;
 use comparison::shorter::shorter;
@@ -313,4 +315,15 @@ pub extern "C" fn caplune_shorter<'a>(
     }
     *start = second.len() - part;
     2
+}
+
+// Writes the codes of all 64 output symbols (01: of blocks), A1 to H8, to the start of the area, two bytes each.
+#[no_mangle]
+pub extern "C" fn caplune_write_codes(area: &mut [u8]) -> u32
+    ensures { λ r. ⌜ ExportsCodes (now (area .entry)) (now (area .exit)) r ⌝ }
+{
+    match write_codes(area) {
+        CodesWritten::All => 0,
+        CodesWritten::Refused(x) => number_of(x),
+    }
 }

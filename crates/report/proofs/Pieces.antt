@@ -10,16 +10,14 @@ use lib.Seq.{length-sets, drop-cons}
 use Rattle.trees.specs.Refusal as refusals
 use Rattle.trees.specs.declared.refusal.Refusal.{Refusal}
 use Rattle.trees.specs.declared.refusal.Refusal.the-variants.{ShortArea, BadAlphabets, BadTree, BadContents, BadBody, LongOutput, OverLimits, FullRegistry, BadRegistry, DeepOutput, OtherAlphabet, JoinOverLimits}
+use Rattle.codes.specs.Codes.{symbolCode}
 use Rattle.formats.proofs.Writing.{Writing, sets-append, begin, room-word, word-more, finish}
 use Rattle.report.specs.Inner.Writing.{Wrote}
-use Rattle.report.specs.Text.{numberText, rest, separated, differWord, atWord, sizesLine, placeText, symbolText, differLine}
+use Rattle.report.specs.Text.{numberText, rest, separated, differWord, atWord, sizesLine, placeText, differLine}
 
 -- one byte
-pub byte-at : (t : List ℕ) {at m to : ℕ} (x : ℕ) → m ≡ at → to ≡ at + 1 → Wrote t (set t m x) at to (x ∷ [])
-byte-at t x e f = record { wrote = rw e; behind = f }
-
 pub one-byte : (t : List ℕ) (at x : ℕ) → Wrote t (set t at x) at (at + 1) (x ∷ [])
-one-byte t at x = byte-at t x refl refl
+one-byte t at x = record { wrote = refl; behind = refl }
 
 -- a piece, and another behind it
 pub then : {t u w a b : List ℕ} {at m to : ℕ} → Wrote t u at m a → Wrote u w m to b → Wrote t w at to (a ++ b)
@@ -146,10 +144,10 @@ module _ (tree v : List ℕ) (b b′ : ℕ) where
       let x = differWord ++ separated 44 tree in
       let y = x ++ atWord in
       let z = y ++ placeText v in
-      let u = z ++ (32 ∷ symbolText b) in
-      let w = u ++ (32 ∷ symbolText b′) in
-      omega (arith, length-append differWord (separated 44 tree), length-append x atWord, length-append y (placeText v), length-append z (32 ∷ symbolText b), length-append u (32 ∷ symbolText b′), length-append w (10 ∷ []))
+      let u = z ++ (32 ∷ symbolCode b) in
+      let w = u ++ (32 ∷ symbolCode b′) in
+      omega (arith, length-append differWord (separated 44 tree), length-append x atWord, length-append y (placeText v), length-append z (32 ∷ symbolCode b), length-append u (32 ∷ symbolCode b′), length-append w (10 ∷ []))
 
   -- and how it is written
-  pub differ-written : {t₀ t₁ t₂ t₃ t₄ t₅ t₆ t₇ : List ℕ} {p₀ p₁ p₂ p₃ p₄ p₅ p₆ p₇ : ℕ} → Wrote t₀ t₁ p₀ p₁ differWord → Wrote t₁ t₂ p₁ p₂ (separated 44 tree) → Wrote t₂ t₃ p₂ p₃ atWord → Wrote t₃ t₄ p₃ p₄ (placeText v) → Wrote t₄ t₅ p₄ p₅ (32 ∷ symbolText b) → Wrote t₅ t₆ p₅ p₆ (32 ∷ symbolText b′) → Wrote t₆ t₇ p₆ p₇ (10 ∷ []) → Wrote t₀ t₇ p₀ p₇ (differLine tree v b b′)
+  pub differ-written : {t₀ t₁ t₂ t₃ t₄ t₅ t₆ t₇ : List ℕ} {p₀ p₁ p₂ p₃ p₄ p₅ p₆ p₇ : ℕ} → Wrote t₀ t₁ p₀ p₁ differWord → Wrote t₁ t₂ p₁ p₂ (separated 44 tree) → Wrote t₂ t₃ p₂ p₃ atWord → Wrote t₃ t₄ p₃ p₄ (placeText v) → Wrote t₄ t₅ p₄ p₅ (32 ∷ symbolCode b) → Wrote t₅ t₆ p₅ p₆ (32 ∷ symbolCode b′) → Wrote t₆ t₇ p₆ p₇ (10 ∷ []) → Wrote t₀ t₇ p₀ p₇ (differLine tree v b b′)
   differ-written A B C D E F G = then (then (then (then (then (then A B) C) D) E) F) G

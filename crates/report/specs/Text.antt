@@ -3,6 +3,7 @@ use Prim.Native.Nat.{ℕ, zero, suc, _+_, _/_, _%_}
 use mathlib.Core.Bool.{Bool, true, false}
 use mathlib.Core.List.{List, [], _∷_, _++_}
 use lib.Dec.{ltb}
+use Rattle.codes.specs.Codes.{symbolCode}
 
 -- ---- numbers in decimal, without zeros in front: at most f + 1 digits, which a number below 10 ^ (f + 1) needs at most
 abbrev pub digitsIf : Bool → List ℕ → List ℕ → List ℕ
@@ -65,10 +66,6 @@ abbrev pub placeText : List ℕ → List ℕ
 placeText [] = 45 ∷ []
 placeText (x ∷ v) = separated 46 (x ∷ v)
 
--- an output symbol (01: the code of a block): a letter from A on for k div 8, a digit for k mod 8 plus 1
-abbrev pub symbolText : ℕ → List ℕ
-symbolText k = (65 + k / 8) ∷ (49 + k % 8) ∷ []
-
--- "differ 1 at 1 A2 A1": the symbols of the tree with commas, the address, and the two symbols there, the first transducer's first
+-- "differ 1 at 1 A2 A1": the symbols of the tree with commas, the address, and the codes of the two symbols there, the first transducer's first
 abbrev pub differLine : List ℕ → List ℕ → ℕ → ℕ → List ℕ
-differLine tree v b b′ = differWord ++ separated 44 tree ++ atWord ++ placeText v ++ (32 ∷ symbolText b) ++ (32 ∷ symbolText b′) ++ endOfLine
+differLine tree v b b′ = differWord ++ separated 44 tree ++ atWord ++ placeText v ++ (32 ∷ symbolCode b) ++ (32 ∷ symbolCode b′) ++ endOfLine

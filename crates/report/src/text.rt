@@ -3,8 +3,10 @@ ghost use Prim.Native.Nat.{_+_, _≤_, _<_};
 ghost use mathlib.Core.List.{_∷_};
 ghost use lib.ListN.{length};
 ghost use Rattle.trees.specs.Refusal as refusals;
-ghost use Rattle.report.specs.Text.{numberText, separated, placeText, symbolText, refusedLine, sizesLine, alikeLine, differLine};
+ghost use Rattle.codes.specs.Codes.{symbolCode};
+ghost use Rattle.report.specs.Text.{numberText, separated, placeText, refusedLine, sizesLine, alikeLine, differLine};
 ghost use Rattle.report.specs.Inner.Writing.{Wrote};
+use codes::symbol::symbol_code;
 use formats::file::copy_at;
 use trees::bytes::wide;
 use trees::refusal::Refusal;
@@ -63,15 +65,14 @@ pub(crate) fn write_address(text: &mut [u8], at: usize, address: &[u8]) -> usize
     write_separated(text, at, 46, address)
 }
 
-// A space and an output symbol: a letter and a digit.
+// A space and the code of an output symbol.
 pub(crate) fn write_symbol(text: &mut [u8], at: usize, k: usize) -> usize
     requires { ⌜ (k < 64) × (at + 3 ≤ length (now text)) ⌝ }
-    ensures { λ r. ⌜ Wrote (now (text .entry)) (now (text .exit)) at r (32 ∷ symbolText k) ⌝ }
+    ensures { λ r. ⌜ Wrote (now (text .entry)) (now (text .exit)) at r (32 ∷ symbolCode k) ⌝ }
 {
     text[at] = 32;
-    text[at + 1] = (65 + k / 8) as u8;
-    text[at + 2] = (49 + k % 8) as u8;
-    at + 3
+    let code = symbol_code(k);
+    write_word(text, at + 1, &code)
 }
 
 // The line of a refusal.

@@ -73,6 +73,9 @@ pub const MAX_MARKS: usize = 8192;
 /// The longest transducer's file: one byte, two for each count, two for each mark.
 pub const MAX_FILE: usize = 1 + 2 * (1 + MAX_STATES * MAX_INPUTS) + 2 * MAX_MARKS;
 
+/// The codes of all output symbols: a letter and a digit each.
+pub const CODES: usize = 2 * MAX_OUTPUTS;
+
 /// The two ranked alphabets: the rank of each symbol, a symbol being its index.
 #[derive(Clone, Copy, Debug, PartialEq, Eq)]
 pub struct Alphabets<'a> {
@@ -278,6 +281,15 @@ pub fn write_transducer(
     area[1..behind_counts].copy_from_slice(counts);
     area[behind_counts..length].copy_from_slice(marks);
     Ok(length)
+}
+
+/// Writes the codes of all output symbols to the start of `area`, each letter from A to H with each digit
+/// from 1 to 8. Refuses by 1 an area that is too short for them.
+pub fn write_codes(area: &mut [u8]) -> Result<(), u32> {
+    let codes = (b'A'..=b'H').flat_map(|letter| (b'1'..=b'8').flat_map(move |digit| [letter, digit]));
+    let start = area.get_mut(..CODES).ok_or(AREA_TOO_SHORT)?;
+    start.iter_mut().zip(codes).for_each(|(byte, code)| *byte = code);
+    Ok(())
 }
 
 /// Whether the transducer is linear (the paper: single): in the initial term, and in each right-hand

@@ -1,5 +1,5 @@
 //! Writes texts.
-use super::{fitted, state_code, Names, StateNames, Symbols};
+use super::{fitted, output_codes, state_codes, Names, StateNames, Symbols};
 use crate::{Alphabets, InputTree, Mark, OutputTree, Transducer};
 use std::borrow::Cow;
 use std::convert::Infallible;
@@ -54,7 +54,7 @@ pub fn write_output_tree(tree: &OutputTree, names: &Names, to: &mut impl io::Wri
 pub fn write_transducer(transducer: &Transducer, names: &Names, states: &StateNames) -> String {
     let alphabets = transducer.alphabets();
     let (inputs, outputs) = (Symbols::inputs(alphabets, names), Symbols::outputs(alphabets, names));
-    let states = fitted(&states.0, transducer.states(), state_code);
+    let states = fitted(&states.0, transducer.states(), state_codes);
     let term = |marks: Vec<Mark>| {
         tree_text(marks.into_iter().map(|mark| match mark {
             Mark::Symbol(symbol) => node(&outputs, symbol),
@@ -85,6 +85,16 @@ pub fn write_names(names: &Names) -> String {
 #[must_use]
 pub fn write_state_names(states: &StateNames) -> String {
     format!("names\npasses{}\n", spaced(&states.0))
+}
+
+/// The card of codes (the paper: of all blocks): those of the 64 output symbols in their order, eight to a line.
+///
+/// ```
+/// assert!(caplune::text::write_card().starts_with("A1 A2 A3 A4 A5 A6 A7 A8\nB1 B2 "));
+/// ```
+#[must_use]
+pub fn write_card() -> String {
+    output_codes(64).chunks(8).map(|row| row.join(" ") + "\n").collect()
 }
 
 /// Each name with a space before it.

@@ -7,7 +7,7 @@ use super::memory::Memory;
 use super::rows::{row_alphabets, Row};
 use super::samples::*;
 use super::{Alphabets, Random, Transducer};
-use caplune::slices::{ADDRESS_AREA, RECORDS, TREE_AREA};
+use caplune::slices::{ADDRESS_AREA, CODES_AREA, RECORDS, TREE_AREA};
 use caplune_independent as independent;
 use std::sync::OnceLock;
 
@@ -33,6 +33,8 @@ pub struct Case {
     pub output_area: usize,
     /// The lengths of the areas for the input tree and the address of a difference.
     pub shown_areas: [usize; 2],
+    /// The length of the area for the codes.
+    pub codes_area: usize,
     pub registry: Memory,
     /// The transducer that is entered.
     pub entered: Vec<u8>,
@@ -54,10 +56,11 @@ impl Case {
         if random.once_in(5) {
             case.registry.damage(&mut random);
         }
+        case.codes_area = shown_area(&mut random, CODES_AREA);
         case
     }
 
-    /// Files as they should be, or hardly over the limits. Areas may be too short.
+    /// Files as they should be, or hardly over the limits. Areas may be too short, but that for the codes is not.
     fn valid(random: &mut Random) -> Self {
         let (pair, deep) = if random.once_in(12) { deep_pair(random) } else { (pair(random), None) };
         let Pair { stocks: [stock, second_stock], files: [mut first, third] } = pair;
@@ -79,6 +82,7 @@ impl Case {
             file_areas: std::array::from_fn(|_| file_area(random)),
             output_area: output_area(random, output.map_or(limit, |output| output.len())),
             shown_areas: [TREE_AREA, ADDRESS_AREA].map(|least| shown_area(random, least)),
+            codes_area: CODES_AREA,
             number: body_number(random, registry.head.held),
             stock,
             first,

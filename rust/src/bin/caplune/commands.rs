@@ -3,6 +3,7 @@ use crate::arguments::{Arguments, Choice};
 use crate::failure::Failure;
 use crate::files::{not_over, print, shown, Content, Either, Input, Inputs, Stock};
 use crate::{book, comparing, Status};
+use caplune::text::{self, Names};
 use caplune::{Address, Transducer};
 use std::ffi::OsString;
 use std::fmt::Write;
@@ -128,6 +129,17 @@ const COMMANDS: &[Command] = &[
                of the first.",
         example: "caplune join layout.stock layout.sheet fabric.stock fabric.sheet",
         run: join,
+    },
+    Command {
+        name: "card",
+        takes: "[STOCK]",
+        words: (0, 1),
+        choices: &[],
+        does: "print the card: the codes of all 64 block kinds, in their order, or those of a stock",
+        more: "The card has eight codes to a line. Of a stock, each block kind stands in a line of its own: its\n\
+               code, its name and its places. Codes are written where a block kind has no name.",
+        example: "caplune card stock.txt",
+        run: card,
     },
     Command {
         name: "book make",
@@ -344,6 +356,17 @@ fn single(arguments: &Arguments) -> Result<Status, Failure> {
     let stock = inputs.stock(&arguments.plain[0])?;
     let sheet = inputs.sheet(&arguments.plain[1], &stock)?;
     print(if sheet.transducer.is_linear() { "single\n" } else { "not single\n" })?;
+    Ok(Status::Done)
+}
+
+fn card(arguments: &Arguments) -> Result<Status, Failure> {
+    let Some(file) = arguments.plain.first() else {
+        return print(&text::write_card()).map(|()| Status::Done);
+    };
+    let Stock { alphabets, names } = Inputs::default().stock(file)?;
+    let codes = Names::codes(&alphabets);
+    let kinds = codes.outputs().iter().zip(names.outputs()).zip(alphabets.output_ranks());
+    print(&kinds.map(|((code, name), places)| format!("{code} {name}/{places}\n")).collect::<String>())?;
     Ok(Status::Done)
 }
 

@@ -1,0 +1,2 @@
+-- What only inner functions and their proofs speak of.
+pub mod Table

@@ -1,0 +1,20 @@
+-- A test of a whole table of codes, which the checker computes.
+use Prim.Native.Nat.{ℕ, zero, suc}
+use mathlib.Core.Bool.{Bool, true, false, _&&_}
+use mathlib.Core.List.{List, [], _∷_}
+use lib.Dec.{eqb}
+use Rattle.codes.specs.Codes.{symbolCode}
+
+-- two lists of numbers are the same
+abbrev pub same : List ℕ → List ℕ → Bool
+same [] [] = true
+same [] (y ∷ ys) = false
+same (x ∷ xs) [] = false
+same (x ∷ xs) (y ∷ ys) = eqb x y && same xs ys
+
+-- the table has the codes of n symbols, from k on
+abbrev pub coded : ℕ → ℕ → List (List ℕ) → Bool
+coded k zero [] = true
+coded k zero (x ∷ xs) = false
+coded k (suc n) [] = false
+coded k (suc n) (x ∷ xs) = same x (symbolCode k) && coded (suc k) n xs
