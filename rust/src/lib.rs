@@ -15,6 +15,7 @@
 //! | sew, clean, join | [`Transducer::translate`], [`Transducer::normal_form`], [`Transducer::then`] |
 //! | alike, or the design and place that differ | [`Comparison`], [`Difference`] |
 //! | book | [`Registry`] |
+//! | codes of blocks, card | [`text::Names::codes`], [`text::write_card`], [`slices::write_codes`] |
 //!
 //! ```
 //! use caplune::{Alphabets, Comparison, Refusal, Transducer};
