@@ -26,6 +26,10 @@ use Rattle.canonical.specs.Answers.{Cleans}
 use Rattle.join.specs.Answers.{joinable, Joins}
 use Rattle.codes.specs.Answers.{codesArea, codesWritten, WritesCodes}
 use Rattle.codes.specs.declared.symbol.CodesWritten.{CodesWritten}
+use Rattle.xml.specs.Answers.{formsCheck, converted, WritesXml, ReadsXml}
+use Rattle.xml.specs.Xml.{xml}
+use Rattle.xml.specs.declared.write.Converted.{Converted}
+use Rattle.trees.specs.Code.{code}
 use Rattle.witness.specs.Difference.{treeArea, addressArea}
 use Rattle.comparison.specs.Answers.{pairCheck, comparedAs, Compares, HandsShorter}
 use Rattle.comparison.specs.declared.compare.Comparison.{Comparison}
@@ -69,6 +73,9 @@ pub record Demand1 : Type 0 where
   pub shorter : (stock s s′ part : List ℕ) → HandsShorter stock s s′ part → (Holds (pairCheck stock s s′) → ⊥) → part ≡ []
   -- the codes of blocks
   pub codes : (before after : List ℕ) (r : CodesWritten) → WritesCodes before after r → Answered (check 1 (codesArea ≤ length before) done) (after ≡ before) (codesWritten r)
+  -- plans as XML, written and read
+  pub xml-written : (stock s before after : List ℕ) (r : Converted) → WritesXml stock s before after r → Answered (alphabetCheck stock (formsCheck code xml stock s before done)) (after ≡ before) (converted r)
+  pub xml-read : (stock s before after : List ℕ) (r : Converted) → ReadsXml stock s before after r → Answered (alphabetCheck stock (formsCheck xml code stock s before done)) (after ≡ before) (converted r)
   -- the book
   pub making : (stock area area′ : List ℕ) (h h′ : Head) (rs rs′ : List Record) (r : Made) → Makes stock h rs area h′ rs′ area′ r → Answered (check 9 (33 ≤ length rs) (alphabetCheck stock (check 8 (length stock ≤ length area) done))) (Kept h rs area h′ rs′ area′) (madeOf r)
   pub entry : (s area area′ : List ℕ) (h h′ : Head) (rs rs′ : List Record) (r : Entered) → Enters s h rs area h′ rs′ area′ r → Answered (check 9 (Chained h rs area) (sheetCheck (body rs area 0) s (formCheck (body rs area 0) s (check 8 ((x : List ℕ) × (CleanFile (body rs area 0) s x × HasPlace h rs area x)) done)))) (Kept h rs area h′ rs′ area′) (numberOf r)

@@ -19,6 +19,7 @@ use Rattle.earliest.specs.Answers.{MakesEarliest}
 use Rattle.canonical.specs.Answers.{Cleans}
 use Rattle.join.specs.Answers.{Joins}
 use Rattle.codes.specs.Answers.{codesWritten, WritesCodes}
+use Rattle.xml.specs.Answers.{converted, WritesXml, ReadsXml}
 use Rattle.comparison.specs.Answers.{comparedAs, Compares, HandsShorter}
 
 -- an acceptance is returned as 0, and what is left is told by its values; a refusal as its number, and all is left as before
@@ -112,3 +113,10 @@ pub record ExportsShorter (stock s s′ : List ℕ) (start size which : ℕ) : T
 -- an acceptance has no value; the promise says what is left in the area, also by a refusal
 abbrev pub ExportsCodes : List ℕ → List ℕ → ℕ → Type 0
 ExportsCodes area area′ r = Exported (WritesCodes area area′) codesWritten (λ v after. after ≡ v) tt tt r
+
+-- the length of the text, and the number of symbols; the promise says what is left in the area, also by a refusal
+abbrev pub ExportsXmlWriting : List ℕ → List ℕ → List ℕ → List ℕ → ℕ → ℕ → ℕ → Type 0
+ExportsXmlWriting stock tree text text′ before after r = Exported (WritesXml stock tree text text′) converted (λ v after. after ≡ v) before after r
+
+abbrev pub ExportsXmlReading : List ℕ → List ℕ → List ℕ → List ℕ → ℕ → ℕ → ℕ → Type 0
+ExportsXmlReading stock text area area′ before after r = Exported (ReadsXml stock text area area′) converted (λ v after. after ≡ v) before after r

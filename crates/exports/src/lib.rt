@@ -1,7 +1,7 @@
 // The library for Rust and C: numbers and slices of numbers only. Each function returns 0, or the refusal's number in the
 // table of documents 01 and 02, and gives its values through its last parameters, which a refusal leaves as they were. The two
 // that hand out a part of what is lent say what they return.
-ghost use Rattle.exports.specs.Exported.{ExportsAlphabets, ExportsTree, ExportsFile, ExportsWriting, ExportsLinear, ExportsTranslation, ExportsSymbol, ExportsEarliest, ExportsClean, ExportsJoin, ExportsComparison, ExportsShorter, ExportsCodes};
+ghost use Rattle.exports.specs.Exported.{ExportsAlphabets, ExportsTree, ExportsFile, ExportsWriting, ExportsLinear, ExportsTranslation, ExportsSymbol, ExportsEarliest, ExportsClean, ExportsJoin, ExportsComparison, ExportsShorter, ExportsCodes, ExportsXmlWriting, ExportsXmlReading};
 
 pub mod registered;
 
@@ -31,6 +31,9 @@ use trees::alphabet::read_alphabets;
 use trees::refusal::number_of;
 use trees::tree::TreeRead;
 use trees::tree::read_tree;
+use xml::read::read_xml;
+use xml::write::Converted;
+use xml::write::write_xml;
 
 // Reads two alphabets (01: stock): how many input and output symbols there are.
 #[no_mangle]
@@ -325,5 +328,43 @@ pub extern "C" fn caplune_write_codes(area: &mut [u8]) -> u32
     match write_codes(area) {
         CodesWritten::All => 0,
         CodesWritten::Refused(x) => number_of(x),
+    }
+}
+
+// Writes an output tree (01: plan) as XML to the start of the area `text`: how long the text is.
+#[no_mangle]
+pub extern "C" fn caplune_write_xml(
+    stock: &[u8],
+    tree: &[u8],
+    text: &mut [u8],
+    length: &mut usize,
+) -> u32
+    ensures { λ r. ⌜ ExportsXmlWriting (now (stock .entry)) (now (tree .entry)) (now (text .entry)) (now (text .exit)) (now (length .entry)) (now (length .exit)) r ⌝ }
+{
+    match write_xml(stock, tree, text) {
+        Converted::Length(n) => {
+            *length = n;
+            0
+        }
+        Converted::Refused(x) => number_of(x),
+    }
+}
+
+// Reads the XML of an output tree (01: plan), and writes the tree to the start of the area: how many symbols it has.
+#[no_mangle]
+pub extern "C" fn caplune_read_xml(
+    stock: &[u8],
+    text: &[u8],
+    area: &mut [u8],
+    length: &mut usize,
+) -> u32
+    ensures { λ r. ⌜ ExportsXmlReading (now (stock .entry)) (now (text .entry)) (now (area .entry)) (now (area .exit)) (now (length .entry)) (now (length .exit)) r ⌝ }
+{
+    match read_xml(stock, text, area) {
+        Converted::Length(n) => {
+            *length = n;
+            0
+        }
+        Converted::Refused(x) => number_of(x),
     }
 }

@@ -8,6 +8,7 @@ use mathlib.Core.Path.{_≡_, refl, sym, ap, _∙_}
 use mathlib.Core.List.{List, [], _∷_, _++_}
 use lib.ListN.{length, set, length-set, length-append}
 use lib.Seq.{sets, length-sets}
+use Rattle.formats.specs.Inner.Written.{Wrote}
 
 pub sets-append : (v w l : List ℕ) (at : ℕ) → sets l at (v ++ w) ≡ sets (sets l at v) (at + length v) w
 sets-append [] w l at = rw add-zero
@@ -45,3 +46,19 @@ module _ {whole start left now : List ℕ} {at w : ℕ} (W : Writing whole at st
 
   pub finish : left ≡ [] → (w ≡ at + length whole) × (now ≡ sets start at whole)
   finish e = (omega (arith, W .place, ap length e), sym (W .same-end ∙ ap (sets now w) e))
+
+-- ---- words, one behind the other
+-- a word, and another behind it
+pub then : {t u w a b : List ℕ} {at m to : ℕ} → Wrote t u at m a → Wrote u w m to b → Wrote t w at to (a ++ b)
+then {t} {a = a} {b} {at} {m} A B = record {
+  wrote = B .wrote ∙ rw (A .wrote, A .behind) (sym (sets-append a b t at));
+  behind = omega (arith, A .behind, B .behind, length-append a b);
+}
+
+-- the same word
+pub wrote-as : {t u a b : List ℕ} {at to : ℕ} → a ≡ b → Wrote t u at to a → Wrote t u at to b
+wrote-as e W = rw (← e) W
+
+-- the area stays as long
+pub wrote-long : {t u a : List ℕ} {at to : ℕ} → Wrote t u at to a → length u ≡ length t
+wrote-long {t} {a = a} {at} W = ap length (W .wrote) ∙ length-sets t at a

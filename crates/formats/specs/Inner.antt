@@ -2,3 +2,4 @@
 pub mod Layout
 pub mod Marked
 pub mod Judging
+pub mod Written

@@ -7,6 +7,7 @@ ghost use Rattle.trees.specs.Alphabets.{Alphabets, inputs};
 ghost use Rattle.formats.specs.Answers.{ReadsFile, HandsCounts, HandsMarks, WritesFile};
 ghost use Rattle.formats.specs.Inner.Layout.{bodyCount};
 ghost use Rattle.formats.specs.Inner.Judging.{JudgesParts, JudgesFile, Put};
+ghost use Rattle.formats.specs.Inner.Written.{Wrote};
 ghost use Rattle.formats.specs.Sheet.{file};
 use crate::bodies::bodies_whole;
 use crate::bodies::counts_right;
@@ -124,6 +125,15 @@ pub fn copy_at(from: &[u8], area: &mut [u8], at: usize)
         area[at + j] = from[j];
         j += 1;
     }
+}
+
+// Writes a word as it stands to `text`, from `at` on, and says which position is behind it.
+pub fn write_word(text: &mut [u8], at: usize, word: &[u8]) -> usize
+    requires { ⌜ at + length (now word) ≤ length (now text) ⌝ }
+    ensures { λ r. ⌜ Wrote (now (text .entry)) (now (text .exit)) at r (now (word .entry)) ⌝ }
+{
+    copy_at(word, text, at);
+    at + word.len()
 }
 
 // Writes N, the counts and the marks, and says how many bytes that are.

@@ -4,35 +4,20 @@ use Prim.Native.Nat.{ℕ, _+_, _≤_, _<_}
 use native.Mathlib.Numerals.{add-one}
 use native.Mathlib.Omega.{arith}
 use mathlib.Core.List.{List, [], _∷_, _++_}
-use mathlib.Core.Path.{_≡_, refl, ap, sym, _∙_}
+use mathlib.Core.Path.{_≡_, refl, ap, sym}
 use lib.ListN.{length, getD, drop, set, length-append, drop-of-length-le}
-use lib.Seq.{length-sets, drop-cons}
+use lib.Seq.{drop-cons}
 use Rattle.trees.specs.Refusal as refusals
 use Rattle.trees.specs.declared.refusal.Refusal.{Refusal}
-use Rattle.trees.specs.declared.refusal.Refusal.the-variants.{ShortArea, BadAlphabets, BadTree, BadContents, BadBody, LongOutput, OverLimits, FullRegistry, BadRegistry, DeepOutput, OtherAlphabet, JoinOverLimits}
+use Rattle.trees.specs.declared.refusal.Refusal.the-variants.{ShortArea, BadAlphabets, BadTree, BadContents, BadBody, LongOutput, OverLimits, FullRegistry, BadRegistry, DeepOutput, BadOutput, ShortTarget, OtherAlphabet, JoinOverLimits}
 use Rattle.codes.specs.Codes.{symbolCode}
-use Rattle.formats.proofs.Writing.{Writing, sets-append, begin, room-word, word-more, finish}
-use Rattle.report.specs.Inner.Writing.{Wrote}
+use Rattle.formats.proofs.Writing.{Writing, begin, room-word, word-more, finish, then, wrote-as, wrote-long}
+use Rattle.formats.specs.Inner.Written.{Wrote}
 use Rattle.report.specs.Text.{numberText, rest, separated, differWord, atWord, sizesLine, placeText, differLine}
 
 -- one byte
 pub one-byte : (t : List ℕ) (at x : ℕ) → Wrote t (set t at x) at (at + 1) (x ∷ [])
 one-byte t at x = record { wrote = refl; behind = refl }
-
--- a piece, and another behind it
-pub then : {t u w a b : List ℕ} {at m to : ℕ} → Wrote t u at m a → Wrote u w m to b → Wrote t w at to (a ++ b)
-then {t} {a = a} {b} {at} {m} A B = record {
-  wrote = B .wrote ∙ rw (A .wrote, A .behind) (sym (sets-append a b t at));
-  behind = omega (arith, A .behind, B .behind, length-append a b);
-}
-
--- the same piece
-pub wrote-as : {t u a b : List ℕ} {at to : ℕ} → a ≡ b → Wrote t u at to a → Wrote t u at to b
-wrote-as e W = rw (← e) W
-
--- the area stays as long
-pub wrote-long : {t u a : List ℕ} {at to : ℕ} → Wrote t u at to a → length u ≡ length t
-wrote-long {t} {a = a} {at} W = ap length (W .wrote) ∙ length-sets t at a
 
 -- ---- numbers with a byte between them
 module _ (s : ℕ) (items : List ℕ) where
@@ -133,6 +118,8 @@ refusal-low OverLimits = omega arith
 refusal-low FullRegistry = omega arith
 refusal-low BadRegistry = omega arith
 refusal-low DeepOutput = omega arith
+refusal-low BadOutput = omega arith
+refusal-low ShortTarget = omega arith
 refusal-low OtherAlphabet = omega arith
 refusal-low JoinOverLimits = omega arith
 

@@ -27,13 +27,15 @@ use Rattle.comparison.specs.declared.compare.Comparison.{Comparison}
 use Rattle.comparison.specs.declared.compare.Comparison.the-variants as compared
 use Rattle.comparison.proofs.Comparing.{past}
 use Rattle.report.specs.Answers.{textArea, Sizes, Shows, Report, Lines, Reports}
-use Rattle.report.specs.Inner.Writing.{Wrote, cleanCheck, WroteNormal, WroteBoth}
+use Rattle.formats.specs.Inner.Written.{Wrote}
+use Rattle.report.specs.Inner.Writing.{cleanCheck, WroteNormal, WroteBoth}
 use Rattle.report.specs.Text.{separated, firstWord, secondWord, refusedLine, sizesLine, alikeLine, placeText, differLine}
 use Rattle.report.specs.declared.report.Reported.the-variants as reported
 use Rattle.discovery.proofs.Ranks.{translate-ranked}
 use Rattle.report.proofs.Bounds.{address-low, tree-long, address-long}
 use Rattle.report.proofs.Decimals.{number-three, number-four}
-use Rattle.report.proofs.Pieces.{then, sizes-long, differ-long}
+use Rattle.formats.proofs.Writing.{then}
+use Rattle.report.proofs.Pieces.{sizes-long, differ-long}
 
 -- ---- a normal form
 -- it has few states and marks

@@ -5,21 +5,12 @@ ghost use lib.ListN.{length};
 ghost use Rattle.trees.specs.Refusal as refusals;
 ghost use Rattle.codes.specs.Codes.{symbolCode};
 ghost use Rattle.report.specs.Text.{numberText, separated, placeText, refusedLine, sizesLine, alikeLine, differLine};
-ghost use Rattle.report.specs.Inner.Writing.{Wrote};
+ghost use Rattle.formats.specs.Inner.Written.{Wrote};
 use codes::symbol::symbol_code;
-use formats::file::copy_at;
+use formats::file::write_word;
 use trees::bytes::wide;
 use trees::refusal::Refusal;
 use trees::refusal::number_of;
-
-// A word as it stands.
-pub(crate) fn write_word(text: &mut [u8], at: usize, word: &[u8]) -> usize
-    requires { ⌜ at + length (now word) ≤ length (now text) ⌝ }
-    ensures { λ r. ⌜ Wrote (now (text .entry)) (now (text .exit)) at r (now (word .entry)) ⌝ }
-{
-    copy_at(word, text, at);
-    at + word.len()
-}
 
 // A number below 10,000 in decimal.
 pub(crate) fn write_number(text: &mut [u8], at: usize, n: usize) -> usize

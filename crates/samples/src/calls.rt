@@ -20,6 +20,9 @@ use trees::alphabet::AlphabetsRead;
 use trees::alphabet::read_alphabets;
 use trees::tree::TreeRead;
 use trees::tree::read_tree;
+use xml::read::read_xml;
+use xml::write::Converted;
+use xml::write::write_xml;
 
 pub(crate) fn stock(stock: &[u8]) {
     match read_alphabets(stock) {
@@ -144,5 +147,23 @@ pub(crate) fn joining(
 ) {
     answer::form(b"joined ", join(first, second, sheet1, sheet2, area));
     answer::text(b"\n");
+    answer::area_starts(area, shown);
+}
+
+// A plan as XML.
+pub(crate) fn xml(stock: &[u8], plan: &[u8], area: &mut [u8], shown: usize) {
+    match write_xml(stock, plan, area) {
+        Converted::Length(n) => answer::one(b"bytes ", n),
+        Converted::Refused(r) => answer::refused(r),
+    }
+    answer::area_starts(area, shown);
+}
+
+// The plan whose XML a text is.
+pub(crate) fn plan(stock: &[u8], text: &[u8], area: &mut [u8], shown: usize) {
+    match read_xml(stock, text, area) {
+        Converted::Length(n) => answer::one(b"blocks ", n),
+        Converted::Refused(r) => answer::refused(r),
+    }
     answer::area_starts(area, shown);
 }

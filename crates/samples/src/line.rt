@@ -8,6 +8,7 @@
 //     writing AREA SHOWN PASSES: a stock, counts, marks
 //     pair AREA AREA: a stock, two sheets; the first area is for the design, the other for the place
 //     joining AREA SHOWN: two stocks, two sheets
+//     xml AREA SHOWN: a stock, a plan                plan AREA SHOWN: a stock, a text
 //
 // AREA is the length of an area, and SHOWN how many bytes of the first one are printed on a line of their own; none, if it is 0.
 ghost use Prim.Native.Nat.{_≤_};
@@ -30,19 +31,19 @@ fn is_call(word: &[u8], k: usize) -> bool {
     same(
         word,
         nth(
-            b"is stock design sheet counts marks single place sewing cleaning writing pair joining",
+            b"is stock design sheet counts marks single place sewing cleaning writing pair joining xml plan",
             k,
             b' ',
         ),
     )
 }
 
-// The number of the call; 13, if there is none.
+// The number of the call; 15, if there is none.
 fn call_number(word: &[u8]) -> usize
-    ensures { λ r. ⌜ r ≤ 13 ⌝ }
+    ensures { λ r. ⌜ r ≤ 15 ⌝ }
 {
     let mut k = 0;
-    while k < 13 {
+    while k < 15 {
         if is_call(word, k) {
             return k;
         }
@@ -51,17 +52,34 @@ fn call_number(word: &[u8]) -> usize
     k
 }
 
-// The call that a line asks for; 13, if its files could not be read, or are not as many as the call takes, or its numbers are not:
+// The call that a line asks for; 15, if its files could not be read, or are not as many as the call takes, or its numbers are not:
 // the two digits here.
 fn asked(s: &[u8], call: &[u8], end: usize) -> usize {
     let files = wrapping_sub_usize(count(s, b'|'), 1);
     let numbers = wrapping_sub_usize(count(call, b' '), 2);
-    let takes: [usize; 14] = [10, 10, 20, 20, 20, 20, 20, 40, 31, 23, 33, 32, 42, 99];
+    let takes: [usize; 16] = [
+        10,
+        10,
+        20,
+        20,
+        20,
+        20,
+        20,
+        40,
+        31,
+        23,
+        33,
+        32,
+        42,
+        22,
+        22,
+        99,
+    ];
     let k = call_number(nth(call, 1, b' '));
     if end <= 65536 && takes[k] / 10 == files && takes[k] % 10 == numbers {
         k
     } else {
-        13
+        15
     }
 }
 
@@ -82,6 +100,8 @@ fn lent<'a>(
         10 => calls::writing(a, b, c, x, area, other.len()),
         11 => calls::pair(a, b, c, area, other),
         12 => calls::joining(a, b, c, d, area, other.len()),
+        13 => calls::xml(a, b, area, other.len()),
+        14 => calls::plan(a, b, area, other.len()),
         _ => answer::bad_line(),
     }
 }

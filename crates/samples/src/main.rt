@@ -1,7 +1,7 @@
 // Document 01's small inputs and samples, a line for each: its name, and the answer. The cases stand in the file `stdin`, and what
 // they print in `stdout`; `reader.rt` says how to add one.
 // What is printed is in the document's words: stock (alphabets), design (input tree), sheet (transducer), pass (state), block
-// (output symbol), place (address), single (linear), trimmed (earliest form), clean (normal form), joined (the second transducer after the first).
+// (output symbol), place (address), single (linear), trimmed (earliest form), clean (normal form), joined (the second transducer after the first), XML (the text of a plan).
 mod answer;
 mod calls;
 mod line;

@@ -26,19 +26,19 @@ ground : {X : Type 0} (g g′ : ⊥ → List X) (y : ℕ → X) (d : Tree) → p
 ground g g′ y d = ap (λ h. preorder h y d) (fun-ext (λ x. absurd x))
 
 -- ---- without the limits
-abbrev OverIns : List ℕ → Tree → Type 0
+abbrev pub OverIns : List ℕ → Tree → Type 0
 OverIns ins d = Over (symbolOf ins) (λ x. absurd x) (λ k. k) d
 
 module _ (ins s : List ℕ) where
   -- the code of a tree over the alphabet is read as one tree, and it is that tree
-  coded-whole : (d : Tree) → OverIns ins d → code d ≡ s → IsTree ins s × (tree ins s ≡ d)
+  pub coded-whole : (d : Tree) → OverIns ins d → code d ≡ s → IsTree ins s × (tree ins s ≡ d)
   unfolding tree trees
   coded-whole d o e =
       let w = ground (λ a. absurd a ∷ []) (λ x. absurd x) (λ k. k) d ∙ e in
       (exactly (symbolOf ins) (λ x. absurd x) (λ k. k) (faithful-symbols ins) 0 s .1 (d, o, w), ap (λ l. first (forest (symbolOf ins) l)) (sym w) ∙ reads-back (symbolOf ins) (λ x. absurd x) (λ k. k) d o)
 
   -- what is read as one tree is the code of the tree that is read
-  whole-coded : IsTree ins s → OverIns ins (tree ins s) × (code (tree ins s) ≡ s)
+  pub whole-coded : IsTree ins s → OverIns ins (tree ins s) × (code (tree ins s) ≡ s)
   whole-coded W =
       let w = exactly (symbolOf ins) (λ x. absurd x) (λ k. k) (faithful-symbols ins) 0 s .0 W in
       let c = ground (λ x. absurd x) (λ a. absurd a ∷ []) (λ k. k) (w .0) ∙ w .2 in

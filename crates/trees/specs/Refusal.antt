@@ -5,7 +5,7 @@ use mathlib.Core.List.{List, []}
 use mathlib.Core.Logic.{_⊎_}
 use mathlib.Core.Path.{_≡_}
 use Rattle.trees.specs.declared.refusal.Refusal.{Refusal}
-use Rattle.trees.specs.declared.refusal.Refusal.the-variants.{ShortArea, BadAlphabets, BadTree, BadContents, BadBody, LongOutput, OverLimits, FullRegistry, BadRegistry, DeepOutput, OtherAlphabet, JoinOverLimits}
+use Rattle.trees.specs.declared.refusal.Refusal.the-variants.{ShortArea, BadAlphabets, BadTree, BadContents, BadBody, LongOutput, OverLimits, FullRegistry, BadRegistry, DeepOutput, BadOutput, ShortTarget, OtherAlphabet, JoinOverLimits}
 
 -- the table of document 01, and the numbers that 02 adds
 abbrev pub refusalNumber : Refusal → ℕ
@@ -19,6 +19,8 @@ refusalNumber OverLimits = 7
 refusalNumber FullRegistry = 8
 refusalNumber BadRegistry = 9
 refusalNumber DeepOutput = 10
+refusalNumber BadOutput = 11
+refusalNumber ShortTarget = 12
 refusalNumber OtherAlphabet = 16
 refusalNumber JoinOverLimits = 17
 

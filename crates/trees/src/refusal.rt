@@ -13,6 +13,8 @@ pub enum Refusal {
     FullRegistry,
     BadRegistry,
     DeepOutput,
+    BadOutput,
+    ShortTarget,
     OtherAlphabet,
     JoinOverLimits,
 }
@@ -32,6 +34,8 @@ pub fn number_of(r: Refusal) -> u32
         Refusal::FullRegistry => 8,
         Refusal::BadRegistry => 9,
         Refusal::DeepOutput => 10,
+        Refusal::BadOutput => 11,
+        Refusal::ShortTarget => 12,
         Refusal::OtherAlphabet => 16,
         Refusal::JoinOverLimits => 17,
     }

@@ -1,20 +1,14 @@
 -- What a function that writes a piece of text promises.
 use Prim.Native.Nat.{ℕ, _+_, _≤_}
 use mathlib.Core.List.{List, _++_}
-use mathlib.Core.Path.{_≡_}
 use lib.ListN.{length}
-use lib.Seq.{sets}
 use Rattle.trees.specs.Alphabets.{alphabetCheck}
 use Rattle.trees.specs.Refusal.{Checks, done}
 use Rattle.formats.specs.Sheet.{sheetCheck}
+use Rattle.formats.specs.Inner.Written.{Wrote}
 use Rattle.earliest.specs.Answers.{formCheck}
 use Rattle.report.specs.Answers.{Sizes}
 use Rattle.report.specs.Text.{firstWord, secondWord, sizesLine}
-
--- these bytes were written from `at` on, and `to` is the position behind them
-pub record Wrote (before after : List ℕ) (at to : ℕ) (bytes : List ℕ) : Type 0 where
-  pub wrote : after ≡ sets before at bytes
-  pub behind : to ≡ at + length bytes
 
 -- what a file has to pass so that it has a normal form: refusals 2, 4, 5 and 7
 abbrev pub cleanCheck : List ℕ → List ℕ → Checks

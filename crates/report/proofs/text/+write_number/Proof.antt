@@ -8,10 +8,11 @@ use borrow.Author.Needs.{needs}
 use borrow.Fn.Kinds.{In}
 use borrow.Fn.PlainCycle.{Measures, is, falls, and}
 use denote.Ref.{now}
-use Rattle.report.specs.Inner.Writing.{Wrote}
+use Rattle.formats.specs.Inner.Written.{Wrote}
 use Rattle.report.specs.Text.{numberText}
 use Rattle.report.proofs.Decimals.{number-digit, number-more}
-use Rattle.report.proofs.Pieces.{one-byte, then, wrote-as, wrote-long}
+use Rattle.formats.proofs.Writing.{then, wrote-as, wrote-long}
+use Rattle.report.proofs.Pieces.{one-byte}
 use Rattle.report.proofs.text.write_number.Reads as write-number
 use Rattle.report.proofs.text.write_number.Kinds as write-number-kinds
 use Rattle.report.proofs.text.+write_number.Lts-write_number as write-number-lts

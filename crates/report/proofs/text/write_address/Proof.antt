@@ -3,7 +3,8 @@ use native.Mathlib.Omega.{arith}
 use mathlib.Core.Path.{ap, sym}
 use lib.ListN.{length}
 use denote.Ref.{now}
-use Rattle.report.proofs.Pieces.{one-byte, wrote-as, root-text, below-text, below-room}
+use Rattle.formats.proofs.Writing.{wrote-as}
+use Rattle.report.proofs.Pieces.{one-byte, root-text, below-text, below-room}
 use borrow.Author.Needs.{needs}
 use Rattle.report.proofs.text.write_address.Statement.{statement}
 use Rattle.report.proofs.text.write_address.Tie as tie

@@ -4,7 +4,8 @@ use native.Mathlib.Omega.{arith}
 use mathlib.Core.Path.{ap}
 use Rattle.report.specs.Text.{numberText}
 use Rattle.report.proofs.Decimals.{number-two}
-use Rattle.report.proofs.Pieces.{then, wrote-as, refusal-low}
+use Rattle.formats.proofs.Writing.{then, wrote-as}
+use Rattle.report.proofs.Pieces.{refusal-low}
 use borrow.Author.Needs.{needs}
 use Rattle.report.proofs.text.write_refused.Statement.{statement}
 use Rattle.report.proofs.text.write_refused.Tie as tie

@@ -6,7 +6,8 @@ use lib.ListN.{length, length-set}
 use borrow.Author.Needs.{needs}
 use denote.Ref.{now}
 use Rattle.report.specs.Text.{numberText}
-use Rattle.report.proofs.Pieces.{wrote-as, wrote-long, Separating, none-separated, first-room, first-separated, next-room, all-separated, next-separated}
+use Rattle.formats.proofs.Writing.{wrote-as, wrote-long}
+use Rattle.report.proofs.Pieces.{Separating, none-separated, first-room, first-separated, next-room, all-separated, next-separated}
 use Rattle.report.proofs.text.write_separated.Statement.{statement}
 use Rattle.report.proofs.text.write_separated.Tie as tie
 

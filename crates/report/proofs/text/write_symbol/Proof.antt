@@ -3,7 +3,8 @@ use native.Mathlib.Omega.{arith}
 use mathlib.Core.Path.{ap, _∙_}
 use lib.ListN.{length, length-set}
 use denote.Ref.{now}
-use Rattle.report.proofs.Pieces.{one-byte, then, wrote-as, wrote-long}
+use Rattle.formats.proofs.Writing.{then, wrote-as, wrote-long}
+use Rattle.report.proofs.Pieces.{one-byte}
 use borrow.Author.Needs.{needs}
 use Rattle.report.proofs.text.write_symbol.Statement.{statement}
 use Rattle.report.proofs.text.write_symbol.Tie as tie

@@ -1,4 +1,4 @@
--- `samples::line::call_number` is safe and ends, and answers at most 13. The invariant is this bound. The measure is how far k is from it.
+-- `samples::line::call_number` is safe and ends, and answers at most 15. The invariant is this bound. The measure is how far k is from it.
 -- Assumes nothing.
 use Prim.Native.Nat.{_≤_, _-_}
 use borrow.Author.Needs.{needs}
@@ -6,10 +6,10 @@ use Rattle.samples.proofs.line.call_number.Statement.{statement}
 use Rattle.samples.proofs.line.call_number.Tie as tie
 
 abbrev Inv-loop : tie.InvT-loop
-Inv-loop word k₀ k = k ≤ 13
+Inv-loop word k₀ k = k ≤ 15
 
 abbrev μ-loop : tie.MeasureT-loop
-μ-loop word k₀ k = 13 - k
+μ-loop word k₀ k = 15 - k
 
 loop-holds : tie.Need-loop-holds Inv-loop μ-loop
 loop-holds c = search needs

@@ -1,0 +1,5 @@
+// Output trees (01: plans) as XML (02, F-4): the tags, the writer and the reader.
+pub mod read;
+pub mod tag;
+pub mod walk;
+pub mod write;
