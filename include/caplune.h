@@ -26,8 +26,9 @@
  *
  * Stack. All work memory is local. Bytes of stack of one call, measured on x86-64 (docs/AREAS.md, which has the
  * local arrays of each function): translate 275,159, symbol_at 78,111 and read_tree 65,647 on a chain of 512 levels,
- * shorter 123,023, enter 121,407, compare 105,295, clean 100,831, earliest_form 66,735, join 55,519, is_linear 9,063;
- * the others under 4,500. Mind this where a thread's stack is made small.
+ * shorter 123,023, enter 121,407, compare 105,295, clean 100,831, earliest_form 66,735, join 55,519, read_xml
+ * TODO-STACK-READ, write_xml TODO-STACK-WRITE, is_linear 9,063; the others under 4,500. Mind this where a thread's
+ * stack is made small.
  */
 #ifndef CAPLUNE_H
 #define CAPLUNE_H
@@ -51,6 +52,10 @@ extern "C" {
 #define CAPLUNE_LONGEST_STOCK 82
 /* The least length of the area for the codes of all output symbols: 64 of two bytes. */
 #define CAPLUNE_CODES_AREA 128
+/* The most symbols of an output tree that is written as XML or read from it. */
+#define CAPLUNE_MOST_XML_SYMBOLS 4096
+/* The longest XML of an output tree: 4,095 symbols in a chain, of 9 bytes each, and one of rank 0, of 5. */
+#define CAPLUNE_LONGEST_XML 36860
 
 /* What a function answers: 0, or the number that the paper's table gives the refusal. */
 enum caplune_refusal {
@@ -76,6 +81,10 @@ enum caplune_refusal {
     CAPLUNE_BAD_REGISTRY = 9,
     /* The output tree (plan) has more than 256 levels. */
     CAPLUNE_DEEP_OUTPUT = 10,
+    /* Not an output tree (a plan) of 1 to 4,096 symbols, or not the XML of one. */
+    CAPLUNE_BAD_OUTPUT = 11,
+    /* The target area is shorter than the result. */
+    CAPLUNE_SHORT_TARGET = 12,
     /* The output symbols of the first transducer are not the input symbols of the second. */
     CAPLUNE_OTHER_ALPHABET = 16,
     /* The joined transducer is over the limits of a transducer. */
@@ -264,6 +273,28 @@ size_t caplune_body(const struct caplune_head *head, const struct caplune_record
  * Refuses by 1 where the area is under CAPLUNE_CODES_AREA; all then is as it was.
  */
 uint32_t caplune_write_codes(uint8_t *area, size_t area_length);
+
+/*
+ * Writes an output tree (the paper: a plan) as XML. Here `text` is the area. A symbol of rank 0 is an empty element,
+ * as `<A2/>`, and any other the element of its children, as `<A1>`, these in their order and `</A1>`, named by the
+ * codes that caplune_write_codes gives; there is no space, no declaration and no line end. The tree has at most
+ * CAPLUNE_MOST_XML_SYMBOLS symbols, and any number of levels.
+ * Writes the text to the start of `text`, and how many bytes it has, at most CAPLUNE_LONGEST_XML, to `length`.
+ * Refuses by 2, then 11, then 12 where the area is shorter than this text; all then is as it was.
+ */
+uint32_t caplune_write_xml(const uint8_t *stock, size_t stock_length, const uint8_t *tree, size_t tree_length,
+                           uint8_t *text, size_t text_length, size_t *length);
+
+/*
+ * Reads the XML of an output tree (the paper: a plan). Just the texts that caplune_write_xml writes under the same
+ * alphabets are read, and nothing may stand before or behind them: writing and reading undo each other.
+ * Writes the output tree to the start of `area`, one byte for each symbol, and how many symbols it has, at most
+ * CAPLUNE_MOST_XML_SYMBOLS, to `length`.
+ * Refuses by 2, then 11, then 12 where the area has fewer bytes than this output tree has symbols; all then is as it
+ * was.
+ */
+uint32_t caplune_read_xml(const uint8_t *stock, size_t stock_length, const uint8_t *text, size_t text_length,
+                          uint8_t *area, size_t area_length, size_t *length);
 
 #ifdef __cplusplus
 }

@@ -64,7 +64,7 @@ enum {
     BEFORE = 7777,
     /* Bytes and records on each side of what is lent. */
     AROUND = 24,
-    LONGEST_AREA = CAPLUNE_LONGEST_SHEET + 1
+    LONGEST_AREA = CAPLUNE_LONGEST_XML + 1
 };
 
 /* An area that is lent for writing, in the middle of bytes that have to stay. */
@@ -85,7 +85,7 @@ static void check(const char *name, bool holds)
     printf("%s %s\n", holds ? "ok" : "FAILED", name);
 }
 
-/* The pattern has no byte that a file, a tree or an address can have: all of theirs are below 129. */
+/* The pattern has no byte that a file, a tree, a text or an address can have: all of theirs are below 129. */
 static uint8_t pattern(size_t index)
 {
     return (uint8_t)(index * 38) | 0x81;
@@ -314,6 +314,24 @@ static struct answer write_codes(size_t length)
     return answer;
 }
 
+static struct answer write_xml(struct bytes stock, struct bytes tree, size_t length)
+{
+    struct answer answer = no_answer();
+    lend(length, 0);
+    answer.refusal = caplune_write_xml(stock.at, stock.length, tree.at, tree.length, start_of(&area), area.length,
+                                       &answer.numbers[0]);
+    return answer;
+}
+
+static struct answer read_xml(struct bytes stock, struct bytes text, size_t length)
+{
+    struct answer answer = no_answer();
+    lend(length, 0);
+    answer.refusal = caplune_read_xml(stock.at, stock.length, text.at, text.length, start_of(&area), area.length,
+                                      &answer.numbers[0]);
+    return answer;
+}
+
 /* Files of any size, each in memory of its own. */
 
 static void append(struct bytes *file, uint8_t *memory, struct bytes part)
@@ -353,7 +371,7 @@ static struct bytes open_ends(uint8_t calls)
 /* a over a over ... over e, of so many levels. */
 static struct bytes chain(size_t levels)
 {
-    static uint8_t memory[600];
+    static uint8_t memory[5000];
     memset(memory, 0, levels - 1);
     memory[levels - 1] = 1;
     return (struct bytes){memory, levels};
@@ -469,6 +487,108 @@ static void codes(void)
     check("the codes in a longer area", writes(all, write_codes(enough + 1), 0, NULL));
     check("the codes in an area of 127: 1", refuses(write_codes(enough - 1), CAPLUNE_SHORT_AREA));
     check("the codes in no area: 1", refuses(write_codes(0), CAPLUNE_SHORT_AREA));
+}
+
+/* Some text, without the byte 0 at its end. */
+static struct bytes text(const char *characters)
+{
+    return (struct bytes){(const uint8_t *)characters, strlen(characters)};
+}
+
+/* The XML of chain(levels) where symbol 0 has rank 1. */
+static struct bytes chain_text(size_t levels)
+{
+    static uint8_t memory[9 * 5000];
+    struct bytes all = {memory, 0};
+    for (size_t level = 1; level < levels; level++)
+        append(&all, memory, text("<A1>"));
+    append(&all, memory, text("<A2/>"));
+    for (size_t level = 1; level < levels; level++)
+        append(&all, memory, text("</A1>"));
+    return all;
+}
+
+/* One output symbol of rank 0 by itself, written and read; and the symbol past the alphabet, of this code. */
+static bool codes_as_xml(struct bytes stock, uint8_t symbol, const char *xml, const char *past)
+{
+    return writes(text(xml), write_xml(stock, BYTES(symbol), 5), NUMBERS(5)) &&
+           writes(BYTES(symbol), read_xml(stock, text(xml), 1), NUMBERS(1)) &&
+           refuses(write_xml(stock, BYTES((uint8_t)(symbol + 1)), 5), CAPLUNE_BAD_OUTPUT) &&
+           refuses(read_xml(stock, text(past), 1), CAPLUNE_BAD_OUTPUT);
+}
+
+static void writing_xml(void)
+{
+    const size_t enough = CAPLUNE_LONGEST_XML;
+    struct bytes tree = BYTES(0, 1, 1), xml = text("<A1><A2/><A2/></A1>");
+    check("f(e, e) as XML", writes(xml, write_xml(S, tree, enough), NUMBERS(19)));
+    check("f(e, e) as XML in a longer area", writes(xml, write_xml(S, tree, enough + 1), NUMBERS(19)));
+    check("f(e, e) as XML: area 19 is enough", writes(xml, write_xml(S, tree, 19), NUMBERS(19)));
+    check("row 12: f(e, e) as XML, area 18", refuses(write_xml(S, tree, 18), CAPLUNE_SHORT_TARGET));
+    check("f(e, e) as XML in no area: 12", refuses(write_xml(S, tree, 0), CAPLUNE_SHORT_TARGET));
+    check("e as XML", writes(text("<A2/>"), write_xml(S, BYTES(1), 5), NUMBERS(5)));
+    check("row 11: no plan as XML", refuses(write_xml(S, NOTHING, enough), CAPLUNE_BAD_OUTPUT));
+    check("f with one sub-tree as XML: 11", refuses(write_xml(S, BYTES(0, 1), enough), CAPLUNE_BAD_OUTPUT));
+    check("f with three sub-trees as XML: 11", refuses(write_xml(S, BYTES(0, 1, 1, 1), enough), CAPLUNE_BAD_OUTPUT));
+    check("a block that S does not have as XML: 11", refuses(write_xml(S, BYTES(2), enough), CAPLUNE_BAD_OUTPUT));
+    check("writing XML: 2 before 11", refuses(write_xml(NO_STOCK, NOTHING, 0), CAPLUNE_BAD_ALPHABETS));
+    check("writing XML: 11 before 12", refuses(write_xml(S, BYTES(0, 1), 0), CAPLUNE_BAD_OUTPUT));
+    check("4,096 levels as XML, 36,860 bytes",
+          chain_text(CAPLUNE_MOST_XML_SYMBOLS).length == enough &&
+              writes(chain_text(4096), write_xml(UNARY, chain(4096), enough), NUMBERS(36860)));
+    check("4,096 levels as XML, area 36,859: 12",
+          refuses(write_xml(UNARY, chain(4096), enough - 1), CAPLUNE_SHORT_TARGET));
+    check("4,097 blocks as XML: 11", refuses(write_xml(UNARY, chain(4097), enough + 1), CAPLUNE_BAD_OUTPUT));
+}
+
+static void reading_xml(void)
+{
+    const size_t enough = CAPLUNE_MOST_XML_SYMBOLS;
+    struct bytes tree = BYTES(0, 1, 1), xml = text("<A1><A2/><A2/></A1>");
+    check("f(e, e) from XML", writes(tree, read_xml(S, xml, enough), NUMBERS(3)));
+    check("f(e, e) from XML in a longer area", writes(tree, read_xml(S, xml, enough + 1), NUMBERS(3)));
+    check("f(e, e) from XML: area 3 is enough", writes(tree, read_xml(S, xml, 3), NUMBERS(3)));
+    check("f(e, e) from XML, area 2: 12", refuses(read_xml(S, xml, 2), CAPLUNE_SHORT_TARGET));
+    check("f(e, e) from XML in no area: 12", refuses(read_xml(S, xml, 0), CAPLUNE_SHORT_TARGET));
+    check("e from XML", writes(BYTES(1), read_xml(S, text("<A2/>"), 1), NUMBERS(1)));
+    check("reading XML: 2 before 11", refuses(read_xml(NO_STOCK, NOTHING, 0), CAPLUNE_BAD_ALPHABETS));
+    check("reading XML: 11 before 12", refuses(read_xml(S, text("<A1/>"), 0), CAPLUNE_BAD_OUTPUT));
+    check("4,096 levels from XML",
+          writes(chain(4096), read_xml(UNARY, chain_text(4096), enough), NUMBERS(4096)));
+    check("4,096 levels from XML, area 4,095: 12",
+          refuses(read_xml(UNARY, chain_text(4096), enough - 1), CAPLUNE_SHORT_TARGET));
+    check("4,097 blocks from XML: 11", refuses(read_xml(UNARY, chain_text(4097), enough + 1), CAPLUNE_BAD_OUTPUT));
+    check("XML: the only code of one block kind", codes_as_xml(leaves(1, 1), 0, "<A1/>", "<A2/>"));
+    check("XML: the last code of 63 block kinds", codes_as_xml(leaves(1, 63), 62, "<H7/>", "<H8/>"));
+    check("XML: the last code of all", codes_as_xml(leaves(1, 64), 63, "<H8/>", "<I1/>"));
+}
+
+/* Texts that are not just as they are written. */
+static void wrong_xml(void)
+{
+    static const struct {
+        const char *name, *xml;
+    } wrong[] = {
+        {"no text: 11", ""},
+        {"e as two tags: 11", "<A2></A2>"},
+        {"f as one tag: 11", "<A1/>"},
+        {"f without sub-trees: 11", "<A1></A1>"},
+        {"f with one sub-tree from XML: 11", "<A1><A2/></A1>"},
+        {"f with three sub-trees from XML: 11", "<A1><A2/><A2/><A2/></A1>"},
+        {"the end of another block: 11", "<A1><A2/><A2/></A2>"},
+        {"no end: 11", "<A1><A2/><A2/>"},
+        {"a code that S does not have: 11", "<A3/>"},
+        {"a small letter: 11", "<a2/>"},
+        {"a space before: 11", " <A2/>"},
+        {"a space behind: 11", "<A2/> "},
+        {"a space between: 11", "<A1><A2/> <A2/></A1>"},
+        {"a space in a tag: 11", "<A2 />"},
+        {"a line end: 11", "<A2/>\n"},
+        {"a second plan: 11", "<A2/><A2/>"},
+        {"a declaration: 11", "<?xml version=\"1.0\"?><A2/>"},
+    };
+    for (size_t index = 0; index < sizeof wrong / sizeof *wrong; index++)
+        check(wrong[index].name, refuses(read_xml(S, text(wrong[index].xml), 100), CAPLUNE_BAD_OUTPUT));
 }
 
 static void translating(void)
@@ -821,6 +941,9 @@ int main(void)
     reading();
     writing();
     codes();
+    writing_xml();
+    reading_xml();
+    wrong_xml();
     translating();
     places();
     cleaning();

@@ -19,7 +19,7 @@
 #include <string.h>
 #include <sys/mman.h>
 
-enum { STACK = 1 << 21, PATTERN = 0xa5, LEVELS = 512, RING = 64 };
+enum { STACK = 1 << 21, PATTERN = 0xa5, LEVELS = 512, RING = 64, BLOCKS = CAPLUNE_MOST_XML_SYMBOLS };
 
 /* a of rank 1 and e; f of rank 2 and e. */
 static const uint8_t stock[] = {2, 1, 0, 2, 2, 0};
@@ -37,6 +37,9 @@ static size_t ring_length;
 static const uint8_t unary[] = {2, 1, 0, 2, 1, 0};
 static uint8_t deep[3 + 2 * 64];
 static const uint8_t unary_copy[] = {1, 0, 1, 0, 2, 0, 1, 1, 0, 0, 0, 1, 0, 0, 1};
+
+/* An output tree of as many levels as symbols, and its XML. */
+static uint8_t plan[BLOCKS], xml[CAPLUNE_LONGEST_XML];
 
 static uint8_t area[65536], tree_area[CAPLUNE_DESIGN_AREA], address_area[CAPLUNE_PLACE_AREA];
 static struct caplune_head head;
@@ -132,6 +135,16 @@ static void write_codes(void)
     refused = caplune_write_codes(area, sizeof area);
 }
 
+static void write_xml(void)
+{
+    refused = caplune_write_xml(unary, sizeof unary, plan, sizeof plan, area, sizeof area, numbers);
+}
+
+static void read_xml(void)
+{
+    refused = caplune_read_xml(unary, sizeof unary, xml, sizeof xml, area, sizeof area, numbers);
+}
+
 static void *run(void *call)
 {
     uint8_t here = 0;
@@ -178,6 +191,17 @@ static void make_ring(void)
     ring_length = (size_t)(next - ring);
 }
 
+/* The output tree of BLOCKS levels, and its XML. */
+static void make_plan(void)
+{
+    plan[BLOCKS - 1] = 1;
+    for (size_t level = 0; level < BLOCKS - 1; level++) {
+        memcpy(xml + 4 * level, "<A1>", 4);
+        memcpy(xml + sizeof xml - 5 * (level + 1), "</A1>", 5);
+    }
+    memcpy(xml + 4 * (BLOCKS - 1), "<A2/>", 5);
+}
+
 int main(void)
 {
     static const struct {
@@ -189,7 +213,7 @@ int main(void)
         {"translate", translate}, {"symbol_at", symbol_at}, {"join", join},
         {"earliest_form", earliest_form}, {"clean", clean}, {"compare", compare}, {"shorter", shorter},
         {"make_registry", make_registry}, {"enter", enter}, {"body", body},
-        {"write_codes", write_codes},
+        {"write_codes", write_codes}, {"write_xml", write_xml}, {"read_xml", read_xml},
     };
     memset(chain, 0, LEVELS);
     chain[LEVELS - 1] = 1;
@@ -197,6 +221,7 @@ int main(void)
     memcpy(deep, "\0\0\100", 3);
     deep[sizeof deep - 1] = 1;
     make_ring();
+    make_plan();
     for (size_t index = 0; index < sizeof calls / sizeof *calls; index++) {
         const size_t bytes = taken(calls[index].call);
         printf("%-16s %7zu%s\n", calls[index].name, bytes, refused ? " REFUSED" : "");

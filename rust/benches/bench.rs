@@ -2,7 +2,7 @@
 //! `xsltproc` is installed against the same transducer as an XSLT 1.0 stylesheet, and where OpenFst's
 //! `fstminimize` is installed against the minimization of the same transducer on strings.
 //!
-//! `cargo bench --offline`
+//! `cargo bench --offline`; `benches/xmllint` compares reading XML with libxml2.
 use caplune::slices;
 use caplune_independent as independent;
 use std::cell::RefCell;
@@ -47,6 +47,7 @@ fn main() {
     println!("{:52} {:>9} {:>12} {:>12} {:>8}", "", "size", "proved", "independent", "ratio");
     let (cases, few_levels) = (cases(), few_levels());
     reading(&cases);
+    as_xml();
     reaching();
     translating(&few_levels);
     addressing(&cases);
@@ -169,6 +170,33 @@ fn reading(cases: &[Case]) {
                 let area = &mut area.borrow_mut()[..];
                 discard(black_box(independent::write_transducer(stock, states, counts, black_box(marks), area)))
             },
+        );
+    }
+}
+
+/// Output trees as XML, written and read. The size is that of the text.
+fn as_xml() {
+    // f, g and e of ranks 2, 1, 0
+    let stock = [1, 0, 3, 2, 1, 0];
+    let mut even = Vec::new();
+    grow(&mut even, 4096);
+    for (name, tree) in [("f(e, e)", vec![0, 2, 2]), ("4096 symbols", even), ("4096 levels", chain(4096, 1, 2))] {
+        let areas = RefCell::new((vec![1; slices::LONGEST_XML], vec![1; slices::MOST_XML_SYMBOLS]));
+        let mut text = vec![1; slices::LONGEST_XML];
+        let length = slices::write_xml(&stock, &tree, &mut text).expect("it is written");
+        text.truncate(length);
+        assert_eq!(slices::read_xml(&stock, &text, &mut areas.borrow_mut().1), Ok(tree.len()), "{name}");
+        line(
+            &format!("write XML, {name}"),
+            text.len(),
+            &mut || discard(black_box(slices::write_xml(&stock, black_box(&tree), &mut areas.borrow_mut().0))),
+            &mut || discard(black_box(independent::write_xml(&stock, black_box(&tree), &mut areas.borrow_mut().0))),
+        );
+        line(
+            &format!("read XML, {name}"),
+            text.len(),
+            &mut || discard(black_box(slices::read_xml(&stock, black_box(&text), &mut areas.borrow_mut().1))),
+            &mut || discard(black_box(independent::read_xml(&stock, black_box(&text), &mut areas.borrow_mut().1))),
         );
     }
 }

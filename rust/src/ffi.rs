@@ -182,6 +182,24 @@ mod c {
             start: *mut usize,
         ) -> usize;
         pub fn caplune_write_codes(area: *mut u8, area_length: usize) -> u32;
+        pub fn caplune_write_xml(
+            stock: *const u8,
+            stock_length: usize,
+            tree: *const u8,
+            tree_length: usize,
+            text: *mut u8,
+            text_length: usize,
+            length: *mut usize,
+        ) -> u32;
+        pub fn caplune_read_xml(
+            stock: *const u8,
+            stock_length: usize,
+            text: *const u8,
+            text_length: usize,
+            area: *mut u8,
+            area_length: usize,
+            length: *mut usize,
+        ) -> u32;
     }
 }
 
@@ -465,4 +483,37 @@ pub fn body(head: &Head, records: &[Record], area: &[u8], number: usize, start: 
 pub fn write_codes(area: &mut [u8]) -> u32 {
     // SAFETY: the argument is a borrow, as said above.
     unsafe { c::caplune_write_codes(area.as_mut_ptr(), area.len()) }
+}
+
+/// Writes an output tree as XML to the start of the text: how long that is. Refuses by 2, 11 and 12.
+pub fn write_xml(stock: &[u8], tree: &[u8], text: &mut [u8], length: &mut usize) -> u32 {
+    // SAFETY: the arguments are borrows, as said above.
+    unsafe {
+        c::caplune_write_xml(
+            stock.as_ptr(),
+            stock.len(),
+            tree.as_ptr(),
+            tree.len(),
+            text.as_mut_ptr(),
+            text.len(),
+            length,
+        )
+    }
+}
+
+/// Reads the XML of an output tree, which it writes to the start of the area: the number of its
+/// symbols. Refuses by 2, 11 and 12.
+pub fn read_xml(stock: &[u8], text: &[u8], area: &mut [u8], length: &mut usize) -> u32 {
+    // SAFETY: the arguments are borrows, as said above.
+    unsafe {
+        c::caplune_read_xml(
+            stock.as_ptr(),
+            stock.len(),
+            text.as_ptr(),
+            text.len(),
+            area.as_mut_ptr(),
+            area.len(),
+            length,
+        )
+    }
 }

@@ -33,6 +33,10 @@ pub enum Refusal {
     BadRegistry = 9,
     /// The output tree (plan) has more than 256 levels.
     DeepOutput = 10,
+    /// Not an output tree (a plan) of 1 to 4,096 symbols, or not the XML of one.
+    BadOutput = 11,
+    /// The target area is shorter than the result.
+    ShortTarget = 12,
     /// The output symbols of the first transducer are not the input symbols of the second.
     OtherAlphabet = 16,
     /// The joined transducer is over the limits of a transducer.
@@ -52,6 +56,8 @@ impl Refusal {
         Refusal::FullRegistry,
         Refusal::BadRegistry,
         Refusal::DeepOutput,
+        Refusal::BadOutput,
+        Refusal::ShortTarget,
         Refusal::OtherAlphabet,
         Refusal::JoinOverLimits,
     ];
@@ -83,6 +89,8 @@ impl Refusal {
             Refusal::FullRegistry => "the registry (the book) is full",
             Refusal::BadRegistry => "not a registry (a book)",
             Refusal::DeepOutput => "the output tree (the plan) has more than 256 levels",
+            Refusal::BadOutput => "not an output tree (a plan) of 1 to 4,096 symbols, or not the XML of one",
+            Refusal::ShortTarget => "the target area is shorter than the result",
             Refusal::OtherAlphabet => {
                 "the output symbols (block kinds) of the first are not the input symbols (part kinds) of the second"
             }
@@ -124,6 +132,13 @@ impl Refusal {
             Refusal::DeepOutput => {
                 "take a design of fewer levels, or a sheet that nests less: 256 are the most, the top block being \
                  level 1; the symbol at one address can be had at any level (`caplune place`)"
+            }
+            Refusal::BadOutput => {
+                "a plan is one symbol for each block in preorder, 1 to 4,096, nothing behind the tree; its XML is just as \
+                 `caplune xml` writes it: no declaration, no space, no line end"
+            }
+            Refusal::ShortTarget => {
+                "lend a longer area: 36,860 bytes are enough for every text, 4,096 for every plan that is read"
             }
             Refusal::OtherAlphabet => "join under a second stock whose part kinds are the first's block kinds",
             Refusal::JoinOverLimits => {

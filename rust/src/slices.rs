@@ -61,6 +61,14 @@
 //! let mut codes = [0; slices::CODES_AREA];
 //! slices::write_codes(&mut codes).unwrap();
 //! assert_eq!((&codes[..4], &codes[126..]), (&b"A1A2"[..], &b"H8"[..]));
+//! // f(e, e) as XML, and back; an area that is shorter than the result is refused
+//! let (mut text, mut tree) = ([b'.'; 20], [9; 4]);
+//! assert_eq!(slices::write_xml(&stock, &[0, 1, 1], &mut text), Ok(19));
+//! assert_eq!(&text, b"<A1><A2/><A2/></A1>.");
+//! assert_eq!(slices::read_xml(&stock, &text[..19], &mut tree), Ok(3));
+//! assert_eq!(tree, [0, 1, 1, 9]);
+//! assert_eq!(slices::read_xml(&stock, &text, &mut tree).unwrap_err().number(), 11);
+//! assert_eq!(slices::read_xml(&stock, &text[..19], &mut tree[..2]).unwrap_err().number(), 12);
 //! ```
 use crate::{ffi, Refusal};
 
@@ -119,6 +127,10 @@ pub const TREE_AREA: usize = 1_536;
 pub const ADDRESS_AREA: usize = 16_128;
 /// The least length of the area for the codes of all output symbols: 64 of two bytes.
 pub const CODES_AREA: usize = 128;
+/// The most symbols of an output tree that is written as XML or read from it.
+pub const MOST_XML_SYMBOLS: usize = 4_096;
+/// The longest XML of an output tree: all symbols but one in a chain, of 9 bytes each, and one of rank 0, of 5.
+pub const LONGEST_XML: usize = 9 * (MOST_XML_SYMBOLS - 1) + 5;
 
 /// What a comparison finds.
 #[derive(Clone, Copy, Debug, PartialEq, Eq)]
@@ -391,4 +403,30 @@ pub fn body<'a>(head: &Head, records: &[Record], area: &'a [u8], number: usize) 
 /// bytes, which then is as it was.
 pub fn write_codes(area: &mut [u8]) -> Result<(), Refusal> {
     answer(ffi::write_codes(area), || ())
+}
+
+/// Writes an output tree as XML to the start of `text` (the paper: a plan).
+///
+/// A symbol of rank 0 is an empty element, as `<A2/>`, and any other the element of its children, as
+/// `<A1>`, these in their order and `</A1>`, named by the codes that [`write_codes`] gives; there is no
+/// space, no declaration and no line end. Returns how long the text is, at most [`LONGEST_XML`]; what
+/// follows it stays. Refuses by 2 what is not a stock, by 11 what is not one tree over its output symbols
+/// or has more than [`MOST_XML_SYMBOLS`], of however many levels, and by 12 where `text` is shorter than
+/// this very text; it then is as it was.
+pub fn write_xml(stock: &[u8], tree: &[u8], text: &mut [u8]) -> Result<usize, Refusal> {
+    let mut length = 0;
+    let number = ffi::write_xml(stock, tree, text, &mut length);
+    answer(number, || length)
+}
+
+/// Reads the XML of an output tree, which it writes to the start of `area`.
+///
+/// Just the texts are read that [`write_xml`] writes under the same stock, so that each of the two undoes
+/// the other. Returns how many symbols the tree has, at most [`MOST_XML_SYMBOLS`]; what follows them in
+/// the area stays. Refuses by 2 what is not a stock, by 11 any other text, and by 12 an area that has
+/// fewer bytes than this tree has symbols; the area then is as it was.
+pub fn read_xml(stock: &[u8], text: &[u8], area: &mut [u8]) -> Result<usize, Refusal> {
+    let mut length = 0;
+    let number = ffi::read_xml(stock, text, area, &mut length);
+    answer(number, || length)
 }

@@ -1,5 +1,5 @@
-//! The text form of the files: two alphabets, a transducer, an input tree, an output tree (written only), and the names
-//! of symbols or of states.
+//! The text form of the files: two alphabets, a transducer, an input tree, an output tree, and the names of symbols or
+//! of states.
 //!
 //! docs/FORMATS.md describes it. A text is read into the bytes that the proved readers judge; only names, brackets,
 //! ranks and the numbers of symbols, states and marks are checked here, so that an error says where in the text it is.
@@ -32,7 +32,9 @@ mod writing;
 
 use words::is_name;
 
-pub use reading::{kind, read_alphabets, read_input_tree, read_names, read_state_names, read_transducer};
+pub use reading::{
+    kind, read_alphabets, read_input_tree, read_names, read_output_tree, read_state_names, read_transducer,
+};
 pub use writing::{
     write_alphabets, write_card, write_input_tree, write_names, write_output_tree, write_state_names, write_transducer,
 };
@@ -188,7 +190,7 @@ impl<'a> Symbols<'a> {
 ///
 /// No alphabets, transducer or input tree in bytes is taken for text: byte 1 of the alphabets (a stock) is a rank, at
 /// most 4; byte 1 of a transducer (a sheet) is the high byte of a number of at most 64, so 0; and an input tree (a
-/// design) has no byte over 15.
+/// design) has no byte over 15. An output tree (a plan) in bytes can be: see [`is_output_text`].
 ///
 /// ```
 /// use caplune::text::is_text;
@@ -198,6 +200,20 @@ impl<'a> Symbols<'a> {
 #[must_use]
 pub fn is_text(bytes: &[u8]) -> bool {
     bytes.iter().any(|&byte| byte >= 32) && bytes.iter().all(|&byte| byte >= 9)
+}
+
+/// Whether a file in which an output tree (a plan) is expected is text rather than bytes: it is text by [`is_text`], and
+/// has a byte of 64 or more, as the letters of `plan` are. No symbol of an output tree is over 63.
+///
+/// ```
+/// use caplune::text::{is_output_text, is_text};
+/// assert!(is_output_text(b"plan e"));
+/// // one symbol, 40, which as text would be a bracket
+/// assert!(is_text(&[40]) && !is_output_text(&[40]));
+/// ```
+#[must_use]
+pub fn is_output_text(bytes: &[u8]) -> bool {
+    is_text(bytes) && bytes.iter().any(|&byte| byte >= 64)
 }
 
 /// What a text says it is by its first word.
@@ -210,6 +226,8 @@ pub enum Kind {
     Transducer,
     /// An input tree: `design`.
     InputTree,
+    /// An output tree: `plan`.
+    OutputTree,
     /// The names of symbols or of states: `names`.
     Names,
 }

@@ -54,8 +54,21 @@ impl InputTree {
     }
 }
 
-/// An output tree (the paper: a plan), as [`Transducer::translate`](crate::Transducer::translate) gives it, of at most
-/// 256 levels.
+/// An output tree (the paper: a plan).
+///
+/// [`Transducer::translate`](crate::Transducer::translate) gives output trees of at most 256 levels and many symbols;
+/// one that is read, from its file or from XML, has at most [`MOST_READ`](Self::MOST_READ) symbols and any number of
+/// levels. Only those of at most as many symbols can be written as XML.
+///
+/// ```
+/// use caplune::{Alphabets, OutputTree, Refusal};
+/// let alphabets = Alphabets::new(&[1, 0], &[2, 0])?;
+/// let tree = OutputTree::read(&alphabets, &[0, 1, 1])?;
+/// assert_eq!(tree.to_xml()?, "<A1><A2/><A2/></A1>");
+/// assert_eq!(OutputTree::from_xml(&alphabets, b"<A1><A2/><A2/></A1>")?, tree);
+/// assert_eq!(OutputTree::from_xml(&alphabets, b"<A1> <A2/><A2/></A1>"), Err(Refusal::BadOutput));
+/// # Ok::<(), Refusal>(())
+/// ```
 #[doc(alias = "plan")]
 #[must_use]
 #[derive(Clone, Debug, PartialEq, Eq, Hash)]
@@ -65,11 +78,37 @@ pub struct OutputTree {
 }
 
 impl OutputTree {
+    /// The most symbols of an output tree that is read, and of one that is written as XML.
+    pub const MOST_READ: usize = slices::MOST_XML_SYMBOLS;
+
     pub(crate) fn new(alphabets: &Alphabets, symbols: Vec<u8>) -> Self {
         OutputTree { alphabets: alphabets.clone(), symbols }
     }
 
-    /// The alphabets of its transducer.
+    /// Reads the file of an output tree: its symbols in preorder. Refuses by 11 what is not one tree over the output
+    /// symbols, or has more than [`MOST_READ`](Self::MOST_READ).
+    pub fn read(alphabets: &Alphabets, file: &[u8]) -> Result<Self, Refusal> {
+        // just such a tree can be written as XML
+        xml(alphabets, file)?;
+        Ok(Self::new(alphabets, file.to_vec()))
+    }
+
+    /// The tree as XML: an element for each symbol, named by its code, with no space between. Refuses by 11 a tree of
+    /// more than [`MOST_READ`](Self::MOST_READ) symbols.
+    pub fn to_xml(&self) -> Result<String, Refusal> {
+        Ok(xml(&self.alphabets, &self.symbols)?.into_iter().map(char::from).collect())
+    }
+
+    /// Reads the XML of an output tree. Refuses by 11 every text that [`to_xml`](Self::to_xml) does not give for some
+    /// tree under these alphabets.
+    pub fn from_xml(alphabets: &Alphabets, text: &[u8]) -> Result<Self, Refusal> {
+        let mut area = vec![0; Self::MOST_READ];
+        let length = slices::read_xml(alphabets.as_bytes(), text, &mut area)?;
+        area.truncate(length);
+        Ok(Self::new(alphabets, area))
+    }
+
+    /// The alphabets that it was read under, or those of its transducer.
     pub fn alphabets(&self) -> &Alphabets {
         &self.alphabets
     }
@@ -85,6 +124,14 @@ impl OutputTree {
     pub fn nodes(&self) -> usize {
         self.symbols.len()
     }
+}
+
+/// The XML of an output tree, in an area in which there is room for the longest.
+fn xml(alphabets: &Alphabets, tree: &[u8]) -> Result<Vec<u8>, Refusal> {
+    let mut text = vec![0; slices::LONGEST_XML];
+    let length = slices::write_xml(alphabets.as_bytes(), tree, &mut text)?;
+    text.truncate(length);
+    Ok(text)
 }
 
 /// An address (the paper: a place): the number of a child at each step from the root, the leftmost being 1.

@@ -52,7 +52,7 @@ const fn function(
 }
 
 /// All functions. `shorter` and `body` give no number: they are counted by that for which they give nothing.
-const FUNCTIONS: [Function; 16] = [
+const FUNCTIONS: [Function; 18] = [
     function("read_alphabets", read_alphabets, &["accepted"], &[2]),
     function("read_tree", read_tree, &["accepted"], &[2, 3]),
     function("read_transducer", read_transducer, &["accepted"], &[2, 4, 5]),
@@ -69,6 +69,8 @@ const FUNCTIONS: [Function; 16] = [
     function("enter", enter, &["added", "found"], &[9, 4, 5, 7, 8]),
     function("body", body, &["body", "empty"], &[9]),
     function("write_codes", write_codes, &["accepted"], &[1]),
+    function("write_xml", write_xml, &["accepted"], &[2, 11, 12]),
+    function("read_xml", read_xml, &["accepted"], &[2, 11, 12]),
 ];
 
 /// Numbers that a refusal has to leave.
@@ -328,6 +330,37 @@ fn write_codes(case: &Case) -> Checked {
     holds(&lent, &codes)?;
     holds(&other, &codes)?;
     Ok(expected.map(|()| "accepted"))
+}
+
+fn write_xml(case: &Case) -> Checked {
+    let Case { stock, output, xml_areas: [area, _], .. } = case;
+    let [mut lent, mut other] = [Lent::new(*area), Lent::new(*area)];
+    let expected = independent::write_xml(stock, output, other.area());
+    let [mut length] = before();
+    let refused = ffi::write_xml(stock, output, lent.area(), &mut length);
+    agree_on_copy(expected, [&mut lent, &mut other], (refused, [length]))
+}
+
+fn read_xml(case: &Case) -> Checked {
+    let Case { stock, xml, xml_areas: [_, area], .. } = case;
+    let [mut lent, mut other] = [Lent::new(*area), Lent::new(*area)];
+    let expected = independent::read_xml(stock, xml, other.area());
+    let [mut length] = before();
+    let refused = ffi::read_xml(stock, xml, lent.area(), &mut length);
+    agree_on_copy(expected, [&mut lent, &mut other], (refused, [length]))
+}
+
+/// Both areas hold what the independent version wrote, and nothing else that is new.
+fn agree_on_copy(
+    expected: Result<usize, u32>,
+    [lent, other]: [&mut Lent; 2],
+    (refused, numbers): (u32, [usize; 1]),
+) -> Checked {
+    agree(refused, numbers, expected.map(|length| [length]))?;
+    let written = other.area()[..expected.unwrap_or(0)].to_vec();
+    holds(lent, &written)?;
+    holds(other, &written)?;
+    Ok(expected.map(|_| "accepted"))
 }
 
 /// What `call` gives; the message if it panics.

@@ -111,7 +111,7 @@ fn stack_figures() {
     let (document, crate_, header) = (read("docs/AREAS.md"), read("rust/src/lib.rs"), read("include/caplune.h"));
     let table = document.split("## Stack").nth(1).expect("a table");
     let figures: Vec<&str> = table.lines().filter_map(|line| line.strip_suffix(" |")?.rsplit("| ").next()).collect();
-    assert_eq!(figures.len(), 10);
+    assert_eq!(figures.len(), 12);
     for figure in &figures[1..] {
         assert!(crate_.contains(figure) && header.contains(figure), "{figure}");
     }
@@ -124,9 +124,10 @@ fn help() {
     let overview = folder.prints("--help");
     assert_eq!((folder.prints("help"), folder.prints("-h")), (overview.clone(), overview.clone()));
     let commands: Vec<&str> = overview.lines().filter_map(|line| line.strip_prefix("  caplune ")).collect();
-    assert_eq!(commands.len(), 13);
+    assert_eq!(commands.len(), 15);
     folder.caplune("convert -o stock stock.txt");
     folder.caplune("convert -o t stock.txt t.txt");
+    folder.write("plan.txt", b"plan f(e, e)");
     folder.write("layout.stock", b"stock parts a/1 e/0 blocks f/2 e/0");
     folder.write("fabric.stock", b"stock parts f/2 e/0 blocks g/1 h/0");
     folder.write("layout.sheet", &folder.read("t.txt"));
@@ -143,7 +144,7 @@ fn help() {
         assert!(matches!(ended.status, Some(0 | 1)) && ended.err.is_empty(), "{example}: {ended:?}");
         tried += 1;
     }
-    assert_eq!(tried, 13);
+    assert_eq!(tried, 15);
     assert_eq!(folder.prints("book --help").lines().filter(|line| line.starts_with("  caplune book ")).count(), 4);
     assert_eq!(folder.prints("--version"), "caplune 0.1.0\n");
 }
@@ -183,6 +184,9 @@ fn wrong_usage() {
         ),
         ("compare stock.txt t.txt", "compare: it takes STOCK SHEET SHEET...; `caplune compare --help` tells more"),
         ("card stock.txt t.txt", "card: it takes [STOCK]; `caplune card --help` tells more"),
+        ("xml", "xml: it takes STOCK [PLAN]; `caplune xml --help` tells more"),
+        ("xml --bytes stock.txt plan", "xml: there is no option --bytes; `caplune xml --help` tells more"),
+        ("plan stock.txt plan.xml -", "plan: it takes STOCK [TEXT]; `caplune plan --help` tells more"),
         (
             "place stock.txt t.txt design.txt 1,2",
             "`1,2`: an address (a place) is `-` for the root or numbers from 0 to 255 with dots between, as in 1.2",
@@ -217,6 +221,11 @@ fn refusals() {
         ("copy", &[1, 0, 1, 0, 2, 0, 1, 1, 0, 0, 0, 1, 0, 0, 1]),
         ("deepest", &[vec![0; 255], vec![1]].concat()),
         ("deeper", &[vec![0; 256], vec![1]].concat()),
+        ("longer", &[vec![0; 4_096], vec![1]].concat()),
+        ("no_plan", &[0, 1]),
+        ("spaced.xml", b"<A1> <A2/></A1>"),
+        ("ended.xml", b"<A1><A2/></A1>\n"),
+        ("empty", b""),
     ] {
         folder.write(name, bytes);
     }
@@ -241,6 +250,15 @@ fn refusals() {
         ("sew --bytes -o plan unary copy deeper", "deeper", 10),
         ("sew --most 256 unary copy deeper", "deeper", 6),
         ("sew --most 255 unary copy deepest", "deepest", 6),
+        ("xml no_stock no_plan", "no_stock", 2),
+        ("xml stock no_plan", "no_plan", 11),
+        ("xml -o xml stock empty", "empty", 11),
+        ("xml unary longer", "longer", 11),
+        ("plan no_stock ended.xml", "no_stock", 2),
+        ("plan unary ended.xml", "ended.xml", 11),
+        ("plan unary spaced.xml", "spaced.xml", 11),
+        ("plan --bytes -o plan unary empty", "empty", 11),
+        ("plan stock deepest", "deepest", 11),
         ("join stock t stock t", "stock and stock", 16),
         ("join one first two second", "first and second", 17),
         // in order: the stocks, 16, the first sheet, the second
@@ -282,6 +300,9 @@ fn kinds_of_files() {
     assert_eq!(folder.says("show stock.txt stock.txt"), "stock.txt: a stock, where a sheet or a design was expected");
     assert_eq!(folder.says("show stock.txt names"), "names: a table of names, where a sheet or a design was expected");
     assert!(folder.says("sew stock.txt design.txt design.txt").starts_with("design.txt:1:1: expected `sheet`"));
+    folder.write("plan", b"plan e");
+    assert_eq!(folder.says("show stock.txt plan"), "plan: a plan, where a sheet or a design was expected");
+    assert!(folder.says("xml stock.txt design.txt").starts_with("design.txt:1:1: expected `plan`, found `design`"));
     folder.write("neither", &[9]);
     let said = folder.says("show stock.txt neither");
     assert!(said.starts_with("neither: no sheet (refused by 4: ") && said.contains(") and no design (refused by 3: "));
@@ -311,8 +332,20 @@ fn standard_input() {
     assert_eq!(folder.caplune_with("sew stock.txt t.txt -", &[0, 1]).text(), plan);
     assert_eq!(folder.caplune_with("compare stock.txt t.txt -", T_PRIME).text(), "alike\n");
     assert_eq!(folder.caplune_with("convert -o - -", S).text(), "stock\nparts  a1/1 a2/0\nblocks A1/2 A2/0\n");
-    let twice = folder.caplune_with("sew stock.txt - -", &input("t.txt"));
-    assert_eq!(told(&twice, "twice"), "standard input: it can be read once, so only one file can be `-`");
+    for line in ["xml stock.txt", "xml stock.txt -"] {
+        for given in [&b"plan f(e, e)\n"[..], b"plan f(e, e)", &[0, 1, 1]] {
+            assert_eq!(folder.caplune_with(line, given).text(), "<A1><A2/><A2/></A1>");
+        }
+    }
+    for line in ["plan stock.txt", "plan stock.txt -"] {
+        assert_eq!(folder.caplune_with(line, b"<A1><A2/><A2/></A1>").text(), "plan f(e, e)\n");
+    }
+    folder.write("plan.txt", b"plan e");
+    assert_eq!(folder.caplune_with("xml - plan.txt", &input("stock.txt")).text(), "<A2/>");
+    for line in ["sew stock.txt - -", "xml - -", "xml -", "plan -"] {
+        let twice = folder.caplune_with(line, &input(if line.starts_with("sew") { "t.txt" } else { "stock.txt" }));
+        assert_eq!(told(&twice, line), "standard input: it can be read once, so only one file can be `-`");
+    }
     folder.prints("book make book stock.txt");
     assert_eq!(folder.caplune_with("book enter book -", T).text(), "standard input: 1\n");
 }
@@ -406,6 +439,76 @@ fn card() {
     let codes: String = words.iter().map(|code| format!("{code} {code}/0\n")).collect();
     assert_eq!(folder.prints("card stock"), codes);
     assert_eq!(folder.says("card t.txt"), folder.says("show t.txt"));
+}
+
+/// Plans as XML and back, from text and from bytes, with names and without.
+#[test]
+fn plans_as_xml() {
+    let folder = first();
+    folder.prints("sew -o plan.txt stock.txt t.txt design.txt");
+    folder.prints("sew --bytes -o plan stock.txt t.txt design.txt");
+    let xml = "<A1><A1><A2/><A2/></A1><A1><A2/><A2/></A1></A1>";
+    for plan in ["plan", "plan.txt"] {
+        assert_eq!(folder.prints(&format!("xml stock.txt {plan}")), xml);
+        assert_eq!(folder.prints(&format!("xml -o plan.xml stock.txt {plan}")), "");
+        assert_eq!(folder.read("plan.xml"), xml.as_bytes());
+    }
+    assert_eq!(folder.prints("plan stock.txt plan.xml"), "plan f(f(e, e), f(e, e))\n");
+    assert_eq!(folder.prints("plan -o again.txt stock.txt plan.xml"), "");
+    assert_eq!(folder.read("again.txt"), folder.read("plan.txt"));
+    assert_eq!(folder.prints("plan --bytes -o again stock.txt plan.xml"), "");
+    assert_eq!(folder.read("again"), [0, 0, 1, 1, 0, 1, 1]);
+    assert!(!folder.names().iter().any(|name| name.ends_with(".names")));
+    // without names: codes in the text too
+    folder.write("stock", S);
+    assert_eq!(folder.prints("plan stock plan.xml"), "plan A1(A1(A2, A2), A1(A2, A2))\n");
+    // bytes that could be taken for text: blocks 40 and 9 to 63
+    folder.write("wide", &[&[1, 0, 64][..], &[0; 40], &[1], &[0; 22], &[2]].concat());
+    for (bytes, xml, text) in [
+        (&b"\x28\x20"[..], "<F1><E1/></F1>", "plan F1(E1)\n"),
+        (&b"\x3f  "[..], "<H8><E1/><E1/></H8>", "plan H8(E1, E1)\n"),
+    ] {
+        folder.write("plan", bytes);
+        assert_eq!(folder.prints("xml -o plan.xml wide plan"), "");
+        assert_eq!(folder.read("plan.xml"), xml.as_bytes());
+        assert_eq!(folder.prints("plan wide plan.xml"), text);
+        folder.write("plan.txt", text.as_bytes());
+        assert_eq!(folder.prints("xml wide plan.txt"), xml);
+    }
+    // as many levels as blocks; a text of one more is refused in the words of texts
+    folder.write("unary", &[2, 1, 0, 2, 1, 0]);
+    let chain = |symbols: usize| format!("plan {}A2{}\n", "A1(".repeat(symbols - 1), ")".repeat(symbols - 1));
+    folder.write("plan.txt", chain(4_096).as_bytes());
+    assert_eq!(folder.prints("xml -o plan.xml unary plan.txt"), "");
+    assert_eq!(folder.read("plan.xml").len(), 36_860);
+    assert_eq!(folder.prints("plan unary plan.xml"), chain(4_096));
+    folder.write("plan.txt", chain(4_097).as_bytes());
+    let said = folder.says("xml unary plan.txt");
+    assert!(said.starts_with("plan.txt: refused by 11: "), "{said}");
+    assert!(said.ends_with("; what to do: give a plan of at most 4,096 blocks"), "{said}");
+    folder.write("plan.txt", b"plan\nA1(A3)");
+    assert_eq!(folder.says("xml unary plan.txt"), "plan.txt:2:4: expected a block kind (A1, A2), found `A3`");
+    // a failure leaves the file that was there
+    folder.says("xml -o plan.xml unary plan.txt");
+    assert_eq!(folder.read("plan.xml").len(), 36_860);
+}
+
+/// Generated plans: text, bytes and XML into each other.
+#[test]
+fn generated_plans_as_xml() {
+    let folder = Folder::new();
+    for seed in 0..25 {
+        let mut random = Random::new(seed + 74_000_000);
+        let alphabets = generate::alike::small_alphabets(&mut random);
+        let tree = generate::tree(&mut random, &alphabets.outputs, 60, 30, generate::Growth::Even(12));
+        folder.write("stock", &alphabets.file());
+        folder.write("plan", &tree);
+        folder.prints("xml -o plan.xml stock plan");
+        folder.prints("plan -o plan.txt stock plan.xml");
+        folder.prints("xml -o again.xml stock plan.txt");
+        folder.prints("plan --bytes -o again stock again.xml");
+        assert_eq!((folder.read("again"), folder.read("again.xml")), (tree, folder.read("plan.xml")), "{seed}");
+    }
 }
 
 #[test]
@@ -621,6 +724,8 @@ fn damaged_files() {
         "book list book",
         "book enter book sheet",
         "book show book 1",
+        "xml stock sheet",
+        "plan stock sheet",
     ];
     let mut ends = [0; 3];
     for seed in 0..360 {

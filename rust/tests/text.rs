@@ -43,7 +43,9 @@ fn samples() {
     assert_eq!(tree.as_bytes(), [0, 0, 1]);
     assert_eq!(text::write_input_tree(&tree, &names), "design a(a(e))\n");
     let leaf = InputTree::read(&alphabets, &[1]).unwrap();
-    assert_eq!(plan(&sheet.translate(&leaf, 3).unwrap(), &names), "plan f(e, e)\n");
+    let output = sheet.translate(&leaf, 3).unwrap();
+    assert_eq!(plan(&output, &names), "plan f(e, e)\n");
+    assert_eq!(text::read_output_tree(b"plan f(e, e)\n", &alphabets, &names), Ok(output));
     let table = "names\nparts a e\nblocks f e\n";
     assert_eq!(text::read_names(table.as_bytes(), &alphabets).as_ref(), Ok(&names));
     assert_eq!(text::write_names(&names), table);
@@ -75,6 +77,8 @@ fn other_ways_to_write() {
     assert_eq!(read.as_bytes(), T);
     let tree = text::read_input_tree(b"design a(\n  a(e()))", &alphabets, &names).unwrap();
     assert_eq!(tree.as_bytes(), [0, 0, 1]);
+    let tree = text::read_output_tree(b"# of T\nplan f\n(e() ,f(e,e)) # and no more", &alphabets, &names).unwrap();
+    assert_eq!(tree.as_bytes(), [0, 1, 0, 1, 1]);
     // a comment ends with its line, whatever ends that
     assert_eq!(text::read_input_tree(b"# a\rdesign e", &alphabets, &names).unwrap().as_bytes(), [1]);
     // a byte order mark before the text is no part of it
@@ -112,8 +116,9 @@ fn kinds() {
     let of = |text: &str| text::kind(text.as_bytes());
     assert_eq!([of(STOCK), of(SHEET)], [Ok(Kind::Alphabets), Ok(Kind::Transducer)]);
     assert_eq!([of("\n#\ndesign("), of("names")], [Ok(Kind::InputTree), Ok(Kind::Names)]);
+    assert_eq!(of("plan"), Ok(Kind::OutputTree));
     let message = of(" ").unwrap_err().to_string();
-    assert_eq!(message, "1:2: expected `stock`, `sheet`, `design` or `names`, found the end of the file");
+    assert_eq!(message, "1:2: expected `stock`, `sheet`, `design`, `plan` or `names`, found the end of the file");
 }
 
 #[test]
@@ -122,7 +127,14 @@ fn text_or_bytes() {
         assert!(text::is_text(text.as_bytes()), "{text:?}");
     }
     for bytes in [&b""[..], b"\n", b"a\0", b"a\x08", &[31, 31]] {
-        assert!(!text::is_text(bytes), "{bytes:?}");
+        assert!(!text::is_text(bytes) && !text::is_output_text(bytes), "{bytes:?}");
+    }
+    // bytes of a plan, which have no letter, and texts of one
+    for bytes in [&b"("[..], b"?", b"()+,-./0123456789:;<=>?", &[9, 63], &[63]] {
+        assert!(text::is_text(bytes) && !text::is_output_text(bytes), "{bytes:?}");
+    }
+    for text in ["plan e", "\n# ?\nplan\te", "@", "<A2/>", "\u{feff}plan e"] {
+        assert!(text::is_output_text(text.as_bytes()), "{text:?}");
     }
 }
 
@@ -166,6 +178,7 @@ fn message(text: &[u8], (alphabets, names): &(Alphabets, Names), states: usize) 
         Ok(Kind::Alphabets) => text::read_alphabets(text).unwrap_err(),
         Ok(Kind::Transducer) => text::read_transducer(text, alphabets, names).unwrap_err(),
         Ok(Kind::InputTree) => text::read_input_tree(text, alphabets, names).unwrap_err(),
+        Ok(Kind::OutputTree) => text::read_output_tree(text, alphabets, names).unwrap_err(),
         Ok(Kind::Names) if text.windows(6).any(|word| word == b"passes") => {
             text::read_state_names(text, states).unwrap_err()
         }
@@ -199,7 +212,7 @@ fn errors_in_alphabets() {
         ("stock parts é/0 ü/0 é/1", "1:21: expected a name that is not used yet, found `é`"),
         ("stock parts a/1 blocks b/0", "refused by 2: not two ranked alphabets (a stock)"),
         ("stock parts blocks", "refused by 2: not two ranked alphabets (a stock)"),
-        ("plan e", "1:1: expected `stock`, `sheet`, `design` or `names`, found `plan`"),
+        ("book e", "1:1: expected `stock`, `sheet`, `design`, `plan` or `names`, found `book`"),
     ]);
     let entries = |count: usize| (0..count).map(|number| format!("n{number}/0\n")).collect::<String>();
     let many = format!("stock parts\n{}blocks e/0", entries(17));
@@ -243,6 +256,36 @@ fn errors_in_trees() {
         message("design\n é\u{e9}".as_bytes().strip_suffix(b"\xa9").unwrap(), &s(), 0),
         "2:3: expected UTF-8, found byte 195"
     );
+}
+
+#[test]
+fn errors_in_output_trees() {
+    all_messages(&[
+        ("plan", "1:5: expected a block kind (f, e), found the end of the file"),
+        ("plan a", "1:6: expected a block kind (f, e), found `a`"),
+        ("plan f", "1:7: expected 2 sub-trees of `f`, as it has 2 places, found the end of the file"),
+        ("plan f()", "1:8: expected 2 sub-trees of `f`, as it has 2 places, found `)`"),
+        ("plan f(e)", "1:9: expected 2 sub-trees of `f`, as it has 2 places, found `)`"),
+        ("plan f(e, e, e)", "1:12: expected 2 sub-trees of `f`, as it has 2 places, found `,`"),
+        ("plan f(e, e", "1:12: expected `)`, found the end of the file"),
+        ("plan f(e e)", "1:10: expected `,`, found `e`"),
+        ("plan f(q(x1), e)", "1:8: expected a block kind (f, e), found `q`"),
+        ("plan e(e)", "1:8: expected no sub-trees of `e`, as it has no places, found `e`"),
+        ("plan e\nplan e", "2:1: expected the end of the file, found `plan`"),
+        ("plan <A2/>", "1:6: expected a block kind (f, e), found `<`"),
+    ]);
+    let (alphabets, names) = s();
+    let read = |text: &[u8]| text::read_output_tree(text, &alphabets, &names);
+    assert_eq!(read(b"<A2/>").unwrap_err().to_string(), "1:1: expected `plan`, found `<`");
+    assert_eq!(read(b"design e").unwrap_err().to_string(), "1:1: expected `plan`, found `design`");
+    // 4,096 symbols of any number of levels are the most
+    let unary = stock("e/0", "g/1 e/0");
+    let chain = |symbols: usize| format!("plan {}e{}", "g(".repeat(symbols - 1), ")".repeat(symbols - 1));
+    let of = |symbols: usize| text::read_output_tree(chain(symbols).as_bytes(), &unary.0, &unary.1);
+    assert_eq!(of(4_096).map(|tree| tree.nodes()), Ok(4_096));
+    assert_eq!(plan(&of(4_096).unwrap(), &unary.1), chain(4_096) + "\n");
+    assert_eq!(of(4_097), Err(Error::Refused(Refusal::BadOutput)));
+    assert_eq!(of(1_000_000), Err(Error::Refused(Refusal::BadOutput)));
 }
 
 #[test]
@@ -457,7 +500,10 @@ fn written_and_read_again() {
         read[1] += 1;
         for output in plans.iter().filter_map(|tree| sheet.translate(tree, 400).ok()) {
             let expected = tree_text(&mut output.as_bytes().iter().copied(), alphabets.output_ranks(), names.outputs());
-            assert_eq!(plan(&output, &names), format!("plan {expected}\n"));
+            let written = plan(&output, &names);
+            assert_eq!(written, format!("plan {expected}\n"));
+            assert!(text::is_output_text(written.as_bytes()) && !text::is_output_text(output.as_bytes()));
+            assert_eq!(text::read_output_tree(written.as_bytes(), &alphabets, &names), Ok(output), "{written}");
             read[2] += 1;
         }
     }
@@ -488,6 +534,9 @@ fn read_all(text: &[u8], alphabets: &Alphabets, names: &Names, states: usize) ->
         let written = text::write_input_tree(&read, names);
         assert_eq!(text::read_input_tree(written.as_bytes(), alphabets, names), Ok(read));
     }));
+    check(text::read_output_tree(text, alphabets, names).map(|read| {
+        assert_eq!(text::read_output_tree(plan(&read, names).as_bytes(), alphabets, names), Ok(read));
+    }));
     check(text::read_transducer(text, alphabets, names).map(|read| {
         let written = text::write_transducer(&read.0, names, &read.1);
         assert_eq!(text::read_transducer(written.as_bytes(), alphabets, names), Ok(read));
@@ -516,7 +565,9 @@ fn some_text(
     let sheet = Transducer::read(alphabets, &sheet.file()).ok();
     let states = sheet.as_ref().map_or(2, Transducer::states);
     let state_names = some_state_names(random, states);
-    let text = match (random.below(8), &sheet) {
+    let outputs = generate::tree(random, &generated.outputs, 20, 8, generate::Growth::Even(12));
+    let text = match (random.below(9), &sheet) {
+        (8, _) => plan(&OutputTree::read(alphabets, &outputs).unwrap(), names),
         (0, _) => text::write_alphabets(alphabets, names),
         (1, _) => text::write_input_tree(&InputTree::read(alphabets, &tree).unwrap(), names),
         (2, _) => text::write_names(names),
@@ -583,7 +634,8 @@ fn long_texts() {
     const MILLION: usize = 1_000_000;
     let (alphabets, names) = s();
     let all = |text: String| read_all(text.as_bytes(), &alphabets, &names, 2);
-    for start in ["stock parts a/1 e/0 blocks f", "design ", "sheet opening ", "names parts ", "names passes "] {
+    for start in ["stock parts a/1 e/0 blocks f", "design ", "plan ", "sheet opening ", "names parts ", "names passes "]
+    {
         for piece in ["(", ")", "a(", "f(", "f(e,", "q(", "x1 ", "a/0 ", "# ", "#\n", " ", "é", "-", "->", "'", "0"] {
             assert_eq!(all(format!("{start}{}", piece.repeat(MILLION / 10))), 0, "{start}{piece}");
         }

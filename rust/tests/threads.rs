@@ -55,6 +55,7 @@ const OUTPUT: usize = 20_000;
 enum Answer {
     Tree(Result<InputTree, Refusal>),
     Output(Result<OutputTree, Refusal>),
+    Xml(Result<String, Refusal>),
     Symbol(Result<Option<u8>, Refusal>),
     Form(Result<Transducer, Refusal>),
     Comparison(Result<Comparison, Refusal>),
@@ -99,13 +100,22 @@ fn on_two(calls: &mut Vec<Call>, stock: &[u8], first: &[u8], second: &[u8]) {
     }));
 }
 
+/// The calls on an output tree, written as XML and read again.
+fn on_xml(calls: &mut Vec<Call>, outputs: &[u8], tree: &[u8]) {
+    let alphabets = Alphabets::new(&[0], outputs).expect("it is a stock");
+    let tree = OutputTree::read(&alphabets, tree).expect("it is a plan");
+    let text = tree.to_xml().expect("it is a plan");
+    calls.push(Box::new(move || Answer::Xml(tree.to_xml())));
+    calls.push(Box::new(move || Answer::Output(OutputTree::from_xml(&alphabets, text.as_bytes()))));
+}
+
 /// The call of the composition.
 fn on_a_pair(calls: &mut Vec<Call>, pair: &Pair) {
     let [first, second] = [0, 1].map(|index| transducer(&pair.stocks[index], &pair.files[index]));
     calls.push(Box::new(move || Answer::Form(first.then(&second))));
 }
 
-/// Input trees of 512 levels, transducers of 128 states, and terms of 64 levels.
+/// Input trees of 512 levels, transducers of 128 states, terms of 64 levels, and output trees of 4,096.
 fn largest() -> Vec<Call> {
     let mut calls = Vec::new();
     let chain_tree = || [vec![0; 511], vec![1]].concat();
@@ -133,6 +143,8 @@ fn largest() -> Vec<Call> {
     {
         on_a_pair(&mut calls, &pair);
     }
+    on_xml(&mut calls, &[1, 0], &[vec![0; 4_095], vec![1]].concat());
+    on_xml(&mut calls, &[2, 0], &[vec![0; 2_047], vec![1; 2_048]].concat());
     calls
 }
 
@@ -149,6 +161,10 @@ fn generated() -> Vec<Call> {
         let nodes = random.range(1, 200);
         let tree = generate::tree(&mut random, &alphabets.inputs, nodes, 40, generate::Growth::Even(12));
         on_a_tree(&mut calls, &stock, &file, tree, vec![1; random.below(6)]);
+        if alphabets.outputs.contains(&0) {
+            let output = generate::tree(&mut random, &alphabets.outputs, nodes, nodes, generate::Growth::Even(12));
+            on_xml(&mut calls, &alphabets.outputs, &output);
+        }
         let changed = sheet.with_one_mark_changed(&mut random, &alphabets).unwrap_or_else(|| sheet.clone());
         let second = if random.once_in(2) { changed } else { sheet }.alike(&mut random, &alphabets, 4);
         on_two(&mut calls, &stock, &file, &second.file());
@@ -202,6 +218,8 @@ fn largest_inputs() {
         |wanted| move |answer: &Answer| matches!(answer, Answer::Output(Ok(output)) if output.nodes() == wanted);
     assert_eq!(answers.iter().filter(|answer| nodes(256)(answer)).count(), 2);
     assert_eq!(answers.iter().filter(|answer| nodes(511)(answer)).count(), 1);
+    assert_eq!(answers.iter().filter(|answer| nodes(4_096)(answer)).count(), 1);
+    assert!(answers.iter().any(|answer| matches!(answer, Answer::Xml(Ok(text)) if text.len() == 36_860)));
     assert!(answers.iter().any(|answer| matches!(answer, Answer::Output(Err(Refusal::DeepOutput)))));
     assert!(answers.iter().any(|answer| matches!(answer, Answer::Output(Err(Refusal::LongOutput)))));
     assert!(answers.iter().any(|answer| matches!(answer, Answer::Form(Ok(form)) if form.states() == 128)));

@@ -151,7 +151,7 @@ fn addresses() {
 #[test]
 fn errors() {
     let numbers: Vec<u32> = Refusal::ALL.iter().map(|refusal| refusal.number()).collect();
-    assert_eq!(numbers, [1, 2, 3, 4, 5, 6, 7, 8, 9, 10, 16, 17]);
+    assert_eq!(numbers, [1, 2, 3, 4, 5, 6, 7, 8, 9, 10, 11, 12, 16, 17]);
     for refusal in Refusal::ALL {
         assert_eq!(refusal.to_string(), format!("refused by {}: {}", refusal.number(), refusal.meaning()));
         assert!(!refusal.meaning().is_empty() && !refusal.remedy().is_empty());

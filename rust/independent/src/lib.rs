@@ -12,7 +12,7 @@
 //! sheet the *minimal earliest transducer*. Sheets are *joined* to the composition of two transducers.
 //!
 //! Every function answers `Result<_, u32>`, where the error is the paper's refusal number, and
-//! tests in the paper's order: 1, 9, 2, 16, 4, 5, 3, 6, 10, 7, 8, 17. A refusal changes nothing that was
+//! tests in the paper's order: 1, 9, 2, 16, 11, 12, 4, 5, 3, 6, 10, 7, 8, 17. A refusal changes nothing that was
 //! lent.
 
 mod book;
@@ -20,12 +20,14 @@ mod earliest;
 mod join;
 mod minimal;
 mod search;
+mod xml;
 
 pub use book::{Book, Head, Record, MAX_HELD, RECORDS};
 pub use earliest::{earliest, prefixes, Trimmed};
 pub use join::{join, join_into};
 pub use minimal::{clean, clean_into, compare, Verdict};
 pub use search::{count_trees, search_difference};
+pub use xml::{read_xml, write_xml, MAX_XML, MAX_XML_NODES};
 
 /// Refusal 1: an area is shorter than its length in the paper.
 pub const AREA_TOO_SHORT: u32 = 1;
@@ -47,6 +49,10 @@ pub const BOOK_FULL: u32 = 8;
 pub const NOT_A_BOOK: u32 = 9;
 /// Refusal 10: the output tree has too many levels.
 pub const OUTPUT_TOO_DEEP: u32 = 10;
+/// Refusal 11: not an output tree within the limits of XML, or not the XML of one.
+pub const NOT_AN_OUTPUT: u32 = 11;
+/// Refusal 12: the area is shorter than the result.
+pub const TARGET_TOO_SHORT: u32 = 12;
 /// Refusal 16: the output symbols of the first transducer are not the input symbols of the second.
 pub const OTHER_ALPHABET: u32 = 16;
 /// Refusal 17: the joined transducer passes a limit of transducers.

@@ -3,15 +3,15 @@ use super::reader::{as_there_are, Node, Reader};
 use super::rules::Rules;
 use super::words::Words;
 use super::{Error, Kind, Names, StateNames, Symbols};
-use crate::{Alphabets, InputTree, Transducer};
+use crate::{Alphabets, InputTree, OutputTree, Transducer};
 
 /// What a text says it is by its first word.
 ///
 /// ```
 /// use caplune::text::{kind, Kind};
 /// assert_eq!(kind(b"# a comment\ndesign e"), Ok(Kind::InputTree));
-/// let error = kind(b"plan e").unwrap_err();
-/// assert_eq!(error.to_string(), "1:1: expected `stock`, `sheet`, `design` or `names`, found `plan`");
+/// let error = kind(b"book e").unwrap_err();
+/// assert_eq!(error.to_string(), "1:1: expected `stock`, `sheet`, `design`, `plan` or `names`, found `book`");
 /// ```
 pub fn kind(text: &[u8]) -> Result<Kind, Error> {
     let word = Words::new(text)?.next();
@@ -19,8 +19,9 @@ pub fn kind(text: &[u8]) -> Result<Kind, Error> {
         "stock" => Ok(Kind::Alphabets),
         "sheet" => Ok(Kind::Transducer),
         "design" => Ok(Kind::InputTree),
+        "plan" => Ok(Kind::OutputTree),
         "names" => Ok(Kind::Names),
-        _ => Err(word.error("`stock`, `sheet`, `design` or `names`")),
+        _ => Err(word.error("`stock`, `sheet`, `design`, `plan` or `names`")),
     }
 }
 
@@ -44,16 +45,38 @@ pub fn read_alphabets(text: &[u8]) -> Result<(Alphabets, Names), Error> {
 
 /// Reads an input tree (the paper: a design).
 pub fn read_input_tree(text: &[u8], alphabets: &Alphabets, names: &Names) -> Result<InputTree, Error> {
-    let mut reader = Reader::new(text, "design")?;
+    let file = read_tree(text, "design", &Symbols::inputs(alphabets, names))?;
+    Ok(InputTree::read(alphabets, &file)?)
+}
+
+/// Reads an output tree (the paper: a plan), as [`write_output_tree`](super::write_output_tree) writes it, of at most
+/// [`OutputTree::MOST_READ`] symbols.
+///
+/// ```
+/// use caplune::text::{read_alphabets, read_output_tree};
+/// let (alphabets, names) = read_alphabets(b"stock parts a/1 e/0 blocks f/2 e/0")?;
+/// assert_eq!(read_output_tree(b"plan f(e, e)", &alphabets, &names)?.as_bytes(), [0, 1, 1]);
+/// let error = read_output_tree(b"plan f(e)", &alphabets, &names).unwrap_err();
+/// assert_eq!(error.to_string(), "1:9: expected 2 sub-trees of `f`, as it has 2 places, found `)`");
+/// # Ok::<(), caplune::text::Error>(())
+/// ```
+pub fn read_output_tree(text: &[u8], alphabets: &Alphabets, names: &Names) -> Result<OutputTree, Error> {
+    let file = read_tree(text, "plan", &Symbols::outputs(alphabets, names))?;
+    Ok(OutputTree::read(alphabets, &file)?)
+}
+
+/// The symbols of a tree in preorder, from a text with this first word.
+fn read_tree(text: &[u8], first: &str, symbols: &Symbols) -> Result<Vec<u8>, Error> {
+    let mut reader = Reader::new(text, first)?;
     let mut file = Vec::new();
-    reader.tree(&Symbols::inputs(alphabets, names), 0, |_, node| {
+    reader.tree(symbols, 0, |_, node| {
         if let Node::Symbol(symbol) = node {
             file.push(symbol);
         }
         Ok(())
     })?;
     reader.expect_end("the end of the file")?;
-    Ok(InputTree::read(alphabets, &file)?)
+    Ok(file)
 }
 
 /// Reads a transducer (the paper: a sheet) with the names of its states, which are numbered by their first rules.

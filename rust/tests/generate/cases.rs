@@ -6,8 +6,8 @@ use super::joins::{self, Pair};
 use super::memory::Memory;
 use super::rows::{row_alphabets, Row};
 use super::samples::*;
-use super::{Alphabets, Random, Transducer};
-use caplune::slices::{ADDRESS_AREA, CODES_AREA, RECORDS, TREE_AREA};
+use super::{Alphabets, Growth, Random, Transducer};
+use caplune::slices::{ADDRESS_AREA, CODES_AREA, LONGEST_XML, RECORDS, TREE_AREA};
 use caplune_independent as independent;
 use std::sync::OnceLock;
 
@@ -35,6 +35,11 @@ pub struct Case {
     pub shown_areas: [usize; 2],
     /// The length of the area for the codes.
     pub codes_area: usize,
+    /// An output tree that is written as XML, and the text of one that is read.
+    pub output: Vec<u8>,
+    pub xml: Vec<u8>,
+    /// The lengths of the areas for the text and for the output tree that is read.
+    pub xml_areas: [usize; 2],
     pub registry: Memory,
     /// The transducer that is entered.
     pub entered: Vec<u8>,
@@ -46,6 +51,7 @@ impl Case {
     pub fn of_seed(seed: u64) -> Self {
         let mut random = Random::new(seed);
         let mut case = Case::valid(&mut random);
+        let (alphabets, _) = parsed(&case.stock, &case.first);
         let faults = match random.below(8) {
             0..=3 => 0,
             4 | 5 => 1,
@@ -57,10 +63,34 @@ impl Case {
             case.registry.damage(&mut random);
         }
         case.codes_area = shown_area(&mut random, CODES_AREA);
+        case.add_xml(&mut random, &alphabets);
         case
     }
 
-    /// Files as they should be, or hardly over the limits. Areas may be too short, but that for the codes is not.
+    /// An output tree over these alphabets and the text of one, most often of the same, with areas for the results;
+    /// some of it damaged.
+    fn add_xml(&mut self, random: &mut Random, alphabets: &Alphabets) {
+        let stock = alphabets.file();
+        let mut text = vec![0; LONGEST_XML];
+        let mut trees = [output_tree(random, &alphabets.outputs), output_tree(random, &alphabets.outputs)];
+        if !random.once_in(4) {
+            trees[1] = trees[0].clone();
+        }
+        let lengths = [0, 1].map(|which| independent::write_xml(&stock, &trees[which], &mut text).unwrap_or(5));
+        text.truncate(lengths[1]);
+        self.xml_areas = [output_area(random, lengths[0]), output_area(random, trees[1].len().max(1))];
+        self.output = std::mem::take(&mut trees[0]);
+        self.xml = text;
+        match random.below(6) {
+            0 => super::damage(random, &mut self.output),
+            1 => super::damage(random, &mut self.xml),
+            2 => damage_tags(random, &mut self.xml),
+            _ => {}
+        }
+    }
+
+    /// Files as they should be, or hardly over the limits. Areas may be too short, but that for the codes is not. There
+    /// is no output tree and no text yet.
     fn valid(random: &mut Random) -> Self {
         let (pair, deep) = if random.once_in(12) { deep_pair(random) } else { (pair(random), None) };
         let Pair { stocks: [stock, second_stock], files: [mut first, third] } = pair;
@@ -83,6 +113,9 @@ impl Case {
             output_area: output_area(random, output.map_or(limit, |output| output.len())),
             shown_areas: [TREE_AREA, ADDRESS_AREA].map(|least| shown_area(random, least)),
             codes_area: CODES_AREA,
+            output: vec![],
+            xml: vec![],
+            xml_areas: [0; 2],
             number: body_number(random, registry.head.held),
             stock,
             first,
@@ -195,6 +228,30 @@ fn earliest_limits() -> &'static [(Vec<u8>, Vec<u8>)] {
         limits.push((chain_alphabets().file(), chain(128, 61, 2).file()));
         limits
     })
+}
+
+/// An output tree over these symbols, or hardly over the limit; some bytes where there is none.
+fn output_tree(random: &mut Random, outputs: &[u8]) -> Vec<u8> {
+    if !outputs.contains(&0) {
+        return (0..random.below(6)).map(|_| random.below(outputs.len()) as u8).collect();
+    }
+    let growth = random.pick(&[Growth::Left, Growth::Right, Growth::Even(16), Growth::Even(12), Growth::Even(8)]);
+    let nodes = random.pick(&[1, 5, 20, 60, 60, 300, 4_096, 4_100]);
+    super::tree(random, outputs, nodes, nodes, growth)
+}
+
+/// Doubles, drops or swaps tags, or gives one another code.
+fn damage_tags(random: &mut Random, text: &mut Vec<u8>) {
+    let mut tags: Vec<Vec<u8>> = text.split_inclusive(|&byte| byte == b'>').map(<[u8]>::to_vec).collect();
+    let (at, other) = (random.below(tags.len()), random.below(tags.len()));
+    match random.below(5) {
+        0 => tags.insert(at, tags[other].clone()),
+        1 => drop(tags.remove(at)),
+        2 => tags.swap(at, other),
+        3 => tags[at] = tags[other].clone(),
+        _ => tags.insert(at, random.pick(&[&b" "[..], b"\n", b"<A1/>", b"<A1></A1>", b"<A1>", b"</A1>"]).to_vec()),
+    }
+    *text = tags.concat();
 }
 
 /// A row of states, which tells its marks: two of them differ late.

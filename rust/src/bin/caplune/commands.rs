@@ -87,6 +87,30 @@ const COMMANDS: &[Command] = &[
         run: place,
     },
     Command {
+        name: "xml",
+        takes: "STOCK [PLAN]",
+        words: (1, 2),
+        choices: &[OUTPUT],
+        does: "write a plan as XML: an element for each block, named by its code",
+        more: "The plan is bytes, or text as `caplune sew` prints it, and is read from standard input where no file\n\
+               is given. It has at most 4,096 blocks, of any number of levels. Nothing stands between the elements\n\
+               and no line end behind them, as `caplune plan` reads none.",
+        example: "caplune xml -o plan.xml stock.txt plan.txt",
+        run: xml,
+    },
+    Command {
+        name: "plan",
+        takes: "STOCK [TEXT]",
+        words: (1, 2),
+        choices: &[OUTPUT, PLAN],
+        does: "read a plan back from its XML",
+        more:
+            "The text is just as `caplune xml` writes it under this stock, and is read from standard input where no\n\
+               file is given. Every other text is refused by 11.",
+        example: "caplune plan stock.txt plan.xml",
+        run: plan,
+    },
+    Command {
         name: "single",
         takes: "STOCK SHEET",
         words: (2, 2),
@@ -343,6 +367,23 @@ fn place(arguments: &Arguments) -> Result<Status, Failure> {
     let found = found.map_err(|refusal| Failure::refused(&shown(&arguments.plain[2]), refusal))?;
     let block = found.map_or("no such place", |symbol| block(&stock, symbol));
     print(&format!("{block}\n"))?;
+    Ok(Status::Done)
+}
+
+fn xml(arguments: &Arguments) -> Result<Status, Failure> {
+    let mut inputs = Inputs::default();
+    let stock = inputs.stock(&arguments.plain[0])?;
+    let plan = inputs.plan(arguments.plain.get(1), &stock)?;
+    let text = plan.to_xml().map_err(|refusal| Failure::refused("the plan", refusal))?;
+    Content::xml(&text).deliver(arguments)?;
+    Ok(Status::Done)
+}
+
+fn plan(arguments: &Arguments) -> Result<Status, Failure> {
+    let mut inputs = Inputs::default();
+    let stock = inputs.stock(&arguments.plain[0])?;
+    let plan = inputs.xml(arguments.plain.get(1), &stock)?;
+    Content::plan(&plan, &stock.names).deliver(arguments)?;
     Ok(Status::Done)
 }
 

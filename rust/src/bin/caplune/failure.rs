@@ -69,6 +69,7 @@ fn in_text(refusal: Refusal) -> &'static str {
         Refusal::BadAlphabets => "name 1 to 16 part kinds, one of them with 0 places, and 1 to 64 block kinds",
         Refusal::BadTree => "draw at most 4,096 parts and 512 levels",
         Refusal::BadContents => "give at most 8,192 marks in all",
+        Refusal::BadOutput => "give a plan of at most 4,096 blocks",
         other => other.remedy(),
     }
 }

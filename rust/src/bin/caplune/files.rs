@@ -8,7 +8,7 @@ use std::fs::File;
 use std::io::{self, Read, Write};
 use std::path::{Path, PathBuf};
 
-/// The longest file that is read. A stock, design or sheet in bytes is far shorter; this bounds texts.
+/// The longest file that is read. A stock, design, plan or sheet in bytes is far shorter; this bounds texts.
 const LONGEST: u64 = 16 << 20;
 
 /// A file that was read.
@@ -63,7 +63,7 @@ impl Inputs {
             false => File::open(file).and_then(whole),
         };
         let bytes = bytes.map_err(|error| Failure::of_file(&name, error))?;
-        // no stock, design or sheet in bytes begins so
+        // no stock, design, plan or sheet in bytes begins so
         if bytes.starts_with(&[0xff, 0xfe]) || bytes.starts_with(&[0xfe, 0xff]) {
             return Err(Failure::of_file(&name, "text in UTF-16, where UTF-8 is read: save it as that"));
         }
@@ -83,6 +83,22 @@ impl Inputs {
     /// Reads a design under a stock.
     pub fn design(&mut self, file: &OsStr, stock: &Stock) -> Result<InputTree, Failure> {
         self.read(file)?.design(stock)
+    }
+
+    /// Reads a plan under a stock, from standard input where no file is given.
+    pub fn plan(&mut self, file: Option<&OsString>, stock: &Stock) -> Result<OutputTree, Failure> {
+        self.read_or_standard_input(file)?.plan(stock)
+    }
+
+    /// Reads the XML of a plan under a stock, from standard input where no file is given.
+    pub fn xml(&mut self, file: Option<&OsString>, stock: &Stock) -> Result<OutputTree, Failure> {
+        let input = self.read_or_standard_input(file)?;
+        let read = OutputTree::from_xml(&stock.alphabets, &input.bytes);
+        read.map_err(|refusal| Failure::refused(&input.name, refusal))
+    }
+
+    fn read_or_standard_input(&mut self, file: Option<&OsString>) -> Result<Input, Failure> {
+        self.read(file.map_or(OsStr::new("-"), OsString::as_os_str))
     }
 }
 
@@ -129,6 +145,15 @@ impl Input {
         InputTree::read(alphabets, &self.bytes).map_err(|refusal| Failure::refused(&self.name, refusal))
     }
 
+    fn plan(&self, stock: &Stock) -> Result<OutputTree, Failure> {
+        let Stock { alphabets, names } = stock;
+        if text::is_output_text(&self.bytes) {
+            let read = text::read_output_tree(&self.bytes, alphabets, names);
+            return read.map_err(|error| Failure::of_text(&self.name, error));
+        }
+        OutputTree::read(alphabets, &self.bytes).map_err(|refusal| Failure::refused(&self.name, refusal))
+    }
+
     /// A sheet or a design, by the first word of a text; bytes are what they can be read as, or what `--as` says.
     pub fn either(&self, stock: &Stock, said: Option<&OsStr>) -> Result<Either, Failure> {
         match said.map(OsStr::to_str) {
@@ -142,6 +167,7 @@ impl Input {
                 Kind::Transducer => self.sheet(stock).map(Either::Sheet),
                 Kind::InputTree => self.design(stock).map(Either::Design),
                 Kind::Alphabets => Err(Failure::of_file(&self.name, "a stock, where a sheet or a design was expected")),
+                Kind::OutputTree => Err(Failure::of_file(&self.name, "a plan, where a sheet or a design was expected")),
                 _ => Err(Failure::of_file(&self.name, "a table of names, where a sheet or a design was expected")),
             };
         }
@@ -163,7 +189,7 @@ fn whole(from: impl Read) -> io::Result<Vec<u8>> {
     let mut bytes = Vec::new();
     from.take(LONGEST + 1).read_to_end(&mut bytes)?;
     if bytes.len() as u64 > LONGEST {
-        return Err(io::Error::new(io::ErrorKind::FileTooLarge, "longer than 16 MiB, as no stock, design or sheet is"));
+        return Err(io::Error::new(io::ErrorKind::FileTooLarge, "longer than 16 MiB, as nothing that is read is"));
     }
     Ok(bytes)
 }
@@ -254,6 +280,11 @@ impl<'a> Content<'a> {
             false => text::write_output_tree(tree, names, &mut to),
         };
         Content { write: Box::new(write), names: None }
+    }
+
+    /// Of a plan's XML, which is the same as bytes and as text.
+    pub fn xml(text: &'a str) -> Self {
+        Content::of(text.as_bytes(), text.to_string(), None)
     }
 
     /// Prints its text.
