@@ -1,17 +1,20 @@
--- Ranked terms: their variables, substitution, subtrees, runs.
+-- Ranked terms: their variables, substitution, subtrees, runs; a ranked term is one of the grammar of its alphabet.
 -- Assumes nothing.
 use Prim.Native.Nat.{ℕ, suc, _≤_, _<_}
 use native.Mathlib.Omega.{arith}
 use mathlib.Core.List.{List, [], _∷_}
 use mathlib.Core.Option.{some}
-use mathlib.Core.Path.{_≡_, _∙_, subst}
-use lib.ListN.{getD}
+use mathlib.Core.Path.{_≡_, refl, sym, ap, _∙_, subst}
+use lib.ListN.{getD, replicate}
+use Rattle.theory.specs.OpenTrees.{AllowedOpen, blank, rule-open, AllAllowedOpen, end-open, next-open}
 use Rattle.theory.specs.Term.{Term, Tree, var, node, Terms, none, more, count, bind, binds, sub, subs}
 use Rattle.theory.specs.Transducer.{Transducer, run, runs, pick, closed, output, translate}
 use Rattle.theory.specs.Vars.{AllVars, one, each, EachVars, done, both}
 use Rattle.theory.proofs.Terms.{conflict, count-binds}
+use Rattle.trees.specs.Alphabets.{Leaf}
 use Rattle.trees.specs.Code.{Ranked, AllRanked, Call}
 use Rattle.formats.specs.Sheet.{OverAlphabets}
+use Rattle.forms.specs.Alphabet.{alphabet, children-of}
 
 module _ {A : Type 0} (P : A → Type 0) (outs : List ℕ) where
   mutual
@@ -54,6 +57,19 @@ module _ {A : Type 0} (P : A → Type 0) (outs : List ℕ) where
     ranked-subs (more t ts) ℕ.zero v c e = conflict (cc)
     ranked-subs (more t ts) (suc ℕ.zero) v c e = ranked-sub t v (c .0) e
     ranked-subs (more t ts) (suc (suc i)) v c e = ranked-subs ts (suc i) v (c .1) e
+
+  module _ (l : Leaf outs) where
+    mutual
+      unfolding Ranked alphabet count
+
+      -- a ranked term is allowed by the grammar of its alphabet, all variables of sort 0
+      pub ranked-open : (t : Term A) → Ranked P outs t → AllowedOpen (alphabet outs l) (λ e. 0) 0 t
+      ranked-open (var x) c = blank refl
+      ranked-open (node k ts) c = rule-open (children-of outs k (c .0) ∙ ap (λ r. some (replicate r 0)) (sym (c .1))) (ranked-opens ts (c .2))
+
+      ranked-opens : (ts : Terms A) → AllRanked P outs ts → AllAllowedOpen (alphabet outs l) (λ e. 0) (replicate (count ts) 0) ts
+      ranked-opens none c = end-open
+      ranked-opens (more t ts) c = next-open (ranked-open t (c .0)) (ranked-opens ts (c .1))
 
 -- ---- runs on ranked terms
 module _ {A : Type 0} (P : A → Type 0) {mids outs : List ℕ} {m : ℕ} {N : Transducer ℕ} (O : OverAlphabets mids outs m N) where

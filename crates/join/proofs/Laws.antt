@@ -33,10 +33,10 @@ use Rattle.forms.specs.Answers.{formOf, FileOf}
 use Rattle.forms.specs.declared.write.Formed.{Formed}
 use Rattle.forms.proofs.Files.{encoded-wf, same-file, parts-same, file-one}
 use Rattle.forms.proofs.Leaves.{accessible-leaf}
-use Rattle.discovery.proofs.Ranks.{translate-ranked}
+use Rattle.discovery.proofs.Ranks.{ranked-open, translate-ranked}
 use Rattle.join.specs.Answers.{JoinedFile, joinedStock, joinable, Joins}
 use Rattle.theory.proofs.Associating.{joined-assoc-one}
-use Rattle.join.proofs.Numbers.{ranked-open, over-outputs}
+use Rattle.join.proofs.Numbers.{over-outputs}
 
 -- ---- trees over an alphabet
 -- M and M′ give equal output trees on every input tree, of any size

@@ -3,42 +3,28 @@
 use Prim.Native.Nat.{ℕ, _+_, _*_, _/_, _%_, _≤_, _<_}
 use native.Mathlib.Omega.{arith}
 use mathlib.Core.List.{List}
-use mathlib.Core.Option.{some}
-use mathlib.Core.Path.{refl, sym, ap, _∙_}
-use lib.ListN.{length, getD, replicate}
+use mathlib.Core.Path.{refl}
+use lib.ListN.{length, getD}
 use Rattle.theory.specs.Accessible.{coded}
 use Rattle.theory.specs.Compose.{assoc, compose}
 use Rattle.theory.specs.Inner.PairCodes.{pairCode, pairName}
 use Rattle.theory.specs.Joined.{OutputsIn}
-use Rattle.theory.specs.OpenTrees.{AllowedOpen, blank, rule-open, AllAllowedOpen, end-open, next-open}
-use Rattle.theory.specs.Term.{Term, var, node, Terms, none, more, mapT, count}
+use Rattle.theory.specs.Term.{Term, var, mapT}
 use Rattle.theory.specs.Transducer.{Transducer, run, renamed}
 use Rattle.theory.specs.Wf.{Wf}
 use Rattle.theory.proofs.Terms.{bind-bind}
 use Rattle.trees.specs.Alphabets.{Leaf, inputs, outputs}
-use Rattle.trees.specs.Code.{Ranked, AllRanked, Call}
+use Rattle.trees.specs.Code.{Ranked, Call}
 use Rattle.formats.specs.Inner.Layout.{transducer}
 use Rattle.formats.specs.Sheet.{OverAlphabets}
-use Rattle.forms.specs.Alphabet.{alphabet, children-inside, children-of}
+use Rattle.forms.specs.Alphabet.{alphabet, children-inside}
 use Rattle.discovery.specs.Inner.Discovering.{ValidCall, ByNumbers}
-use Rattle.discovery.proofs.Ranks.{ranked-bind, run-ranked}
+use Rattle.discovery.proofs.Ranks.{ranked-open, ranked-bind, run-ranked}
 use Rattle.join.specs.Inner.Pairs.{product, Pair, Tables}
 use Rattle.runs.specs.Inner.Walked.{paired, tabled}
 use Rattle.runs.proofs.Wider.{tabled-over, tabled-wf}
 
 -- ---- the outputs of a transducer over two alphabets are trees over the second
-module _ {A : Type 0} (P : A → Type 0) (ins : List ℕ) (l : Leaf ins) where
-  mutual
-    unfolding Ranked alphabet count
-
-    pub ranked-open : (t : Term A) → Ranked P ins t → AllowedOpen (alphabet ins l) (λ e. 0) 0 t
-    ranked-open (var x) c = blank refl
-    ranked-open (node k ts) c = rule-open (children-of ins k (c .0) ∙ ap (λ r. some (replicate r 0)) (sym (c .1))) (ranked-opens ts (c .2))
-
-    ranked-opens : (ts : Terms A) → AllRanked P ins ts → AllAllowedOpen (alphabet ins l) (λ e. 0) (replicate (count ts) 0) ts
-    ranked-opens none c = end-open
-    ranked-opens (more t ts) c = next-open (ranked-open t (c .0)) (ranked-opens ts (c .1))
-
 pub over-outputs : {ins mids : List ℕ} {n : ℕ} {M : Transducer ℕ} → OverAlphabets ins mids n M → (l : Leaf ins) (l′ : Leaf mids) → OutputsIn (alphabet ins l) (alphabet mids l′) M (λ q. q < n) (λ q. 0)
 unfolding alphabet
 over-outputs {ins} {mids} {n} {M} O l l′ = record {
