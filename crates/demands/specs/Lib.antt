@@ -1,8 +1,9 @@
 -- The demands of the user, each as one record with a field for each part of its text. First: every file can be opened. Second: a sheet sews the plan that 000 defines.
--- Third: alike exactly if equal clean sheets. Joining, Linear, Xml: requests F-9, F-2 and F-4 of document 02, in the same form.
+-- Third: alike exactly if equal clean sheets. Joining, Linear, Xml, Partial: requests F-9, F-2, F-4 and F-10 of document 02, in the same form.
 pub mod First
 pub mod Second
 pub mod Third
 pub mod Joining
 pub mod Linear
 pub mod Xml
+pub mod Partial
