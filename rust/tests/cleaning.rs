@@ -14,7 +14,7 @@ use caplune::{ffi, slices, Refusal};
 use caplune_independent as independent;
 use generate::alike::{any, chain, chain_alphabets};
 use generate::samples::*;
-use generate::{small_trees, Alphabets, Random, Transducer};
+use generate::{small_trees, Alphabets, Random};
 use independent::MAX_FILE;
 use lent::{number, Lent, Tally, BEFORE};
 use std::collections::BTreeSet;
@@ -259,18 +259,7 @@ fn alike_by_construction() {
         let (alphabets, sheet) = any(&mut random);
         let stock = alphabets.file();
         let Ok(expected) = forms(&mut tally, &stock, &sheet.file()) else { continue };
-        let mut changed = vec![
-            Some(sheet.with_unreached(&mut random, &alphabets)),
-            sheet.delayed(&mut random, &alphabets),
-            Some(sheet.alike(&mut random, &alphabets, 6)),
-            Some(sheet.alike(&mut random, &alphabets, 25)),
-        ];
-        if sheet.states > 0 {
-            changed.push(Some(sheet.permuted(&mut random)));
-            changed.push(Some(sheet.duplicated(&mut random)));
-            changed.push(sheet.advanced(&mut random, &alphabets));
-        }
-        for changed in changed.into_iter().flatten().filter(Transducer::fits) {
+        for changed in sheet.changed(&mut random, &alphabets) {
             match forms(&mut tally, &stock, &changed.file()) {
                 Ok(form) => {
                     assert!(form == expected, "{stock:?} {:?} {:?}", sheet.file(), changed.file());

@@ -10,6 +10,7 @@
 //! *state*, a line a *right-hand side*, the opening the *initial term*, an open end a *call*;
 //! a place is an *address*. A head is a *prefix*, the trimmed sheet the *earliest form*, and the clean
 //! sheet the *minimal earliest transducer*. Sheets are *joined* to the composition of two transducers.
+//! A blank is a *variable* of a *partial tree*.
 //!
 //! Every function answers `Result<_, u32>`, where the error is the paper's refusal number, and
 //! tests in the paper's order: 1, 9, 2, 16, 11, 12, 4, 5, 3, 6, 10, 7, 8, 17. A refusal changes nothing that was
@@ -19,6 +20,7 @@ mod book;
 mod earliest;
 mod join;
 mod minimal;
+mod partial;
 mod search;
 mod xml;
 
@@ -26,6 +28,7 @@ pub use book::{Book, Head, Record, MAX_HELD, RECORDS};
 pub use earliest::{earliest, prefixes, Trimmed};
 pub use join::{join, join_into};
 pub use minimal::{clean, clean_into, compare, Verdict};
+pub use partial::lay;
 pub use search::{count_trees, search_difference};
 pub use xml::{read_xml, write_xml, MAX_XML, MAX_XML_NODES};
 

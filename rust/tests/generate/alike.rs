@@ -271,6 +271,31 @@ impl Transducer {
         alike
     }
 
+    /// With so many copies of each state, of which each call goes to any.
+    pub fn multiplied(&self, random: &mut Random, copies: usize) -> Self {
+        let sides = (0..copies).flat_map(|_| &self.terms[1..]);
+        let terms = self.terms[..1].iter().chain(sides).cloned().collect();
+        let mut multiplied = Transducer { states: copies * self.states, terms };
+        multiplied.rename(|child, state| vec![child, state + (self.states * random.below(copies)) as u8]);
+        multiplied
+    }
+
+    /// Equivalent transducers within the limits: by one step of each kind above, and by some.
+    pub fn changed(&self, random: &mut Random, alphabets: &Alphabets) -> Vec<Self> {
+        let mut changed = vec![
+            Some(self.with_unreached(random, alphabets)),
+            self.delayed(random, alphabets),
+            Some(self.alike(random, alphabets, 6)),
+            Some(self.alike(random, alphabets, 25)),
+        ];
+        if self.states > 0 {
+            changed.push(Some(self.permuted(random)));
+            changed.push(Some(self.duplicated(random)));
+            changed.push(self.advanced(random, alphabets));
+        }
+        changed.into_iter().flatten().filter(Transducer::fits).collect()
+    }
+
     /// With one mark changed to another of the same rank, if there is another.
     pub fn with_one_mark_changed(&self, random: &mut Random, alphabets: &Alphabets) -> Option<Self> {
         let mut changed = self.clone();

@@ -8,6 +8,7 @@ pub mod cases;
 pub mod deep;
 pub mod joins;
 pub mod memory;
+pub mod partials;
 pub mod reach;
 pub mod rows;
 pub mod samples;
