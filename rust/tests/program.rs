@@ -17,14 +17,19 @@ fn repository(path: &str) -> PathBuf {
     Path::new(env!("CARGO_MANIFEST_DIR")).join("..").join(path)
 }
 
-/// A folder with the files of examples/first.
-fn first() -> Folder {
+/// A folder with the files of a folder of the repository.
+fn copy_of(path: &str) -> Folder {
     let folder = Folder::new();
-    for entry in fs::read_dir(repository("examples/first")).expect("it is there") {
+    for entry in fs::read_dir(repository(path)).expect("it is there") {
         let path = entry.unwrap().path();
         fs::copy(&path, folder.0.join(path.file_name().unwrap())).unwrap();
     }
     folder
+}
+
+/// A folder with the files of examples/first.
+fn first() -> Folder {
+    copy_of("examples/first")
 }
 
 impl Folder {
@@ -58,16 +63,13 @@ fn told(ended: &Ended, line: &str) -> String {
     said.to_string()
 }
 
-/// The transcript of the README, command by command.
-#[test]
-fn readme() {
-    let readme = fs::read_to_string(repository("README.md")).unwrap();
-    let transcript =
-        readme.split("## First use").nth(1).and_then(|rest| rest.split("\n## ").next()).expect("a transcript");
-    let folder = first();
+/// Runs the first transcript behind a heading of a document, command by command, and says how many commands it has.
+fn follow(document: &str, heading: &str, folder: &Folder) -> usize {
+    let text = fs::read_to_string(repository(document)).unwrap();
+    let section = text.split(heading).nth(1).and_then(|rest| rest.split("\n## ").next()).expect("a transcript");
     let path = format!("{}:{}", Path::new(PROGRAM).parent().unwrap().display(), std::env::var("PATH").unwrap());
     let mut commands: Vec<(&str, String)> = Vec::new();
-    let begun = transcript.lines().skip_while(|line| !line.starts_with("    $ "));
+    let begun = section.lines().skip_while(|line| !line.starts_with("    $ "));
     for line in begun.take_while(|line| line.is_empty() || line.starts_with("    ")) {
         match (line.strip_prefix("    $ "), commands.last_mut()) {
             (Some(command), _) => commands.push((command, String::new())),
@@ -75,7 +77,6 @@ fn readme() {
             (None, None) => {}
         }
     }
-    assert!(commands.len() > 10);
     let last = commands.len() - 1;
     for (number, (command, output)) in commands.iter().enumerate() {
         let script = format!("PATH='{path}'; exec 2>&1; {command}");
@@ -84,8 +85,22 @@ fn readme() {
         let output = if number == last { format!("{}\n", output.trim_end()) } else { output.clone() };
         assert_eq!(ended.text(), output, "{command}");
     }
+    commands.len()
+}
+
+/// The transcript of the README.
+#[test]
+fn readme() {
+    let folder = first();
+    assert!(follow("README.md", "## First use", &folder) > 10);
     // the picture that the README shows
     assert_eq!(folder.read("difference.svg"), fs::read(repository("docs/difference.svg")).unwrap());
+}
+
+/// The transcript of docs/FORMATS.md, of designs with blanks.
+#[test]
+fn blanks() {
+    assert_eq!(follow("docs/FORMATS.md", "## Design with blanks", &copy_of("examples/blank")), 3);
 }
 
 /// docs/REFUSALS.md and the library's sentences are the same, row by row.

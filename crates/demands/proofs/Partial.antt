@@ -5,6 +5,7 @@ use mathlib.Core.List.{List}
 use mathlib.Core.Path.{_≡_, sym, _∙_}
 use Rattle.formats.specs.Sheet.{file}
 use Rattle.canonical.proofs.Laws.{Cleaned, cleaned}
+use Rattle.partial.proofs.AsSymbol.{wider-written}
 use Rattle.partial.proofs.Laws.{lays, lays-one, lays-initial, lays-whole, lays-prefix, nothing-earlier, clean-largest}
 use Rattle.partial.proofs.Rows.{T′-later}
 use Rattle.demands.specs.Partial.{CleansTo, Request10}
@@ -26,4 +27,5 @@ partial-designs = record {
   not-round = T′-later;
   stays = λ A S L f. lays-prefix S A L f;
   all-sure = λ Q S U common. clean-largest (clean-sheet Q .normal) (rw (file-is Q) at U) S common;
+  sewn = λ r A B L J e. wider-written A B L r J e;
 }

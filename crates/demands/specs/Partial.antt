@@ -2,16 +2,22 @@
 use Prim.Native.Nat.{ℕ}
 use mathlib.Core.List.{List}
 use mathlib.Core.Path.{_≡_}
+use lib.ListN.{length}
+use lib.Seq.{sets}
 use Rattle.theory.specs.Prefix.{Prefix}
 use Rattle.theory.specs.Term.{Term, var, bind, Tree, mapT}
 use Rattle.theory.specs.Transducer.{Transducer, translate}
 use Rattle.trees.specs.Alphabets.{Alphabets, inputs, outputs}
 use Rattle.trees.specs.Code.{Ranked}
+use Rattle.trees.specs.Refusal.{accepted}
 use Rattle.formats.specs.Samples.{S, T, T′}
 use Rattle.formats.specs.Sheet.{Sheet}
+use Rattle.transducer.specs.Answers.{translated, Translates}
+use Rattle.transducer.specs.declared.translate.Translation.{Translation}
 use Rattle.forms.specs.declared.write.Formed.{Formed}
 use Rattle.canonical.specs.Answers.{Cleans}
-use Rattle.partial.specs.Partial.{PartialTree, Lays, NothingEarlier, whole}
+use Rattle.partial.specs.AsSymbol.{blankStock, BlankSheet}
+use Rattle.partial.specs.Partial.{PartialTree, Lays, NothingEarlier, whole, partialCode}
 use Rattle.demands.specs.Third.{Wrote}
 
 -- cleaning the sheet s answered an acceptance, and x stands at the start of the area that it left: x is its clean sheet
@@ -39,3 +45,6 @@ pub record Request10 : Type 1 where
   -- The clean sheet lays all that is sure: what is a prefix of the plan however the blanks are filled in is a prefix of what it lays.
   pub all-sure : {A B : Type 0} {stock s x : List ℕ} {n : ℕ} {M : Transducer ℕ} {d : Term A} {u : Term (A × ℕ)} {h : Term B} → CleansTo stock s x → Sheet (inputs stock) (outputs stock) s n M → Lays stock x d u
       → ((f : A → Tree) → ((y : A) → Ranked (λ z. ⊥) (inputs stock) (f y)) → Prefix h (translate M (bind d f))) → Prefix h u
+  -- Sewing shows what is laid: with a part kind more for the blanks and a block kind more for the open ends, both without places, and for each pass a line more, the open end on the blank, a sewing that is accepted has written it.
+  pub sewn : {A : Type 0} {stock s x before after : List ℕ} {k : ℕ} {d : Term A} {t : Term (A × ℕ)} (r : Translation) → Alphabets stock → BlankSheet stock s x → Lays stock s d t
+      → Translates (blankStock stock) x (partialCode (length (inputs stock)) d) before after r → translated r ≡ accepted k → after ≡ sets before 0 (partialCode (length (outputs stock)) t)
