@@ -1,20 +1,27 @@
 -- Request F-9 is met.
 -- Assumes nothing.
-use Prim.Native.Nat.{ℕ}
+use Prim.Native.Nat.{ℕ, _<_}
+use native.Mathlib.Omega.{arith}
 use mathlib.Core.List.{List}
-use mathlib.Core.Path.{_≡_, refl, sym, _∙_, subst}
+use mathlib.Core.Path.{_≡_, refl, sym, ap, _∙_, subst}
+use lib.ListN.{length, take}
+use lib.Seq.{take-all}
 use Rattle.theory.specs.Term.{Tree}
 use Rattle.theory.specs.Transducer.{Transducer, translate}
+use Rattle.theory.proofs.Terms.{conflict}
 use Rattle.trees.specs.Alphabets.{Alphabets, inputs, outputs, alphabetCheck}
 use Rattle.trees.specs.Code.{Ranked, code}
-use Rattle.trees.specs.Refusal.{done, Holds}
+use Rattle.trees.specs.Refusal.{accepted, done, Holds}
 use Rattle.trees.proofs.Stock.{stock-reads, stock-reads-outputs}
 use Rattle.formats.specs.Sheet.{file, Sheet, sheetCheck}
 use Rattle.transducer.specs.Output.{Output}
-use Rattle.join.specs.Answers.{JoinedFile, joinedStock}
+use Rattle.forms.specs.Answers.{formOf}
+use Rattle.forms.specs.declared.write.Formed.{Formed}
+use Rattle.forms.specs.declared.write.Formed.the-variants.{Form, Refused}
+use Rattle.join.specs.Answers.{JoinedFile, joinedStock, Joins}
 use Rattle.join.proofs.Laws.{TranslateAlike, sheet-alike, joined-sheet, join-translates-any, join-output, JoinWritten, join-written, join-sheet, join-unique, join-alike-first, join-alike-second, join-assoc-files}
 use Rattle.canonical.specs.Answers.{SewAlike}
-use Rattle.demands.specs.Joining.{JoinsTo, Request9}
+use Rattle.demands.specs.Joining.{JoinsTo, Request9, fileIn, JoinsThree}
 
 same-file-bytes : {k k′ : ℕ} {counts counts′ bytes bytes′ : List ℕ} → k ≡ k′ → counts ≡ counts′ → bytes ≡ bytes′ → file k counts bytes ≡ file k′ counts′ bytes′
 same-file-bytes e f g = rw (e, f, g)
@@ -76,6 +83,7 @@ first-inputs a b Q = rw (stock-reads (inputs a) (outputs b)) at (sheet-is Q)
 
 pub joining : Request9
 joining = record {
+  joins = λ {before = before} {after = after} r J e. record { before = before; after = after; answer = r; promise = J; wrote = record { values = _; answer = e; bytes = refl } };
   plan = λ Q S S′ S″ d r. plan-of (written Q .joined) (file-is Q) (written Q .fits) S S′ S″ d r;
   plan-of-plan = λ Q O O′. output-of (written Q .joined) (file-is Q) (written Q .fits) O O′;
   stands = λ Q. stands-there Q;
@@ -85,3 +93,31 @@ joining = record {
   alike-first = λ {a} {b} E Q R. sews-alike a b (sheet-is Q) (sheet-is R) (join-alike-first (written Q .fits) (written Q .joined) (written R .joined) (alike-machines E (written Q .joined .sheet) (written R .joined .sheet)));
   alike-second = λ {a} {b} E Q R. sews-alike a b (sheet-is Q) (sheet-is R) (join-alike-second (written Q .fits) (written Q .joined) (written R .joined) (alike-machines E (written Q .joined .sheet′) (written R .joined .sheet′)));
 }
+
+-- ---- of the functions themselves
+-- what an accepted call wrote
+wrote-file : (r : Formed) (area : List ℕ) (v : ℕ × ℕ × ℕ) → formOf r ≡ accepted v → fileIn r area ≡ take (v .2) area
+wrote-file (Form k m n) area v e = let w : (k, m, n) ≡ v = cc in ap (λ w. take (w .2) area) w
+wrote-file (Refused x) area v e = conflict (cc)
+
+-- the part of the area that it is, in which an area that is too short for it would be whole
+pub file-part : (r : Formed) (area : List ℕ) {k m n : ℕ} → r ≡ Form k m n → take n area ≡ fileIn r area
+file-part r area e = rw e
+
+pub file-whole : (r : Formed) (area : List ℕ) {k m n : ℕ} → r ≡ Form k m n → length area < n → area ≡ fileIn r area
+file-whole r area {k} {m} {n} e h = rw e (sym (take-all n area (omega arith)))
+
+-- joining what a call wrote, as the first sheet or as the second
+pub joins-first : {a b f f′ t x x′ : List ℕ} (r : Formed) → f ≡ f′ → Joins a b f t x x′ r → Joins a b f′ t x x′ r
+joins-first r e J = rw e at J
+
+pub joins-second : {a b s f f′ x x′ : List ℕ} (r : Formed) → f ≡ f′ → Joins a b s f x x′ r → Joins a b s f′ x x′ r
+joins-second r e J = rw e at J
+
+pub both-ways : {a b c ab bc s t u x x′ y y′ z z′ w w′ : List ℕ} (first left second right : Formed) → Joins a b s t x x′ first → Joins ab c (fileIn first x′) u y y′ left → Joins b c t u z z′ second → Joins a bc s (fileIn second z′) w w′ right → JoinsThree a b c ab bc first left second right y′ w′
+both-ways {x′ = x′} {y′ = y′} {z′ = z′} {w′ = w′} first left second right J J₁ J₂ J₃ e f v v₁ v₂ v₃ h h₁ h₂ h₃ =
+    let A = joining .joins first J h in
+    let B = joining .joins left (rw (e, wrote-file first x′ v h) at J₁) h₁ in
+    let C = joining .joins second J₂ h₂ in
+    let D = joining .joins right (rw (f, wrote-file second z′ v₂ h₂) at J₃) h₃ in
+    rw (wrote-file left y′ v₁ h₁, wrote-file right w′ v₃ h₃) (joining .three-same A B C D, joining .three A B C D)

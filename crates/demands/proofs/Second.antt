@@ -1,6 +1,7 @@
 -- Demand 2 is met: the laws of `trees`, `formats` and `transducer`, put together.
 -- Assumes nothing.
 use Prim.Native.Nat.{ℕ, _+_, _*_, _≤_}
+use native.Mathlib.Decide.{decLe}
 use mathlib.Core.List.{List}
 use mathlib.Core.Logic.{_↔_, inl, inr}
 use mathlib.Core.Path.{_≡_, refl, sym, ap, _∙_}
@@ -10,8 +11,10 @@ use Rattle.theory.specs.Transducer.{Transducer, translate}
 use Rattle.theory.proofs.Terms.{conflict}
 use Rattle.trees.specs.Alphabets.{Alphabets, inputs, outputs, alphabetCheck}
 use Rattle.formats.specs.Answers.{fileRead, ReadsFile, HandsCounts, HandsMarks, fileWritten, WritesFile}
-use Rattle.trees.specs.Refusal.{Outcome, accepted, refused, done, check, Holds, judged}
-use Rattle.formats.specs.Sheet.{longest, file, Encodes, Counted, CountedFile, Sheet, partsCheck}
+use Rattle.trees.specs.Refusal.{Outcome, accepted, refused, done, check, Holds, judged, Judged}
+use Rattle.trees.specs.declared.refusal.Refusal.{Refusal}
+use Rattle.trees.proofs.Judging.{refuse, pass, accept, accepted-holds, refused-early, must-refuse}
+use Rattle.formats.specs.Sheet.{longest, file, Encodes, Counted, CountedFile, Sheet, sheetCheck, partsCheck}
 use Rattle.formats.specs.declared.file.FileRead.{FileRead}
 use Rattle.formats.specs.declared.file.FileRead.the-variants as reading
 use Rattle.formats.specs.declared.file.FileWritten.{FileWritten}
@@ -19,10 +22,13 @@ use Rattle.formats.specs.declared.file.FileWritten.the-variants as writing
 use Rattle.formats.proofs.Laws.{read-write, write-read}
 use Rattle.formats.proofs.Sheets.{counted-right, encodes-long, parts-at, sheet-unique}
 use Rattle.trees.proofs.Trees.{input-unique}
-use Rattle.transducer.specs.Answers.{translated}
+use Rattle.transducer.specs.Answers.{translated, Translates}
+use Rattle.transducer.specs.declared.translate.Translation.{Translation}
 use Rattle.transducer.proofs.Laws.{file-output-unique, must-translate, must-refuse-long, must-refuse-deep}
+use Rattle.queries.specs.Answers.{FindsSymbol}
+use Rattle.queries.specs.declared.address.Found.{Found}
 use Rattle.queries.proofs.Laws.{must-find}
-use Rattle.demands.specs.Second.{ReadsParts, Demand2}
+use Rattle.demands.specs.Second.{ReadsParts, Demand2, ReadAndWritten, SewsAndAsks}
 
 -- ---- reader and writer
 undone : (stock s counts bytes before after : List ℕ) (n : ℕ) (r : FileRead) (w : FileWritten) → ReadsFile stock s r → fileRead r ≡ accepted n → HandsCounts stock s counts → HandsMarks stock s bytes → longest ≤ length before → WritesFile stock n counts bytes before after w → (fileWritten w ≡ accepted (length s)) × (after ≡ sets before 0 s)
@@ -127,3 +133,31 @@ demand-2 = record {
   written-read = redone;
   same-refusals = refuse-alike;
 }
+
+-- ---- of the functions themselves
+-- a file that is not read is not written
+pub not-read : {stock s before : List ℕ} (r : FileRead) (x : Refusal) → r ≡ reading.Refused x → ReadsFile stock s r → ReadAndWritten stock s before before (writing.Refused x)
+not-read {stock} {s} {before} r x e R = refused-early (alphabetCheck stock (sheetCheck stock s done)) (check 1 (longest ≤ length before) done) refl (rw e at R)
+
+-- one that is read is
+pub written-again : {stock s counts bytes before after : List ℕ} (r : FileRead) (n : ℕ) → r ≡ reading.States n → ReadsFile stock s r → HandsCounts stock s counts → HandsMarks stock s bytes → (w : FileWritten) → WritesFile stock n counts bytes before after w → ReadAndWritten stock s before after w
+unfolding Holds
+written-again {stock} {s} {counts} {bytes} {before} {after} r n e R C B w W = let h = accepted-holds (rw e at R) .0 in pass (h .0) (pass (h .1 .0) (pass (h .1 .1 .0) (go (decLe longest (length before)))))
+  where
+    go : Dec (longest ≤ length before) → Judged (after ≡ before) (λ k. (k ≡ length s) × (after ≡ sets before 0 s)) (check 1 (longest ≤ length before) done) (fileWritten w)
+    go (yes h) = let u = undone stock s counts bytes before after n r w R (ap fileRead e) C B h W in rw (u .0) (pass h (accept (refl, u .1)))
+    go (no h) = let u = must-refuse done (alphabetCheck stock (partsCheck stock n counts bytes done)) tt h W in rw (u .0) (refuse h (u .1))
+
+-- what is sewn, and asked at a place
+pub sewn-and-asked : {stock sheet design address before after : List ℕ} (r : Translation) (q : Found) → Translates stock sheet design before after r → FindsSymbol stock sheet design address q → SewsAndAsks stock sheet design address before after r q
+unfolding Holds
+sewn-and-asked {stock} {sheet} {design} {address} {before} {after} r q J F h =
+    let (t, O) = demand-2 .plan stock sheet design h in
+    record {
+      plan = t;
+      is-plan = O;
+      sews = λ a b. demand-2 .sews stock sheet design before after t r (h .0) O J a b;
+      too-long = λ a. demand-2 .too-long stock sheet design before after t r (h .0) O J a;
+      too-deep = λ a b. demand-2 .too-deep stock sheet design before after t r (h .0) O J a b;
+      place = demand-2 .place stock sheet design address t q (h .0) O F;
+    }

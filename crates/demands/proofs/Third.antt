@@ -17,7 +17,7 @@ use Rattle.comparison.specs.Answers.{Found, Differ, Compares}
 use Rattle.comparison.specs.declared.compare.Comparison.{Comparison}
 use Rattle.comparison.proofs.Laws.{compare-exact}
 use Rattle.registry.proofs.Laws.{registry-laws}
-use Rattle.demands.specs.Third.{Accepted, Wrote, SameExactly, AlikeExactly, Again, Demand3}
+use Rattle.demands.specs.Third.{Accepted, Wrote, SameExactly, AlikeExactly, Judges, Again, Demand3}
 
 -- ---- cleaning
 same : {stock s s′ before after before′ after′ : List ℕ} (r r′ : Formed) → Accepted stock s → Accepted stock s′ → longest ≤ length before → longest ≤ length before′ → Cleans stock s before after r → Cleans stock s′ before′ after′ r′ → SameExactly stock s s′ after after′ r r′
@@ -81,3 +81,7 @@ demand-3 = record {
   again = clean-sheet;
   entries = λ E. registry-laws E .exact;
 }
+
+-- ---- of the functions themselves
+pub judges : {stock s s′ area area′ other other′ tree tree′ address address′ : List ℕ} (r r′ : Formed) (v : Comparison) → Cleans stock s area area′ r → Cleans stock s′ other other′ r′ → Compares stock s s′ tree tree′ address address′ v → Judges stock s s′ (area, area′) (other, other′) (tree, tree′) (address, address′) r r′ v
+judges r r′ v J J′ C A A′ l l′ h h′ = (same r r′ A A′ l l′ J J′, verdict v A A′ h h′ C)

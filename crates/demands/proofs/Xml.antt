@@ -1,23 +1,25 @@
 -- Request F-4 is met.
 -- Assumes nothing.
 use Prim.Native.Nat.{ℕ, _≤_}
+use native.Mathlib.Decide.{decLe}
 use native.Mathlib.Omega.{arith}
 use mathlib.Core.List.{List}
 use mathlib.Core.Path.{_≡_, refl, sym, ap, subst, _∙_}
-use lib.ListN.{length, take}
-use lib.Seq.{sets}
+use lib.ListN.{length, take, length-take}
+use lib.Seq.{sets, length-take-le}
 use Rattle.theory.specs.Term.{Tree}
-use Rattle.trees.specs.Alphabets.{Alphabets, outputs}
+use Rattle.trees.specs.Alphabets.{Alphabets, outputs, alphabetCheck}
 use Rattle.trees.specs.Code.{code}
-use Rattle.trees.specs.Refusal.{accepted, Holds}
-use Rattle.trees.proofs.Judging.{accepted-holds}
-use Rattle.xml.specs.Answers.{Form, Formed, converted, Converts}
+use Rattle.trees.specs.Refusal.{accepted, done, check, Holds, Judged}
+use Rattle.trees.specs.declared.refusal.Refusal.{Refusal}
+use Rattle.trees.proofs.Judging.{refuse, pass, accept, accepted-holds, refused-early, must-refuse}
+use Rattle.xml.specs.Answers.{Form, Formed, formsCheck, converted, Converts, WritesXml, ReadsXml}
 use Rattle.xml.specs.Xml.{xml, OutputTree}
 use Rattle.xml.specs.declared.write.Converted.{Converted}
-use Rattle.xml.specs.declared.write.Converted.the-variants.{Length}
+use Rattle.xml.specs.declared.write.Converted.the-variants.{Length, Refused}
 use Rattle.xml.proofs.Collecting.{code-size}
 use Rattle.xml.proofs.Laws.{Distinct, code-distinct, xml-distinct, conversion, converted-so, stands-there, was-formed, longest-xml}
-use Rattle.demands.specs.Xml.{Gave, WriterGives, Request4}
+use Rattle.demands.specs.Xml.{Gave, WriterGives, Request4, ReadsBack}
 
 -- ---- any conversion between two forms
 -- the stock of one that is accepted
@@ -51,6 +53,14 @@ texts-apart {stock} A = xml-distinct (outputs stock) (A .outs .few)
 few-symbols : {outs : List ℕ} {t : Tree} → OutputTree outs t → length (code t) ≤ 4096
 few-symbols {outs} {t} O = omega (arith, code-size outs t (O .ranked), O .small)
 
+-- an accepted writing gives the text that stands at the start of its area
+text-given : {stock s before after : List ℕ} {n : ℕ} (r : Converted) → WritesXml stock s before after r → converted r ≡ accepted n → WriterGives stock (take n after)
+text-given {stock} {s} {before} {after} {n} r C e =
+    let A = was-stock code xml stock s before after r n C e in
+    let w = was-formed code xml stock (codes-apart A) s before after r n C e in
+    let l : n ≡ length (take n after) = w .1 .1 ∙ ap length (sym (w .1 .2)) in
+    record { plan = s; before = before; after = after; r = r; promise = C; gave = record { answer = e ∙ ap (λ k. accepted k) l; bytes = ap (λ k. take k after) (sym l) } }
+
 -- a text that is read is one that the writer gives
 module _ {stock text : List ℕ} (A : Alphabets stock) where
   writer-gives : (t : Tree) → Formed xml stock text t → WriterGives stock text
@@ -74,6 +84,7 @@ module _ {stock text : List ℕ} (A : Alphabets stock) where
 pub xml-plans : Request4
 unfolding xml
 xml-plans = record {
+  writes = text-given;
   written = λ {stock} {s} {before} {after} {t} r A F C h. gives code xml stock A (codes-apart A) s before after r C t F h;
   read = λ {stock} {text} {before} {after} {t} r A F C h. gives xml code stock A (texts-apart A) text before after r C t F h;
   sample = refl;
@@ -86,3 +97,44 @@ xml-plans = record {
   longest-text = longest-xml;
   longest-plan = few-symbols;
 }
+
+-- ---- of the functions themselves
+-- the promise of an answer that is known
+pub as-written : {stock s text text′ : List ℕ} (r : Converted) (n : ℕ) → r ≡ Length n → WritesXml stock s text text′ r → WritesXml stock s text text′ (Length n)
+as-written r n e C = rw e at C
+
+pub as-refused : {stock s text text′ : List ℕ} (r : Converted) (x : Refusal) → r ≡ Refused x → WritesXml stock s text text′ r → WritesXml stock s text text′ (Refused x)
+as-refused r x e C = rw e at C
+
+-- a plan that is not written is not read back
+pub not-written : {stock s text text′ before : List ℕ} (r : Converted) (x : Refusal) → r ≡ Refused x → WritesXml stock s text text′ r → ReadsBack stock s text before before (Refused x)
+not-written {stock} {s} {text} r x e C = refused-early (alphabetCheck stock (formsCheck code xml stock s text done)) (check 12 _ done) refl (rw e at C)
+
+-- one that is written stands in its area,
+pub text-inside : {stock s text text′ : List ℕ} (r : Converted) (n : ℕ) → r ≡ Length n → WritesXml stock s text text′ r → n ≤ length text′
+text-inside {stock} {s} {text} {text′} r n e C =
+    let A = was-stock code xml stock s text text′ r n C (ap converted e) in
+    let w = was-formed code xml stock (codes-apart A) s text text′ r n C (ap converted e) in
+    omega (arith, w .1 .1, ap length (w .1 .2), length-take n text′)
+
+pub text-long : {stock s text text′ : List ℕ} (r : Converted) (n : ℕ) → r ≡ Length n → WritesXml stock s text text′ r → n ≡ length (take n text′)
+text-long {stock} {s} {text} {text′} r n e C = sym (length-take-le n text′ (text-inside r n e C))
+
+-- and is read back
+pub read-back : {stock s text text′ before after : List ℕ} (r : Converted) (n : ℕ) → r ≡ Length n → WritesXml stock s text text′ r → (r′ : Converted) → ReadsXml stock (take n text′) before after r′ → ReadsBack stock s text before after r′
+unfolding Holds
+read-back {stock} {s} {text} {text′} {before} {after} r n e C r′ R =
+    let h = accepted-holds (rw e at C) .0 in
+    let A = h .0 in
+    let w = was-formed code xml stock (codes-apart A) s text text′ r n C (ap converted e) in
+    let F : Formed xml stock (take n text′) (w .0) = record { output = w .1 .0 .output; is = sym (w .1 .2) } in
+    pass A (pass (h .1 .0) (pass (h .1 .1 .0) (go A (w .0) (w .1 .0) F (decLe (length s) (length before)))))
+  where
+    go : Alphabets stock → (t : Tree) → Formed code stock s t → Formed xml stock (take n text′) t → Dec (length s ≤ length before) → Judged (after ≡ before) (λ n. (n ≡ length s) × (after ≡ sets before 0 s)) (check 12 (length s ≤ length before) done) (converted r′)
+    go A t F G (yes h) =
+        let w = converted-so xml code stock A (texts-apart A) (take n text′) before after r′ R t G (omega (arith, ap length (F .is))) in
+        rw (w .0) (pass h (accept (ap length (F .is), w .1 ∙ ap (sets before 0) (F .is))))
+    go A t F G (no h) =
+        let short : ((u : Tree) × (Formed xml stock (take n text′) u × (length (code u) ≤ length before))) → ⊥ = λ v. let e : v .0 ≡ t = texts-apart A (v .0) t (v .1 .0 .output) (G .output) (v .1 .0 .is ∙ sym (G .is)) in h (omega (arith, v .1 .1, ap (λ u. length (code u)) e, ap length (F .is))) in
+        let w = must-refuse (alphabetCheck stock (check 11 ((u : Tree) × Formed xml stock (take n text′) u) done)) done (A, ((t, G), tt)) short R in
+        rw (w .0) (refuse h (w .1))

@@ -39,6 +39,8 @@ use Rattle.records.specs.declared.book.Entered.{Entered}
 use Rattle.records.specs.declared.book.Head.{Head}
 use Rattle.records.specs.declared.book.Made.{Made}
 use Rattle.records.specs.declared.book.Record.{Record}
+use Rattle.report.specs.Answers.{textArea, reportedAs, Reports}
+use Rattle.report.specs.declared.report.Reported.{Reported}
 
 -- k is the number of the first check that does not hold
 unfoldable pub FirstFailing : Checks → ℕ → Type 0
@@ -49,7 +51,12 @@ FirstFailing (check j P rest) k = ((P → ⊥) × (k ≡ j)) ⊎ (P × FirstFail
 abbrev pub Answered : {A : Type 0} → Checks → Type 0 → Outcome A → Type 0
 Answered {A} checks Left r = ((a : A) × ((r ≡ accepted a) × Holds checks)) ⊎ ((k : ℕ) × ((r ≡ refused k) × FirstFailing checks k × Left))
 
-pub record Demand1 : Type 0 where
+pub record Demand1 : Type 1 where
+  -- where a check does not hold there is a first one, at the start or behind checks that hold; then not all hold, and its number is one
+  pub first-here : (j : ℕ) (P : Type 0) (rest : Checks) → (P → ⊥) → FirstFailing (check j P rest) j
+  pub first-behind : (j k : ℕ) (P : Type 0) (rest : Checks) → P → FirstFailing rest k → FirstFailing (check j P rest) k
+  pub first-fails : (checks : Checks) (k : ℕ) → FirstFailing checks k → Holds checks → ⊥
+  pub first-one : (checks : Checks) (j k : ℕ) → FirstFailing checks j → FirstFailing checks k → j ≡ k
   -- the readers, of a stock, a design and a sheet
   pub alphabets : (stock : List ℕ) (r : AlphabetsRead) → ReadsAlphabets stock r → Answered (alphabetCheck stock done) Nothing (alphabetsRead r)
   pub tree : (stock s : List ℕ) (r : TreeRead) → ReadsTree stock s r → Answered (alphabetCheck stock (treeCheck stock s done)) Nothing (treeRead r)
@@ -71,6 +78,8 @@ pub record Demand1 : Type 0 where
   -- comparison, and the bodies of the shorter one
   pub comparison : (stock s s′ tree tree′ address address′ : List ℕ) (r : Comparison) → Compares stock s s′ tree tree′ address address′ r → Answered (check 1 ((treeArea ≤ length tree) × (addressArea ≤ length address)) (pairCheck stock s s′)) ((tree′ ≡ tree) × (address′ ≡ address)) (comparedAs r)
   pub shorter : (stock s s′ part : List ℕ) → HandsShorter stock s s′ part → (Holds (pairCheck stock s s′) → ⊥) → part ≡ []
+  -- the lines of the program `sheets`
+  pub report : (stock s s′ before after : List ℕ) (r : Reported) → Reports stock s s′ before after r → Answered (check 1 (textArea ≤ length before) done) (after ≡ before) (reportedAs r)
   -- the codes of blocks
   pub codes : (before after : List ℕ) (r : CodesWritten) → WritesCodes before after r → Answered (check 1 (codesArea ≤ length before) done) (after ≡ before) (codesWritten r)
   -- plans as XML, written and read

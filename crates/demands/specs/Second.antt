@@ -11,7 +11,7 @@ use Rattle.theory.specs.Transducer.{Transducer}
 use Rattle.trees.specs.Alphabets.{Alphabets, inputs, alphabetCheck}
 use Rattle.formats.specs.Answers.{fileRead, ReadsFile, HandsCounts, HandsMarks, fileWritten, WritesFile}
 use Rattle.trees.specs.Code.{code}
-use Rattle.trees.specs.Refusal.{accepted, refused, done, Holds}
+use Rattle.trees.specs.Refusal.{accepted, refused, done, check, Holds, Judged}
 use Rattle.formats.specs.Sheet.{longest, file, Sheet, sheetCheck}
 use Rattle.trees.specs.Tree.{InputTree, treeCheck}
 use Rattle.formats.specs.declared.file.FileRead.{FileRead}
@@ -55,3 +55,22 @@ pub record Demand2 : Type 0 where
   pub written-read : (stock counts bytes before after : List ℕ) (n k : ℕ) (w : FileWritten) → WritesFile stock n counts bytes before after w → fileWritten w ≡ accepted k → ReadsParts stock (take k after) n counts bytes
   -- The writer refuses just what the reader would, of counts that are two bytes for the opening and for every line.
   pub same-refusals : (stock counts bytes before after : List ℕ) (n : ℕ) (r : FileRead) (w : FileWritten) → length counts ≡ 2 * (1 + n * length (inputs stock)) → longest ≤ length before → ReadsFile stock (file n counts bytes) r → WritesFile stock n counts bytes before after w → (k : ℕ) → (fileRead r ≡ refused k) ↔ (fileWritten w ≡ refused k)
+
+-- what the demand says of a file that is read and written again: 1 where the area is too short; else the file stands at its start, and it keeps its rest
+abbrev pub ReadAndWritten : List ℕ → List ℕ → List ℕ → List ℕ → FileWritten → Type 0
+ReadAndWritten stock s before after r =
+    Judged (after ≡ before) (λ k. (k ≡ length s) × (after ≡ sets before 0 s))
+    (alphabetCheck stock (sheetCheck stock s (check 1 (longest ≤ length before) done)))
+    (fileWritten r)
+
+-- what it says of a sewing and of the block at a place of the same plan
+pub record SewnAndAsked (stock sheet design address before after : List ℕ) (sewn : Translation) (asked : Found) : Type 0 where
+  pub plan : Tree
+  pub is-plan : Output stock sheet design plan
+  pub sews : size plan ≤ length before → levels plan ≤ 256 → (translated sewn ≡ accepted (size plan)) × (after ≡ sets before 0 (code plan))
+  pub too-long : length before < size plan → (translated sewn ≡ refused 6) × (after ≡ before)
+  pub too-deep : size plan ≤ length before → 256 < levels plan → (translated sewn ≡ refused 10) × (after ≡ before)
+  pub place : found asked ≡ accepted (named (symbolAt plan address))
+
+abbrev pub SewsAndAsks : List ℕ → List ℕ → List ℕ → List ℕ → List ℕ → List ℕ → Translation → Found → Type 0
+SewsAndAsks stock sheet design address before after sewn asked = Holds (alphabetCheck stock (sheetCheck stock sheet (treeCheck stock design done))) → SewnAndAsked stock sheet design address before after sewn asked

@@ -4,11 +4,12 @@ use mathlib.Core.List.{List, [], _∷_}
 use mathlib.Core.Logic.{_↔_}
 use mathlib.Core.Path.{_≡_}
 use lib.ListN.{length, take}
+use lib.Seq.{sets}
 use Rattle.theory.specs.Term.{Tree, node, none, more}
-use Rattle.trees.specs.Alphabets.{Alphabets}
+use Rattle.trees.specs.Alphabets.{Alphabets, alphabetCheck}
 use Rattle.trees.specs.Code.{code}
-use Rattle.trees.specs.Refusal.{accepted}
-use Rattle.xml.specs.Answers.{Formed, converted, WritesXml, ReadsXml}
+use Rattle.trees.specs.Refusal.{accepted, done, check, Judged}
+use Rattle.xml.specs.Answers.{Formed, formsCheck, converted, WritesXml, ReadsXml}
 use Rattle.xml.specs.Xml.{xml, OutputTree}
 use Rattle.xml.specs.declared.write.Converted.{Converted}
 
@@ -34,6 +35,8 @@ abbrev pub textSample : List ℕ
 textSample = 60 ∷ 65 ∷ 49 ∷ 62 ∷ 60 ∷ 65 ∷ 50 ∷ 47 ∷ 62 ∷ 60 ∷ 65 ∷ 50 ∷ 47 ∷ 62 ∷ 60 ∷ 47 ∷ 65 ∷ 49 ∷ 62 ∷ []
 
 pub record Request4 : Type 0 where
+  -- An accepted writing is such a call, of what stands at the start of its area.
+  pub writes : {stock s before after : List ℕ} {n : ℕ} (r : Converted) → WritesXml stock s before after r → converted r ≡ accepted n → WriterGives stock (take n after)
   -- A plan is written as XML elements named by the block codes, `<A1>` with its sub-trees and `</A1>`, and `<A2/>` for a block with no places (`xml`), and the same text is read back.
   pub written : {stock s before after : List ℕ} {t : Tree} (r : Converted) → Alphabets stock → Formed code stock s t → WritesXml stock s before after r → length (xml t) ≤ length before → Gave r after (xml t)
   pub read : {stock text before after : List ℕ} {t : Tree} (r : Converted) → Alphabets stock → Formed xml stock text t → ReadsXml stock text before after r → length (code t) ≤ length before → Gave r after (code t)
@@ -47,3 +50,10 @@ pub record Request4 : Type 0 where
   -- An area of 36,860 bytes is long enough for every text, and one of 4,096 bytes for every plan.
   pub longest-text : {outs : List ℕ} {t : Tree} → OutputTree outs t → length (xml t) ≤ 36860
   pub longest-plan : {outs : List ℕ} {t : Tree} → OutputTree outs t → length (code t) ≤ 4096
+
+-- what the request says of a plan that is written as XML, into an area `text`, and read back: 12 where the one area is shorter than the text, and where the other is shorter than the plan; else the plan stands at the start of the other, which keeps its rest
+abbrev pub ReadsBack : List ℕ → List ℕ → List ℕ → List ℕ → List ℕ → Converted → Type 0
+ReadsBack stock s text before after r =
+    Judged (after ≡ before) (λ n. (n ≡ length s) × (after ≡ sets before 0 s))
+    (alphabetCheck stock (formsCheck code xml stock s text (check 12 (length s ≤ length before) done)))
+    (converted r)
