@@ -261,8 +261,8 @@ uint32_t caplune_enter(struct caplune_head *head, struct caplune_record *records
 /*
  * Finds the normal form of this number in a registry (the paper: the body of a sheet in a book).
  * Returns how many bytes its file has, and writes to `start` at which byte of the area it starts. Returns 0 and
- * writes 0 for the number 0, for one that is not held, and where caplune_enter would refuse by 9; no number is given
- * then.
+ * writes 0 wherever that part is empty: for the number 0, for one that is not held, where caplune_enter would refuse
+ * by 9, and for one that is held with no bytes, as a registry that was made elsewhere may do. No refusal is told.
  */
 size_t caplune_body(const struct caplune_head *head, const struct caplune_record *records, size_t records_length,
                     const uint8_t *area, size_t area_length, size_t number, size_t *start);

@@ -472,8 +472,8 @@ pub fn enter(head: &mut Head, records: &mut [Record], area: &mut [u8], file: &[u
     }
 }
 
-/// Finds the normal form of this number. Returns its length, with its start in the area; or 0 and 0
-/// for the number 0, for one that is not held, and where the call is refused.
+/// Finds the normal form of this number. Returns its length, with its start in the area; or 0 and 0 wherever that part
+/// is empty: for the number 0, for one that is not held or is held with no bytes, and where the call is refused.
 pub fn body(head: &Head, records: &[Record], area: &[u8], number: usize, start: &mut usize) -> usize {
     // SAFETY: the arguments are borrows, as said above.
     unsafe { c::caplune_body(head, records.as_ptr(), records.len(), area.as_ptr(), area.len(), number, start) }
