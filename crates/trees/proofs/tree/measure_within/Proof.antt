@@ -1,8 +1,8 @@
--- `measure_all` meets its contract. Assumes nothing.
+-- `measure_within` meets its contract. Assumes nothing.
 use borrow.Author.Needs.{needs}
 use Rattle.trees.proofs.Extents.{too-long, no-tree, not-all, all-measured}
-use Rattle.trees.proofs.tree.measure_all.Statement.{statement}
-use Rattle.trees.proofs.tree.measure_all.Tie as tie
+use Rattle.trees.proofs.tree.measure_within.Statement.{statement}
+use Rattle.trees.proofs.tree.measure_within.Tie as tie
 
 returns : tie.Need-returns
 returns c = too-long (c .if1 .taken)
@@ -25,7 +25,7 @@ returns-3 c = all-measured (c .before .before .before .before .measure .ensures)
 returns-4 : tie.Need-returns-4
 returns-4 c = no-tree (c .before .before .measure .ensures) (c .enum-told .given .1)
 
-pub measure-all-spec : {M : Type 1} → statement M
-measure-all-spec =
+pub measure-within-spec : {M : Type 1} → statement M
+measure-within-spec =
     tie.close
     (tie.spec returns measure-requires enum-known-e returns-2 enum-told returns-3 returns-4)
