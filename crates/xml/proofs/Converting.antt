@@ -15,7 +15,7 @@ use Rattle.trees.specs.Inner.Symbols.{tree}
 use Rattle.trees.specs.Refusal.{Decides}
 use Rattle.trees.specs.declared.refusal.Refusal.the-variants.{BadOutput, ShortTarget}
 use Rattle.trees.proofs.Deciding.{decides-same}
-use Rattle.trees.proofs.Extents.{whole-size}
+use Rattle.trees.proofs.Extents.{whole-size, tree-levels}
 use Rattle.trees.proofs.Judging.{refuse, pass, accept}
 use Rattle.trees.proofs.Letters.{over-tree, ranked-tree}
 use Rattle.trees.proofs.Trees.{coded-whole, whole-coded}
@@ -39,7 +39,8 @@ module _ {outs s : List ℕ} where
   pub output-whole : {t : Tree} → OutputTree outs t → code t ≡ s → WholeOutput outs s × (tree outs s ≡ t)
   output-whole {t} O e =
       let w = coded-whole outs s t (over-tree outs t (O .ranked)) e in
-      (record { one = w .0; small = omega (arith, whole-size outs s (w .0), ap size (w .1), O .small) }, w .1)
+      let n : length s ≤ 4096 = omega (arith, whole-size outs s (w .0), ap size (w .1), O .small) in
+      (record { one = w .0; small = n; few-levels = omega (arith, tree-levels outs s (w .0)) }, w .1)
 
   -- ---- s is the code, and the text the XML, of one tree
   module _ {text : List ℕ} where

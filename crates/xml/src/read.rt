@@ -13,13 +13,13 @@ use crate::tag::tag_size;
 use crate::tag::tag_stands;
 use crate::walk::next_tag;
 use crate::write::Converted;
-use crate::write::Measured;
-use crate::write::measure_text;
+use crate::write::measure_output;
 use formats::file::copy_at;
 use trees::alphabet::alphabets_right;
 use trees::alphabet::output_ranks;
 use trees::bytes::wide;
 use trees::refusal::Refusal;
+use trees::tree::Extent;
 
 // The byte at this place, or 0 where there is none.
 fn byte_at(s: &[u8], i: usize) -> u8
@@ -101,9 +101,9 @@ fn is_xml(ranks: &[u8], s: &[u8], text: &[u8]) -> bool
     requires { ⌜ length (now ranks) ≤ 64 ⌝ }
     ensures { λ b. ⌜ Decides (Both (now (ranks .entry)) (now (s .entry)) (now (text .entry))) b ⌝ }
 {
-    match measure_text(ranks, s) {
-        Measured::Bytes(_) => xml_stands(ranks, s, text),
-        Measured::Bad => false,
+    match measure_output(ranks, s) {
+        Extent::Tree(_, _) => xml_stands(ranks, s, text),
+        Extent::Bad => false,
     }
 }
 
