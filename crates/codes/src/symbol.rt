@@ -105,13 +105,13 @@ pub fn symbol_of(letter: u8, digit: u8) -> u8
     ensures { λ r. ⌜ r ≡ symbolWith (letter ∷ digit ∷ []) ⌝ }
 {
     let codes = table();
-    let mut k: u8 = 0;
-    while k < 64 {
-        let code = codes[wide(k)];
+    let mut symbol: u8 = 0;
+    while symbol < 64 {
+        let code = codes[wide(symbol)];
         if code[0] == letter && code[1] == digit {
-            return k;
+            return symbol;
         }
-        k += 1;
+        symbol += 1;
     }
     64
 }

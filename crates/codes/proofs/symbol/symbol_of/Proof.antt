@@ -1,4 +1,4 @@
--- `symbol_of` meets its contract. The invariant: the search from k on answers as that from 0 on. Assumes nothing.
+-- `symbol_of` meets its contract. The invariant: the search from `symbol` on answers as that from 0 on. Assumes nothing.
 use Prim.Native.Nat.{ℕ, suc, _+_, _-_, _≤_}
 use native.Mathlib.Numerals.{add-one}
 use native.Mathlib.Omega.{arith}
@@ -19,10 +19,10 @@ unfolding symbolFrom
 none-left w e f = ap₂ (symbolFrom w) e f
 
 abbrev Inv-loop : tie.InvT-loop
-Inv-loop letter digit codes k₀ k = (k ≤ 64) × (symbolFrom (letter ∷ digit ∷ []) k (64 - k) ≡ symbolWith (letter ∷ digit ∷ []))
+Inv-loop letter digit codes symbol₀ symbol = (symbol ≤ 64) × (symbolFrom (letter ∷ digit ∷ []) symbol (64 - symbol) ≡ symbolWith (letter ∷ digit ∷ []))
 
 abbrev μ-loop : tie.MeasureT-loop
-μ-loop letter digit codes k₀ k = 64 - k
+μ-loop letter digit codes symbol₀ symbol = 64 - symbol
 
 table-requires : tie.Need-table-requires Inv-loop μ-loop
 table-requires c κs = search needs
@@ -39,8 +39,8 @@ mul-code c = search needs
 array-copy-out-code : tie.Need-array-copy-out-code Inv-loop μ-loop
 array-copy-out-code c = search needs
 
--- the entry is the code of symbol k
-its-code : (c : tie.After-code Inv-loop μ-loop) → getD (c .before .before .before .before .table .result) (c .before .wide .result) [] ≡ symbolCode (c .before .before .before .loop .k)
+-- the entry is its code
+its-code : (c : tie.After-code Inv-loop μ-loop) → getD (c .before .before .before .before .table .result) (c .before .wide .result) [] ≡ symbolCode (c .before .before .before .loop .symbol)
 its-code c =
     let t = c .before .before .before .before .table in
     let w = c .before .wide in
@@ -57,11 +57,11 @@ returns c =
     let a = c .before .before .before .before .before .before .before .args in
     let l = c .before .before .before .before .before .loop in
     let w = a .letter ∷ a .digit ∷ [] in
-    let q : suc (63 - l .k) ≡ 64 - l .k = omega (arith, c .before .before .before .before .loop-test .taken) in
-    sym (search-ends w (l .k) (63 - l .k) (bytes-code (l .k) (its-code (c .before .before)) (c .before .if1 .taken) (eqb-true _ _ (c .if2 .taken)))) ∙ ap (symbolFrom w (l .k)) q ∙ l .inv .1
+    let q : suc (63 - l .symbol) ≡ 64 - l .symbol = omega (arith, c .before .before .before .before .loop-test .taken) in
+    sym (search-ends w (l .symbol) (63 - l .symbol) (bytes-code (l .symbol) (its-code (c .before .before)) (c .before .if1 .taken) (eqb-true _ _ (c .if2 .taken)))) ∙ ap (symbolFrom w (l .symbol)) q ∙ l .inv .1
 
-add-k : tie.Need-add-k Inv-loop μ-loop
-add-k c = search needs
+add-symbol : tie.Need-add-symbol Inv-loop μ-loop
+add-symbol c = search needs
 
 loop-less : tie.Need-loop-less Inv-loop μ-loop
 loop-less c = search needs
@@ -71,18 +71,18 @@ loop-again c =
     let a = c .before .before .before .before .before .before .args in
     let l = c .before .before .before .before .loop in
     let w = a .letter ∷ a .digit ∷ [] in
-    let q : suc (63 - l .k) ≡ 64 - l .k = omega (arith, c .before .before .before .loop-test .taken) in
-    let p : 64 - (l .k + 1) ≡ 63 - l .k = omega arith in
-    let other : symbolCode (l .k) ≡ w → ⊥ = λ e. let b = code-bytes (l .k) (its-code (c .before)) e in ⊎-elim (λ w. eqb-false _ _ (w .1 .left) (b .1)) (λ w. w .left (b .0)) (c .if1 .came) in
-    (omega arith, ap₂ (symbolFrom w) (add-one (l .k)) p ∙ sym (search-goes w (l .k) (63 - l .k) other) ∙ ap (symbolFrom w (l .k)) q ∙ l .inv .1)
+    let q : suc (63 - l .symbol) ≡ 64 - l .symbol = omega (arith, c .before .before .before .loop-test .taken) in
+    let p : 64 - (l .symbol + 1) ≡ 63 - l .symbol = omega arith in
+    let other : symbolCode (l .symbol) ≡ w → ⊥ = λ e. let b = code-bytes (l .symbol) (its-code (c .before)) e in ⊎-elim (λ w. eqb-false _ _ (w .1 .left) (b .1)) (λ w. w .left (b .0)) (c .if1 .came) in
+    (omega arith, ap₂ (symbolFrom w) (add-one (l .symbol)) p ∙ sym (search-goes w (l .symbol) (63 - l .symbol) other) ∙ ap (symbolFrom w (l .symbol)) q ∙ l .inv .1)
 
 returns-2 : tie.Need-returns-2 Inv-loop μ-loop
 returns-2 c =
     let a = c .before .before .before .args in
     let l = c .before .loop in
     let w = a .letter ∷ a .digit ∷ [] in
-    let k : 64 ≡ l .k = omega (arith, c .loop-test .left) in
-    let n : 0 ≡ 64 - l .k = omega arith in
+    let k : 64 ≡ l .symbol = omega (arith, c .loop-test .left) in
+    let n : 0 ≡ 64 - l .symbol = omega arith in
     none-left w k n ∙ l .inv .1
 
 pub symbol-of-spec : {M : Type 1} → statement M
@@ -99,7 +99,7 @@ symbol-of-spec =
     array-read-if1
     array-read-if2
     returns
-    add-k
+    add-symbol
     loop-less
     loop-again
     returns-2)
