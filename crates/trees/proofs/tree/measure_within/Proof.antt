@@ -1,4 +1,5 @@
 -- `measure_within` meets its contract. Assumes nothing.
+use native.Mathlib.Omega.{arith}
 use borrow.Author.Needs.{needs}
 use Rattle.trees.proofs.Extents.{too-long, no-tree, not-all, all-measured}
 use Rattle.trees.proofs.tree.measure_within.Statement.{statement}
@@ -14,7 +15,7 @@ enum-known-e : tie.Need-enum-known-e
 enum-known-e c = search needs
 
 returns-2 : tie.Need-returns-2
-returns-2 c = not-all (c .before .before .before .before .measure .ensures) (c .before .before .e .given .1) (c .if2 .taken)
+returns-2 c = not-all (c .before .before .before .before .measure .ensures) (c .before .before .e .given .1) (λ x. omega (arith, x, c .if2 .taken))
 
 enum-told : tie.Need-enum-told
 enum-told c = search needs
