@@ -12,12 +12,28 @@ use Rattle.trees.specs.Refusal.{Holds}
 use Rattle.trees.proofs.Judging.{must-accept}
 use Rattle.codes.specs.Codes.{symbolCode, codes}
 use Rattle.codes.specs.Answers.{codesArea, WritesCodes}
+use Rattle.codes.specs.Inner.Table.{symbolFrom, symbolWith}
 use Rattle.codes.specs.declared.symbol.CodesWritten.{CodesWritten}
+use Rattle.codes.proofs.Table.{search-ends, search-goes}
 use Rattle.codes.proofs.Writing.{codes-long}
 
 -- no two symbols have one code
 pub code-unique : (j k : ℕ) → symbolCode j ≡ symbolCode k → j ≡ k
 code-unique j k e = omega (arith, ap (λ x. getD x 0 0) e, ap (λ x. getD x 1 0) e, div-add-mod' j 8, div-add-mod' k 8)
+
+-- the search for the code of symbol k, from symbol j on, finds k
+search-finds : (k j n : ℕ) → j ≤ k → k < j + n → symbolFrom (symbolCode k) j n ≡ k
+search-finds k j zero h g = absurd (omega arith)
+search-finds k j (suc n) h g = ⊎-elim here (λ l. behind l (search-finds k (suc j) n l (omega arith))) (eq-or-lt-of-le h)
+  where
+    here : j ≡ k → symbolFrom (symbolCode k) j (suc n) ≡ k
+    here e = search-ends (symbolCode k) j n (ap symbolCode e) ∙ e
+
+    behind : j < k → symbolFrom (symbolCode k) (suc j) n ≡ k → symbolFrom (symbolCode k) j (suc n) ≡ k
+    behind l f = search-goes (symbolCode k) j n (λ e. omega (arith, code-unique j k e)) ∙ f
+
+pub code-found : (k : ℕ) → k < 64 → symbolWith (symbolCode k) ≡ k
+code-found k h = search-finds k 0 64 (omega arith) (omega arith)
 
 -- among the codes of the first n symbols, that of symbol k stands from byte 2 k on
 pub codes-at : (n k : ℕ) → k < n → take 2 (drop (2 * k) (codes n)) ≡ symbolCode k

@@ -1,11 +1,13 @@
 // The codes of output symbols, from a table that has them in the order of the operators' card (02, F-5).
 ghost use Prim.Native.Nat.{_<_};
+ghost use mathlib.Core.List.{[], _∷_};
 ghost use mathlib.Core.Path.{_≡_};
 ghost use lib.Dec.{T};
 ghost use Rattle.codes.specs.Codes.{symbolCode};
 ghost use Rattle.codes.specs.Answers.{WritesCodes};
-ghost use Rattle.codes.specs.Inner.Table.{coded};
+ghost use Rattle.codes.specs.Inner.Table.{coded, symbolWith};
 use formats::file::copy_at;
+use trees::bytes::wide;
 use trees::refusal::Refusal;
 
 // The code of every output symbol, by number.
@@ -96,6 +98,22 @@ pub fn symbol_code(k: usize) -> [u8; 2]
 {
     let codes = table();
     codes[k]
+}
+
+// The output symbol that has this code, or 64 where none has: the table is searched for it.
+pub fn symbol_of(letter: u8, digit: u8) -> u8
+    ensures { λ r. ⌜ r ≡ symbolWith (letter ∷ digit ∷ []) ⌝ }
+{
+    let codes = table();
+    let mut symbol: u8 = 0;
+    while symbol < 64 {
+        let code = codes[wide(symbol)];
+        if code[0] == letter && code[1] == digit {
+            return symbol;
+        }
+        symbol += 1;
+    }
+    64
 }
 
 // Writes the codes of all 64 output symbols to the start of the area, two bytes each.

@@ -1,19 +1,27 @@
 -- Laws of reading marks, at a position of a body.
 -- Assumes nothing.
-use Prim.Native.Nat.{ℕ, suc, _+_, _*_, _≤_, _<_}
+use Prim.Native.Nat.{ℕ, suc, _+_, _-_, _*_, _≤_, _<_}
 use native.Mathlib.Omega.{arith}
-use mathlib.Core.Bool.{Bool}
-use mathlib.Core.Path.{_≡_, sym, ap₂, _∙_}
+use mathlib.Core.Bool.{Bool, false}
+use mathlib.Core.Path.{_≡_, sym, ap, ap₂, _∙_}
 use mathlib.Core.List.{List, _∷_}
+use lib.Dec.{eqb}
 use lib.ListN.{length, getD, take}
-use lib.Seq.{length-take-le}
+use lib.Seq.{length-take-le, length-slice}
 use borrow.Author.Count.{below-more}
-use borrow.Author.Tests.{lt-ltb, le-ltb, le-leb, lt-leb}
-use Rattle.trees.specs.Inner.Decode.{call, symbol, unknown, Whole}
+use borrow.Author.Tests.{lt-ltb, le-ltb, le-leb, lt-leb, eqb-true, eq-eqb}
+use Rattle.theory.specs.Size.{levels}
+use Rattle.theory.proofs.Terms.{conflict}
+use Rattle.trees.specs.Inner.Decode.{call, symbol, unknown, forest, first, Whole}
+use Rattle.trees.specs.Inner.Measured.{measured}
 use Rattle.trees.specs.Inner.Symbols.{symbolOf}
 use Rattle.formats.specs.Inner.Layout.{markOf, pairs, body, bodyNumber, bodyCount, InBounds}
 use Rattle.formats.specs.Inner.Marked.{part}
 use Rattle.trees.specs.Refusal.{Decides}
+use Rattle.trees.specs.declared.tree.Extent.{Extent}
+use Rattle.trees.specs.declared.tree.Extent.the-variants as extent
+use Rattle.trees.proofs.Deciding.{decides-no}
+use Rattle.trees.proofs.Extents.{whole-end, whole-levels, whole-measured}
 use Rattle.formats.proofs.Pairs.{pairs-length, number-less, part-cons}
 
 -- ---- the letter of a mark
@@ -49,6 +57,28 @@ marks-length bytes to inside = length-take-le to (pairs bytes) (pairs-length byt
 -- mark number `at`, and those behind it
 pub next-mark : (bytes : List ℕ) (at to i x : ℕ) → at < to → 2 * to ≤ length bytes → i ≡ getD bytes (2 * at) 0 → x ≡ getD bytes (2 * at + 1) 0 → part bytes at to ≡ (i, x) ∷ part bytes (at + 1) to
 next-mark bytes at to i x less inside e f = part-cons bytes at to less inside ∙ ap₂ (λ a b. (a, b) ∷ part bytes (at + 1) to) (sym e) (sym f)
+
+-- ---- a body, measured with room for as many levels as it has marks
+module _ (outs : List ℕ) (n r : ℕ) (bytes : List ℕ) (from to : ℕ) {x : Extent} (ordered : from ≤ to) (inside : 2 * to ≤ length bytes) (E : x ≡ measured (to - from) from (forest (markOf outs n r) (part bytes from to))) where
+  its-end : from + length (part bytes from to) ≡ to
+  its-end = omega (arith, length-slice from to (pairs bytes) (pairs-length bytes to inside))
+
+  -- one tree ends at its end
+  tree-ends : Whole (markOf outs n r) (part bytes from to) → x ≡ extent.Tree to (levels (first (forest (markOf outs n r) (part bytes from to))))
+  tree-ends W =
+      let b = part bytes from to in
+      let h = whole-levels (markOf outs n r) b W in
+      E ∙ whole-measured (markOf outs n r) b W (to - from) from (omega (arith, its-end)) ∙ ap (λ k. extent.Tree k (levels (first (forest (markOf outs n r) b)))) its-end
+
+  -- so what was measured decides whether it is one
+  pub tree-measured : {e l : ℕ} → x ≡ extent.Tree e l → Decides (Whole (markOf outs n r) (part bytes from to)) (eqb e to)
+  tree-measured {e} {l} q = record {
+    sound = λ t. whole-end (markOf outs n r) (0, 0) (part bytes from to) (to - from) from l (sym E ∙ q ∙ ap (λ k. extent.Tree k l) (eqb-true e to t ∙ sym its-end));
+    complete = λ W. let y = sym q ∙ tree-ends W in eq-eqb e to (cc);
+  }
+
+  pub none-measured : x ≡ extent.Bad → Decides (Whole (markOf outs n r) (part bytes from to)) false
+  none-measured q = decides-no (λ W. let y = sym q ∙ tree-ends W in conflict (cc))
 
 -- ---- one body after the other
 abbrev pub BodyOk : List ℕ → List ℕ → ℕ → (ℕ → ℕ) → List ℕ → ℕ → ℕ → Type 0

@@ -104,34 +104,15 @@ pub fn measure_marks(
     Extent::Tree(p, deep + 1)
 }
 
-// Whether the marks number `from` up to `to` are one tree: from the last mark back, each symbol takes its children from the trees behind it.
+// Whether the marks number `from` up to `to` are one tree. It has at most as many levels as marks.
 fn one_body(outs: &[u8], n: usize, r: usize, marks: &[u8], from: usize, to: usize) -> bool
     requires { ⌜ (from ≤ to) × (2 * to ≤ length (now marks)) ⌝ }
     ensures { λ b. ⌜ Decides (Whole (markOf (now (outs .entry)) n r) (part (now (marks .entry)) from to)) b ⌝ }
 {
-    let mut behind: usize = 0;
-    let mut j = to;
-    while from < j {
-        j -= 1;
-        let i = wide(marks[2 * j]);
-        let x = wide(marks[2 * j + 1]);
-        if i > 0 {
-            if i > r || x >= n {
-                return false;
-            }
-        } else {
-            if x >= outs.len() {
-                return false;
-            }
-            let m = wide(outs[x]);
-            if m > behind {
-                return false;
-            }
-            behind -= m;
-        }
-        behind += 1;
+    match measure_marks(outs, n, r, marks, from, to, to - from) {
+        Extent::Tree(e, _) => e == to,
+        Extent::Bad => false,
     }
-    behind == 1
 }
 
 // Whether every body is one tree of known marks.

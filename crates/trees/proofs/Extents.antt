@@ -17,7 +17,7 @@ use Rattle.theory.proofs.Terms.{conflict}
 use Rattle.theory.specs.Inner.Forests.{letters, lettersAll}
 use Rattle.trees.specs.Inner.Decode.{Letter, call, symbol, unknown, firsts, nodeIf, put, forest, first, Whole}
 use Rattle.trees.specs.Inner.Symbols.{symbolOf, trees, tree, IsTree}
-use Rattle.trees.specs.Inner.Measured.{treeIf, measured, WholeTree, MeasuredAll}
+use Rattle.trees.specs.Inner.Measured.{treeIf, measured, Within, MeasuredWithin}
 use Rattle.trees.specs.declared.tree.Extent.{Extent}
 use Rattle.trees.specs.declared.tree.Extent.the-variants.{Tree, Bad}
 use Rattle.trees.proofs.Codes.{single}
@@ -215,6 +215,22 @@ module _ {A X : Type 0} (f : X → Letter A) (d : X) (s : List X) where
       let h : forest f s ≡ more (S .one) none = S .these ∙ ap (more (S .one)) b in
       record { one = ap count h; all = ap lettersAll h ∙ omega arith }
 
+module _ {A X : Type 0} (f : X → Letter A) (s : List X) (W : Whole f s) where
+  its-letters : letters (first (forest f s)) ≡ length s
+  unfolding lettersAll
+  its-letters = omega (arith, ap lettersAll (single (forest f s) (W .one)), W .all)
+
+  -- one tree that is all of s has at most as many levels as s letters
+  pub whole-levels : levels (first (forest f s)) ≤ length s
+  whole-levels = omega (arith, levels-letters (first (forest f s)), its-letters)
+
+  -- and what measuring it answers, where there is room
+  pub whole-measured : (room at : ℕ) → levels (first (forest f s)) ≤ room → measured room at (forest f s) ≡ Tree (at + length s) (levels (first (forest f s)))
+  unfolding measured
+  whole-measured room at h =
+      let t = first (forest f s) in
+      ap (measured room at) (single (forest f s) (W .one)) ∙ ap₂ treeIf (le-leb (levels t) room h) (ap (λ k. Tree (at + k) (levels t)) its-letters)
+
 -- a child, of n that are still to be read: how the answer goes on behind it
 record Child {A X : Type 0} (f : X → Letter A) (s : List X) (room n p deep e l : ℕ) : Type 0 where
   next : resume room n p deep (forest f (drop p s)) ≡ resume room (n - 1) e (max deep l) (forest f (drop e s))
@@ -265,22 +281,16 @@ module _ {A X : Type 0} {f : X → Letter A} {s : List X} {at room left p deep :
   pub node-done : left ≡ 0 → Tree p (deep + 1) ≡ measured room at (forest f (drop at s))
   node-done z = sym (M .answer ∙ no-more (room - 1) p deep (forest f (drop p s)) left z)
 
--- ---- one tree that is all of s
+-- ---- one tree of symbols that is all of s
 pub whole-size : (ins s : List ℕ) → IsTree ins s → size (tree ins s) ≡ length s
-unfolding tree trees lettersAll
-whole-size ins s W =
-    let t = tree ins s in
-    omega (arith, letters-size t, ap lettersAll (single (trees ins s) (W .one)), W .all)
+unfolding tree trees
+whole-size ins s W = omega (arith, letters-size (tree ins s), its-letters (symbolOf ins) s W)
 
--- what measuring it answers
-whole-measured : (ins s : List ℕ) (room : ℕ) → IsTree ins s → levels (tree ins s) ≤ room → measured room 0 (trees ins s) ≡ Tree (length s) (levels (tree ins s))
-unfolding tree trees measured
-whole-measured ins s room W h =
-    let t = tree ins s in
-    let q : 0 + letters t ≡ length s = omega (arith, letters-size t, whole-size ins s W) in
-    ap (measured room 0) (single (trees ins s) (W .one)) ∙ ap₂ treeIf (le-leb (levels t) room h) (ap (λ k. Tree k (levels t)) q)
+pub tree-levels : (ins s : List ℕ) → IsTree ins s → levels (tree ins s) ≤ length s
+unfolding tree trees
+tree-levels ins s W = whole-levels (symbolOf ins) s W
 
--- and back
+-- where measuring it ends at its end
 measured-whole : (ins s : List ℕ) (room l : ℕ) → measured room 0 (trees ins s) ≡ Tree (length s) l → IsTree ins s × (levels (tree ins s) ≤ room) × (l ≡ levels (tree ins s))
 unfolding tree trees first
 measured-whole ins s room l m =
@@ -290,26 +300,28 @@ measured-whole ins s room l m =
     (whole-end (symbolOf ins) 0 s room 0 l (m ∙ ap (λ k. Tree k l) q), omega (arith, ap levels e, S .few-levels), omega (arith, ap levels e, S .deep))
 
 -- ---- what measuring all of s answers
-not-whole : {ins s : List ℕ} → (WholeTree ins s → ⊥) → MeasuredAll ins s Bad
-not-whole f = record { whole = λ e l q. conflict (cc); bad = λ q W. f W }
+module _ {nodes most : ℕ} {ranks s : List ℕ} where
+  not-whole : (Within nodes most ranks s → ⊥) → MeasuredWithin nodes most ranks s Bad
+  not-whole f = record { whole = λ e l q. conflict (cc); bad = λ q W. f W }
 
-pub too-long : {ins s : List ℕ} → 4096 < length s → MeasuredAll ins s Bad
-too-long h = not-whole (λ W. omega (arith, W .small))
+  pub too-long : nodes < length s → MeasuredWithin nodes most ranks s Bad
+  too-long h = not-whole (λ W. omega (arith, W .small))
 
-module _ {ins s : List ℕ} {r : Extent} (E : r ≡ measured 512 0 (trees ins s)) where
-  whole-answer : WholeTree ins s → r ≡ Tree (length s) (levels (tree ins s))
-  whole-answer W = E ∙ whole-measured ins s 512 (W .one) (W .few-levels)
+  module _ {r : Extent} (E : r ≡ measured most 0 (trees ranks s)) where
+    whole-answer : Within nodes most ranks s → r ≡ Tree (0 + length s) (levels (tree ranks s))
+    unfolding tree trees
+    whole-answer W = E ∙ whole-measured (symbolOf ranks) s (W .one) most 0 (W .few-levels)
 
-  pub no-tree : r ≡ Bad → MeasuredAll ins s Bad
-  no-tree q = not-whole (λ W. let x = sym q ∙ whole-answer W in conflict (cc))
+    pub no-tree : r ≡ Bad → MeasuredWithin nodes most ranks s Bad
+    no-tree q = not-whole (λ W. let x = sym q ∙ whole-answer W in conflict (cc))
 
-  pub not-all : {e l : ℕ} → r ≡ Tree e l → (e ≡ length s → ⊥) → MeasuredAll ins s Bad
-  not-all q f = not-whole (λ W. let x = sym q ∙ whole-answer W in f (cc))
+    pub not-all : {e l : ℕ} → r ≡ Tree e l → (e ≡ length s → ⊥) → MeasuredWithin nodes most ranks s Bad
+    not-all {e} q f = not-whole (λ W. let x = sym q ∙ whole-answer W in let y : e ≡ 0 + length s = cc in f (omega arith))
 
-  pub all-measured : {e l : ℕ} → r ≡ Tree e l → e ≡ length s → length s ≤ 4096 → MeasuredAll ins s (Tree e l)
-  all-measured {e} {l} q same short =
-      let w = measured-whole ins s 512 l (sym E ∙ q ∙ ap (λ k. Tree k l) same) in
-      record {
-        whole = λ e′ l′ x. let y : e ≡ e′ = cc in let z : l ≡ l′ = cc in (record { one = w .0; small = short; few-levels = w .1 }, omega (arith, whole-size ins s (w .0)), omega (arith, w .2));
-        bad = λ x. conflict (cc);
-      }
+    pub all-measured : {e l : ℕ} → r ≡ Tree e l → e ≡ length s → length s ≤ nodes → MeasuredWithin nodes most ranks s (Tree e l)
+    all-measured {e} {l} q same short =
+        let w = measured-whole ranks s most l (sym E ∙ q ∙ ap (λ k. Tree k l) same) in
+        record {
+          whole = λ e′ l′ x. let y : e ≡ e′ = cc in let z : l ≡ l′ = cc in (record { one = w .0; small = short; few-levels = w .1 }, omega (arith, whole-size ranks s (w .0)), omega (arith, w .2));
+          bad = λ x. conflict (cc);
+        }

@@ -5,7 +5,7 @@ use native.Mathlib.Numerals.{add-one}
 use native.Mathlib.Omega.{arith}
 use mathlib.Core.Bool.{true, false}
 use mathlib.Core.List.{List, [], _∷_, _++_, append-assoc, append-nil}
-use mathlib.Core.Path.{_≡_, refl, sym, ap, _∙_}
+use mathlib.Core.Path.{_≡_, refl, sym, ap, ap₂, _∙_}
 use lib.ListN.{length, getD, take, drop, set, length-set, length-drop, drop-of-length-le}
 use lib.Seq.{drop-drop, take-all, take-at, length-take-le, take-suc-set}
 use borrow.Author.Tests.{ne-eqb}
@@ -16,8 +16,10 @@ use Rattle.trees.proofs.Extents.{whole-size}
 use Rattle.trees.proofs.Letters.{over-tree}
 use Rattle.trees.proofs.Trees.{coded-whole}
 use Rattle.codes.specs.Codes.{symbolCode}
+use Rattle.codes.specs.Inner.Table.{symbolWith}
+use Rattle.codes.proofs.Laws.{code-found}
 use Rattle.xml.specs.Xml.{opening, closing, empty, xml, xmls, OutputTree}
-use Rattle.xml.specs.Inner.Kinds.{kindOf, opens, consIf, kindsIn, Collects}
+use Rattle.xml.specs.Inner.Kinds.{opens, consIf, kindsIn, Collects}
 
 -- ---- the symbols of one tag
 -- a byte that is no < begins no tag
@@ -29,14 +31,10 @@ skip x w h = rw (ne-eqb x 60 h)
 skip-code : (k : ℕ) (w : List ℕ) → k < 64 → kindsIn (symbolCode k ++ w) ≡ kindsIn w
 skip-code k w h = skip (65 + k / 8) ((49 + k % 8) ∷ w) (λ e. omega arith) ∙ skip (49 + k % 8) w (λ e. omega arith)
 
--- a code is that of its symbol
-kind-back : (k : ℕ) → k < 64 → kindOf (65 + k / 8) (49 + k % 8) ≡ k
-kind-back k h = omega arith
-
 -- a tag that does not close has its symbol
 kinds-open : (k : ℕ) (w : List ℕ) → k < 64 → kindsIn (60 ∷ (symbolCode k ++ w)) ≡ k ∷ kindsIn w
 unfolding kindsIn
-kinds-open k w h = rw (ne-eqb (65 + k / 8) 47 (λ e. omega arith)) (ap (λ l. kindOf (65 + k / 8) (49 + k % 8) ∷ l) (skip-code k w h) ∙ ap (λ j. j ∷ kindsIn w) (kind-back k h))
+kinds-open k w h = rw (ne-eqb (65 + k / 8) 47 (λ e. omega arith)) (ap₂ _∷_ (code-found k h) (skip-code k w h))
 
 kinds-empty : (k : ℕ) (w : List ℕ) → k < 64 → kindsIn (empty k ++ w) ≡ k ∷ kindsIn w
 unfolding kindsIn
@@ -93,7 +91,7 @@ module _ (outs : List ℕ) where
 
 -- ---- the loop
 -- one byte of a text that is not at its end
-kinds-step : (l : List ℕ) → 0 < length l → kindsIn l ≡ consIf (opens l) (kindOf (getD l 1 0) (getD l 2 0)) (kindsIn (drop 1 l))
+kinds-step : (l : List ℕ) → 0 < length l → kindsIn l ≡ consIf (opens l) (symbolWith (getD l 1 0 ∷ getD l 2 0 ∷ [])) (kindsIn (drop 1 l))
 unfolding kindsIn
 kinds-step [] h = absurd (omega arith)
 kinds-step (x ∷ l) h = refl
@@ -111,7 +109,7 @@ collect-none text table h = record { few = omega arith; inside = omega arith; lo
 
 module _ {text table : List ℕ} {n i : ℕ} (C : Collected text table n i) where
   module _ (inside : i < length text) {tail : List ℕ} (lent : tail ≡ drop i text) where
-    step-here : kindsIn (drop i text) ≡ consIf (opens tail) (kindOf (getD tail 1 0) (getD tail 2 0)) (kindsIn (drop (i + 1) text))
+    step-here : kindsIn (drop i text) ≡ consIf (opens tail) (symbolWith (getD tail 1 0 ∷ getD tail 2 0 ∷ [])) (kindsIn (drop (i + 1) text))
     step-here = rw (lent, ← drop-drop 1 i text) (kinds-step (drop i text) (omega (arith, length-drop i text)))
 
     -- no tag begins here that does not close
@@ -119,7 +117,7 @@ module _ {text table : List ℕ} {n i : ℕ} (C : Collected text table n i) wher
     collect-skip f = record { few = C .few; inside = omega arith; long = C .long; kept = ap (_++_ (take n table)) (sym (rw f at step-here)) ∙ C .kept }
 
     -- one does
-    pub collect-one : {k : ℕ} → n < 4096 → opens tail ≡ true → k ≡ kindOf (getD tail 1 0) (getD tail 2 0) → Collected text (set table n k) (n + 1) (i + 1)
+    pub collect-one : {k : ℕ} → n < 4096 → opens tail ≡ true → k ≡ symbolWith (getD tail 1 0 ∷ getD tail 2 0 ∷ []) → Collected text (set table n k) (n + 1) (i + 1)
     collect-one {k} h f e =
         let o : kindsIn (drop i text) ≡ k ∷ kindsIn (drop (i + 1) text) = rw (f, ← e) at step-here in
         let g : n < length table = omega (arith, C .long) in

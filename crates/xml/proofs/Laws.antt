@@ -13,7 +13,7 @@ use Rattle.trees.specs.Code.{code}
 use Rattle.trees.specs.Refusal.{accepted, done, Holds}
 use Rattle.trees.proofs.Judging.{pass, accept, accepted-holds, must-accept, one-answer}
 use Rattle.xml.specs.Xml.{xml, xmls, closing, OutputTree}
-use Rattle.xml.specs.Answers.{Form, Formed, formsCheck, converted, Converts}
+use Rattle.xml.specs.Answers.{Form, InForm, formsCheck, converted, Converts}
 use Rattle.xml.specs.Inner.Kinds.{kindsIn}
 use Rattle.xml.specs.declared.write.Converted.{Converted}
 use Rattle.xml.specs.declared.write.Converted.the-variants.{Length}
@@ -39,12 +39,12 @@ xml-distinct outs l t u O P e = code-distinct outs t u O P (sym (code-from outs 
 -- ---- any conversion between two forms
 module _ (from to : Form) (stock : List ℕ) (A : Alphabets stock) where
   -- an output tree is converted where the area is long enough
-  pub conversion : (s area : List ℕ) (t : Tree) → Formed from stock s t → length (to t) ≤ length area → Converts from to stock s area (sets area 0 (to t)) (Length (length (to t)))
+  pub conversion : (s area : List ℕ) (t : Tree) → InForm from stock s t → length (to t) ≤ length area → Converts from to stock s area (sets area 0 (to t)) (Length (length (to t)))
   conversion s area t F h = pass A (pass (t, F) (pass (t, (F, h)) (accept (t, (F, refl, refl)))))
 
   module _ (D : Distinct from (outputs stock)) (s area area′ : List ℕ) (r : Converted) (C : Converts from to stock s area area′ r) where
     -- and every answer that keeps the promise is that
-    pub converted-so : (t : Tree) → Formed from stock s t → length (to t) ≤ length area → (converted r ≡ accepted (length (to t))) × (area′ ≡ sets area 0 (to t))
+    pub converted-so : (t : Tree) → InForm from stock s t → length (to t) ≤ length area → (converted r ≡ accepted (length (to t))) × (area′ ≡ sets area 0 (to t))
     unfolding Holds
     converted-so t F h =
         let w = must-accept (A, ((t, F), ((t, (F, h)), tt))) C in
@@ -67,7 +67,7 @@ pub stands-there : (area w : List ℕ) → length w ≤ length area → take (le
 stands-there area w h = ap (take (length w)) (sets-eq w area 0 (omega arith)) ∙ take-at w (drop (0 + length w) area) (length w) refl
 
 -- what was accepted is an output tree, and in the other form it stands in the area that was left
-pub was-formed : (from to : Form) (stock : List ℕ) → Distinct from (outputs stock) → (s area area′ : List ℕ) (r : Converted) (n : ℕ) → Converts from to stock s area area′ r → converted r ≡ accepted n → (t : Tree) × (Formed from stock s t × (n ≡ length (to t)) × (take n area′ ≡ to t))
+pub was-formed : (from to : Form) (stock : List ℕ) → Distinct from (outputs stock) → (s area area′ : List ℕ) (r : Converted) (n : ℕ) → Converts from to stock s area area′ r → converted r ≡ accepted n → (t : Tree) × (InForm from stock s t × (n ≡ length (to t)) × (take n area′ ≡ to t))
 unfolding Holds
 was-formed from to stock D s area area′ r n C e =
     let w = accepted-holds (rw e at C) in

@@ -1,27 +1,30 @@
 -- A walk over the code of an output tree: what each step does to the text still to come.
 -- Assumes nothing.
 use Prim.Native.Nat.{ℕ, zero, suc, _+_, _-_, _≤_, _<_}
+use native.Mathlib.Decide.{decLt}
 use native.Mathlib.Numerals.{add-one}
 use native.Mathlib.Omega.{arith}
+use mathlib.Core.Bool.{Bool, true, false}
 use mathlib.Core.List.{List, [], _∷_, _++_, append-assoc, append-nil}
 use mathlib.Core.Logic.{_⊎_, inl, inr}
 use mathlib.Core.Path.{_≡_, refl, sym, ap, ap₂, _∙_}
+use lib.Dec.{leb}
 use lib.ListN.{length, getD, drop, set, replicate, length-set, length-replicate, drop-of-length-le}
 use lib.Seq.{getD-set-same, getD-set-other}
-use borrow.Author.Tests.{le-leb}
+use borrow.Author.Tests.{le-leb, leb-true}
 use Rattle.theory.specs.Term.{Terms, node, none, more, count}
 use Rattle.theory.specs.Inner.Forests.{lettersAll}
-use Rattle.trees.specs.Inner.Decode.{firsts, rests, put, forest, first}
+use Rattle.trees.specs.Inner.Decode.{symbol, firsts, rests, nodeIf, put, forest, first}
 use Rattle.trees.specs.Inner.Symbols.{symbolOf, trees, tree, IsTree}
 use Rattle.trees.proofs.Codes.{single}
 use Rattle.trees.proofs.Extents.{letter-here}
 use Rattle.trees.proofs.Forest.{all-drop}
+use Rattle.trees.proofs.Letters.{symbol-there as symbol-letter, symbol-missing}
 use Rattle.xml.specs.Xml.{xml, xmls, opening, closing, empty}
 use Rattle.xml.specs.Inner.Measured.{WholeOutput}
 use Rattle.xml.specs.Inner.Walk.{frames, rest, restBehind, Walk, toCome, tagsLeft, Steps}
 use Rattle.xml.specs.declared.tag.Tag.the-variants as tags
 use Rattle.xml.specs.declared.walk.Step.{Step}
-use Rattle.xml.proofs.Measuring.{symbol-known, more-trees, node-one}
 
 -- ---- the open nodes
 -- they are those that the tables hold below d
@@ -51,6 +54,24 @@ set-low (x ∷ o) (suc d) k zero f h = f zero
 set-low (x ∷ o) (suc d) k (suc i) f h = set-low o d k i (λ j. f (suc j)) h
 
 -- ---- the trees from a symbol on
+-- a symbol that is not broken is known
+symbol-known : (outs : List ℕ) (k : ℕ) (s : List ℕ) → 0 < lettersAll (trees outs (k ∷ s)) → k < length outs
+unfolding trees forest put lettersAll
+symbol-known outs k s h = go (decLt k (length outs))
+  where
+    go : Dec (k < length outs) → k < length outs
+    go (yes l) = l
+    go (no l) = absurd (omega (arith, rw (symbol-missing {A = ⊥} outs k (omega arith)) at h))
+
+-- and there are as many trees behind it as its rank says
+rank-behind : (k r : ℕ) (ts : Terms ⊥) → 0 < lettersAll (put (symbol k r) ts) → r ≤ count ts
+unfolding put lettersAll
+rank-behind k r ts h = go (leb r (count ts)) refl h
+  where
+    go : (b : Bool) → leb r (count ts) ≡ b → 0 < lettersAll (nodeIf b k r ts) → r ≤ count ts
+    go true e h = leb-true r (count ts) e
+    go false e h = absurd (omega arith)
+
 -- the first of them begins with the symbol and has as many of those behind as its rank says
 pub record Found (outs s : List ℕ) (at k : ℕ) : Type 0 where
   pub known : k < length outs
@@ -58,16 +79,16 @@ pub record Found (outs s : List ℕ) (at k : ℕ) : Type 0 where
   pub here : trees outs (drop at s) ≡ more (node k (firsts (getD outs k 0) (trees outs (drop (at + 1) s)))) (rests (getD outs k 0) (trees outs (drop (at + 1) s)))
 
 pub found : (outs s : List ℕ) → IsTree outs s → (at : ℕ) → at < length s → Found outs s at (getD s at 0)
-unfolding trees put
+unfolding trees forest put
 found outs s one at inside =
     let k = getD s at 0 in
     let n = getD outs k 0 in
     let G = trees outs (drop (at + 1) s) in
     let here = letter-here s at 0 inside refl in
     let all = rw here at (all-drop (symbolOf outs) s at (one .all)) in
-    let known = symbol-known (record { many = refl; all = all }) in
-    let put-here = more-trees outs k (drop (at + 1) s) known in
-    let enough = node-one k n G (omega (arith, all, ap lettersAll put-here)) .0 in
+    let known = symbol-known outs k (drop (at + 1) s) (omega (arith, all)) in
+    let put-here : trees outs (k ∷ drop (at + 1) s) ≡ put (symbol k n) G = ap (λ l. put l G) (symbol-letter outs k known) in
+    let enough = rank-behind k n G (omega (arith, all, ap lettersAll put-here)) in
     record { known = known; enough = enough; here = ap (trees outs) here ∙ put-here ∙ rw (le-leb n (count G) enough) }
 
 -- ---- the text still to come

@@ -17,14 +17,14 @@ abbrev pub Form : Type 0
 Form = Tree → List ℕ
 
 -- s is the output tree t under the stock, in this form
-pub record Formed (form : Form) (stock s : List ℕ) (t : Tree) : Type 0 where
+pub record InForm (form : Form) (stock s : List ℕ) (t : Tree) : Type 0 where
   pub output : OutputTree (outputs stock) t
   pub is : form t ≡ s
 
 -- refusals 11 and 12: s is no output tree in the one form; the area is shorter than that tree in the other
 abbrev pub formsCheck : Form → Form → List ℕ → List ℕ → List ℕ → Checks → Checks
 formsCheck from to stock s area others =
-    check 11 ((t : Tree) × Formed from stock s t) (check 12 ((t : Tree) × (Formed from stock s t × (length (to t) ≤ length area))) others)
+    check 11 ((t : Tree) × InForm from stock s t) (check 12 ((t : Tree) × (InForm from stock s t × (length (to t) ≤ length area))) others)
 
 -- the length of the result, or the number of the refusal
 abbrev pub converted : Converted → Outcome ℕ
@@ -34,7 +34,7 @@ converted (conversion.Refused r) = refused (refusalNumber r)
 -- the area begins with the output tree in the other form, and keeps what stands behind it
 abbrev pub Converts : Form → Form → List ℕ → List ℕ → List ℕ → List ℕ → Converted → Type 0
 Converts from to stock s area area′ r =
-    Judged (area′ ≡ area) (λ n. (t : Tree) × (Formed from stock s t × (n ≡ length (to t)) × (area′ ≡ sets area 0 (to t))))
+    Judged (area′ ≡ area) (λ n. (t : Tree) × (InForm from stock s t × (n ≡ length (to t)) × (area′ ≡ sets area 0 (to t))))
     (alphabetCheck stock (formsCheck from to stock s area done))
     (converted r)
 

@@ -1,25 +1,25 @@
 // The reader: the output tree (01: plan) whose XML a text is. It collects the output symbols of the tags, but for those that close, and compares
 // the text, tag by tag, with the text of the tree that they are.
-ghost use Prim.Native.Nat.{_-_, _≤_};
+ghost use Prim.Native.Nat.{_≤_};
 ghost use mathlib.Core.Path.{_≡_};
 ghost use lib.ListN.{length, getD};
 ghost use Rattle.trees.specs.Inner.Symbols.{tree};
 ghost use Rattle.trees.specs.Refusal.{Decides};
 ghost use Rattle.xml.specs.Xml.{xml};
 ghost use Rattle.xml.specs.Answers.{ReadsXml};
-ghost use Rattle.xml.specs.Inner.Kinds.{kindOf, opens, Collects, Both};
+ghost use Rattle.xml.specs.Inner.Kinds.{opens, Collects, Both};
 ghost use Rattle.xml.specs.Inner.Measured.{WholeOutput};
 use crate::tag::tag_size;
 use crate::tag::tag_stands;
 use crate::walk::next_tag;
 use crate::write::Converted;
-use crate::write::Measured;
-use crate::write::measure_text;
+use crate::write::measure_output;
+use codes::symbol::symbol_of;
 use formats::file::copy_at;
 use trees::alphabet::alphabets_right;
 use trees::alphabet::output_ranks;
-use trees::bytes::wide;
 use trees::refusal::Refusal;
+use trees::tree::Extent;
 
 // The byte at this place, or 0 where there is none.
 fn byte_at(s: &[u8], i: usize) -> u8
@@ -31,16 +31,6 @@ fn byte_at(s: &[u8], i: usize) -> u8
     0
 }
 
-// How far a byte is above another; 0, if it is below.
-fn above(x: u8, low: u8) -> usize
-    ensures { λ r. ⌜ r ≡ x - low ⌝ }
-{
-    if x < low {
-        return 0;
-    }
-    wide(x) - wide(low)
-}
-
 // Whether a tag begins here that does not close a node.
 fn tag_opens(text: &[u8]) -> bool
     ensures { λ r. ⌜ r ≡ opens (now (text .entry)) ⌝ }
@@ -48,14 +38,8 @@ fn tag_opens(text: &[u8]) -> bool
     byte_at(text, 0) == b'<' && byte_at(text, 1) != b'/'
 }
 
-// The only output symbol that can have this code. Whether it has is seen when the text is compared.
-fn kind_of(letter: u8, digit: u8) -> u8
-    ensures { λ r. ⌜ r ≡ kindOf letter digit ⌝ }
-{
-    ((above(letter, b'A') * 8 + above(digit, b'1')) % 256) as u8
-}
-
-// Writes the output symbols of the text's tags, but for those that close, to the table, and says how many there are, or 4,096 if there are more.
+// Writes the output symbols of the text's tags, but for those that close, to the table, and says how many there are, or 4,096 if there are more. Where a tag has no symbol's
+// code it writes 64, which is no symbol of any alphabet.
 fn collect(text: &[u8], table: &mut [u8; 4096]) -> usize
     requires { ⌜ length (now table) ≡ 4096 ⌝ }
     ensures { λ r. ⌜ Collects (now (text .entry)) (now (table .exit)) r ⌝ }
@@ -65,7 +49,7 @@ fn collect(text: &[u8], table: &mut [u8; 4096]) -> usize
     while i < text.len() && n < 4096 {
         let tail = &text[i..];
         if tag_opens(tail) {
-            table[n] = kind_of(byte_at(tail, 1), byte_at(tail, 2));
+            table[n] = symbol_of(byte_at(tail, 1), byte_at(tail, 2));
             n += 1;
         }
         i += 1;
@@ -101,9 +85,9 @@ fn is_xml(ranks: &[u8], s: &[u8], text: &[u8]) -> bool
     requires { ⌜ length (now ranks) ≤ 64 ⌝ }
     ensures { λ b. ⌜ Decides (Both (now (ranks .entry)) (now (s .entry)) (now (text .entry))) b ⌝ }
 {
-    match measure_text(ranks, s) {
-        Measured::Bytes(_) => xml_stands(ranks, s, text),
-        Measured::Bad => false,
+    match measure_output(ranks, s) {
+        Extent::Tree(_, _) => xml_stands(ranks, s, text),
+        Extent::Bad => false,
     }
 }
 

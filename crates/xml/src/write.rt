@@ -6,13 +6,15 @@ ghost use Rattle.formats.specs.Inner.Judging.{Put};
 ghost use Rattle.trees.specs.Inner.Symbols.{tree};
 ghost use Rattle.xml.specs.Xml.{xml};
 ghost use Rattle.xml.specs.Answers.{WritesXml};
-ghost use Rattle.xml.specs.Inner.Measured.{WholeOutput, nodeSize, Measures};
+ghost use Rattle.xml.specs.Inner.Measured.{WholeOutput, MeasuredOutput, nodeSize};
 use crate::tag::write_tag;
 use crate::walk::next_tag;
 use trees::alphabet::alphabets_right;
 use trees::alphabet::output_ranks;
 use trees::bytes::wide;
 use trees::refusal::Refusal;
+use trees::tree::Extent;
+use trees::tree::measure_within;
 
 // How long the result of a conversion is, or the refusal.
 pub enum Converted {
@@ -20,10 +22,11 @@ pub enum Converted {
     Refused(Refusal),
 }
 
-// How many bytes the text of a tree has, or that there is no tree.
-pub enum Measured {
-    Bytes(usize),
-    Bad,
+// Measures the bytes as one output tree, which has at most as many levels as nodes.
+pub(crate) fn measure_output(ranks: &[u8], s: &[u8]) -> Extent
+    ensures { λ r. ⌜ MeasuredOutput (now (ranks .entry)) (now (s .entry)) r ⌝ }
+{
+    measure_within(ranks, s, 4096, 4096)
 }
 
 // How many bytes the tags of a node with so many children have.
@@ -33,33 +36,18 @@ fn node_size(rank: usize) -> usize
     if rank == 0 { 5 } else { 9 }
 }
 
-// Measures the text of the tree whose code is s. `owed` trees are still to come: a symbol begins one of them, and its rank says how many more come behind it.
-pub(crate) fn measure_text(ranks: &[u8], s: &[u8]) -> Measured
-    ensures { λ r. ⌜ Measures (now (ranks .entry)) (now (s .entry)) r ⌝ }
+// How many bytes the text of the tree has whose code is s: those of the tags of each node.
+fn text_size(ranks: &[u8], s: &[u8]) -> usize
+    requires { ⌜ WholeOutput (now ranks) (now s) ⌝ }
+    ensures { λ r. ⌜ r ≡ length (xml (tree (now (ranks .entry)) (now (s .entry)))) ⌝ }
 {
-    if s.len() > 4096 {
-        return Measured::Bad;
-    }
-    let mut owed = 1;
     let mut size = 0;
     let mut i = 0;
     while i < s.len() {
-        if owed == 0 {
-            return Measured::Bad;
-        }
-        let k = wide(s[i]);
-        if k >= ranks.len() {
-            return Measured::Bad;
-        }
-        let rank = wide(ranks[k]);
-        size += node_size(rank);
-        owed = owed - 1 + rank;
+        size += node_size(wide(ranks[wide(s[i])]));
         i += 1;
     }
-    if owed > 0 {
-        return Measured::Bad;
-    }
-    Measured::Bytes(size)
+    size
 }
 
 // Writes the text of the tree whose code is s to the start of `text`, and says how long it is.
@@ -90,14 +78,15 @@ pub fn write_xml(stock: &[u8], plan: &[u8], text: &mut [u8]) -> Converted
         return Converted::Refused(Refusal::BadAlphabets);
     }
     let ranks = output_ranks(stock);
-    match measure_text(ranks, plan) {
-        Measured::Bytes(n) => {
+    match measure_output(ranks, plan) {
+        Extent::Tree(_, _) => {
+            let n = text_size(ranks, plan);
             if text.len() < n {
                 return Converted::Refused(Refusal::ShortTarget);
             }
             let size = put_xml(ranks, plan, text);
             Converted::Length(size)
         }
-        Measured::Bad => Converted::Refused(Refusal::BadOutput),
+        Extent::Bad => Converted::Refused(Refusal::BadOutput),
     }
 }

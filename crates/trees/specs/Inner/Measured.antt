@@ -29,13 +29,20 @@ endAt ins s k = k + size (tree ins (drop k s))
 abbrev pub Ends : List ℕ → List ℕ → List ℕ → ℕ → ℕ → Type 0
 Ends ins s ends a e = (k : ℕ) → a ≤ k → k < e → getD ends k 0 ≡ endAt ins s k
 
--- s is one input tree within the limits
-pub record WholeTree (ins s : List ℕ) : Type 0 where
-  pub one : IsTree ins s
-  pub small : length s ≤ 4096
-  pub few-levels : levels (tree ins s) ≤ 512
+-- s is one tree of at most so many nodes and levels
+pub record Within (nodes most : ℕ) (ranks s : List ℕ) : Type 0 where
+  pub one : IsTree ranks s
+  pub small : length s ≤ nodes
+  pub few-levels : levels (tree ranks s) ≤ most
 
 -- what measuring all of s answers
-pub record MeasuredAll (ins s : List ℕ) (r : Extent) : Type 0 where
-  pub whole : (e l : ℕ) → r ≡ Tree e l → WholeTree ins s × (e ≡ size (tree ins s)) × (l ≡ levels (tree ins s))
-  pub bad : r ≡ Bad → WholeTree ins s → ⊥
+pub record MeasuredWithin (nodes most : ℕ) (ranks s : List ℕ) (r : Extent) : Type 0 where
+  pub whole : (e l : ℕ) → r ≡ Tree e l → Within nodes most ranks s × (e ≡ size (tree ranks s)) × (l ≡ levels (tree ranks s))
+  pub bad : r ≡ Bad → Within nodes most ranks s → ⊥
+
+-- s is one input tree within the limits
+abbrev pub WholeTree : List ℕ → List ℕ → Type 0
+WholeTree = Within 4096 512
+
+abbrev pub MeasuredAll : List ℕ → List ℕ → Extent → Type 0
+MeasuredAll = MeasuredWithin 4096 512

@@ -82,7 +82,7 @@ module _ (t : ℕ) where
       let w = b .before .before .wide in
       let v = b .wide2 in
       let here = next-mark (now (a .marks)) (a .at) (a .to) (w .result) (v .result) (b .before .before .before .before .if1 .left) (b .before .before .before .before .before .before .before .pre .1) (w .ensures) (v .ensures) in
-      sym (no-letter (markOf (now (a .outs)) (a .n) (a .r)) (take (a .to) (pairs (now (a .marks)))) (a .at) (a .room) here (letter-no-state (now (a .outs)) (a .n) (a .r) (w .result) (v .result) (c .before .before .if2 .taken) (c .before .if3 .left) (c .if4 .taken)))
+      sym (no-letter (markOf (now (a .outs)) (a .n) (a .r)) (take (a .to) (pairs (now (a .marks)))) (a .at) (a .room) here (letter-no-state (now (a .outs)) (a .n) (a .r) (w .result) (v .result) (c .before .before .if2 .taken) (c .before .if3 .left) (omega (arith, c .if4 .taken))))
 
   add-t22 : measure-marks-lts.Need-add-t22 (told t) (measure-marks-at t) measure-marks.Post Inv-loop μ-loop
   add-t22 c = search needs

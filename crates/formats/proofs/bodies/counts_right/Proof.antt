@@ -56,7 +56,7 @@ returns-2 : tie.Need-returns-2 Inv-loop μ-loop
 returns-2 c =
     let l = c .before .before .before .before .before .before .before .loop in
     let e : 256 * c .before .before .before .before .wide .result + c .before .before .wide2 .result ≡ countAt (now (c .before .before .before .before .before .before .before .before .before .before .args .counts)) (l .j) = omega (arith, c .before .before .before .before .wide .ensures, c .before .before .wide2 .ensures) in
-    count-bad (l .inv .1) (c .before .before .before .before .before .before .before .before .before .before .pre) (c .before .before .before .before .before .before .loop-test .taken) e (inr (c .if2 .taken))
+    count-bad (l .inv .1) (c .before .before .before .before .before .before .before .before .before .before .pre) (c .before .before .before .before .before .before .loop-test .taken) e (inr (omega (arith, c .if2 .taken)))
 
 add-sum : tie.Need-add-sum Inv-loop μ-loop
 add-sum c = omega (arith, c .before .before .before .before .before .before .before .loop .inv .1 .few)

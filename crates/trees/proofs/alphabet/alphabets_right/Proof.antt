@@ -41,7 +41,7 @@ sub-if3 c = search needs
 returns-3 : tie.Need-returns-3
 returns-3 c =
     let e = c .before .before .before .before .wide .ensures in
-    decides-no (λ A. c .if3 .taken (omega (arith, file-length A, outputs-count A e, c .before .wide2 .ensures)))
+    decides-no (λ A. omega (arith, file-length A, outputs-count A e, c .before .wide2 .ensures, c .if3 .taken))
 
 add-ins : tie.Need-add-ins
 add-ins c = search needs

@@ -1,5 +1,6 @@
 -- `collect` meets its contract. The invariant: the symbols of the tags passed stand in the table. Assumes nothing.
 use Prim.Native.Nat.{_-_}
+use mathlib.Core.List.{[], _∷_}
 use mathlib.Core.Logic.{⊎-elim}
 use mathlib.Core.Path.{sym, ap₂, _∙_}
 use lib.ListN.{length}
@@ -7,7 +8,7 @@ use borrow.Author.Needs.{needs}
 use borrow.Author.Tests.{ltb-true, ltb-false}
 use denote.Ref.{now}
 use Rattle.trees.proofs.Stock.{to-end}
-use Rattle.xml.specs.Inner.Kinds.{kindOf}
+use Rattle.codes.specs.Inner.Table.{symbolWith}
 use Rattle.xml.proofs.Collecting.{Collected, collect-none, collect-skip, collect-one, collect-end, collect-full}
 use Rattle.xml.proofs.read.collect.Statement.{statement}
 use Rattle.xml.proofs.read.collect.Tie as tie
@@ -39,8 +40,8 @@ byte-at-requires c κs = search needs
 byte-at-requires-2 : tie.Need-byte-at-requires-2 Inv-loop μ-loop
 byte-at-requires-2 c κs = search needs
 
-kind-of-requires : tie.Need-kind-of-requires Inv-loop μ-loop
-kind-of-requires c κs = search needs
+symbol-of-requires : tie.Need-symbol-of-requires Inv-loop μ-loop
+symbol-of-requires c κs = search needs
 
 element-write-table : tie.Need-element-write-table Inv-loop μ-loop
 element-write-table c = search needs
@@ -62,7 +63,7 @@ loop-again c =
     let o = c .before .tag-opens .ensures in
     let e = to-end (l .i) (now (c .before .before .before .before .before .before .before .args .text)) in
     ⊎-elim
-    (λ w. rw (w .4, w .5) (collect-one (l .inv) t e (ltb-true _ _ m) (sym o ∙ w .0 .taken) (w .3 .ensures ∙ ap₂ kindOf (w .1 .ensures) (w .2 .ensures))))
+    (λ w. rw (w .4, w .5) (collect-one (l .inv) t e (ltb-true _ _ m) (sym o ∙ w .0 .taken) (w .3 .ensures ∙ ap₂ (λ x y. symbolWith (x ∷ y ∷ [])) (w .1 .ensures) (w .2 .ensures))))
     (λ w. rw (w .1, w .2) (collect-skip (l .inv) t e (sym o ∙ w .0 .left)))
     (c .if2 .came)
 
@@ -85,7 +86,7 @@ collect-spec =
     tag-opens-requires
     byte-at-requires
     byte-at-requires-2
-    kind-of-requires
+    symbol-of-requires
     element-write-table
     add-n
     add-i

@@ -5,25 +5,25 @@ use Rattle.xml.proofs.Converting.{both-decides, no-both}
 use Rattle.xml.proofs.read.is_xml.Statement.{statement}
 use Rattle.xml.proofs.read.is_xml.Tie as tie
 
-measure-text-requires : tie.Need-measure-text-requires
-measure-text-requires c κs = search needs
+measure-output-requires : tie.Need-measure-output-requires
+measure-output-requires c κs = search needs
 
 enum-told : tie.Need-enum-told
 enum-told c = search needs
 
 xml-stands-requires : tie.Need-xml-stands-requires
-xml-stands-requires c κs = (c .before .before .measure-text .ensures .whole _ (c .enum-told .given .1) .0, c .before .before .before .before .before .before .pre)
+xml-stands-requires c κs = (c .before .before .measure-output .ensures .whole _ _ (c .enum-told .given .1) .0, c .before .before .before .before .before .before .pre)
 
 enum-told-2 : tie.Need-enum-told-2
 enum-told-2 c = search needs
 
 returns : tie.Need-returns
-returns c = both-decides (c .before .before .before .measure-text .ensures .whole _ (c .before .enum-told .given .1) .0) (c .xml-stands .ensures)
+returns c = both-decides (c .before .before .before .measure-output .ensures .whole _ _ (c .before .enum-told .given .1) .0) (c .xml-stands .ensures)
 
 returns-2 : tie.Need-returns-2
-returns-2 c = decides-no (no-both (c .before .before .measure-text .ensures .bad (c .enum-told2 .given .1)))
+returns-2 c = decides-no (no-both (c .before .before .measure-output .ensures .bad (c .enum-told2 .given .1)))
 
 pub is-xml-spec : {M : Type 1} → statement M
 is-xml-spec =
     tie.close
-    (tie.spec measure-text-requires enum-told xml-stands-requires enum-told-2 returns returns-2)
+    (tie.spec measure-output-requires enum-told xml-stands-requires enum-told-2 returns returns-2)

@@ -18,36 +18,48 @@ returns c = refuse (refuted (c .before .alphabets-right .ensures) (c .if1 .taken
 output-ranks-requires : tie.Need-output-ranks-requires
 output-ranks-requires c κs = held (c .before .alphabets-right .ensures) (c .if1 .left)
 
-measure-text-requires : tie.Need-measure-text-requires
-measure-text-requires c κs = search needs
-
-enum-known-n : tie.Need-enum-known-n
-enum-known-n c = search needs
-
-returns-2 : tie.Need-returns-2
-returns-2 c =
-    let m = c .before .before .before .before .measure-text .ensures .whole (c .before .before .n .given .0 .0) (c .before .before .n .given .1) in
-    short-text (held (c .before .before .before .before .before .before .before .alphabets-right .ensures) (c .before .before .before .before .before .before .if1 .left)) (c .before .before .before .before .before .output-ranks .ensures) (m .0) (m .1) (c .if2 .taken)
-
-put-xml-requires : tie.Need-put-xml-requires
-put-xml-requires c κs =
-    let A = held (c .before .before .before .before .before .before .before .before .alphabets-right .ensures) (c .before .before .before .before .before .before .before .if1 .left) in
-    let m = c .before .before .before .before .before .measure-text .ensures .whole (c .before .before .before .n .given .0 .0) (c .before .before .before .n .given .1) in
-    (m .0, omega (arith, A .outs .few, ap length (c .before .before .before .before .before .before .output-ranks .ensures)), omega (arith, m .1, c .before .if2 .left))
+measure-output-requires : tie.Need-measure-output-requires
+measure-output-requires c κs = search needs
 
 enum-told : tie.Need-enum-told
 enum-told c = search needs
+
+text-size-requires : tie.Need-text-size-requires
+text-size-requires c κs = c .before .before .measure-output .ensures .whole _ _ (c .enum-told .given .1) .0
+
+returns-2 : tie.Need-returns-2
+returns-2 c =
+    let m = c .before .before .before .before in
+    let A = held (m .before .before .before .alphabets-right .ensures) (m .before .before .if1 .left) in
+    let W = m .measure-output .ensures .whole _ _ (c .before .before .enum-told .given .1) .0 in
+    short-text A (m .before .output-ranks .ensures) W (c .before .text-size .ensures) (omega (arith, c .if2 .taken))
+
+put-xml-requires : tie.Need-put-xml-requires
+put-xml-requires c κs =
+    let m = c .before .before .before .before .before in
+    let A = held (m .before .before .before .alphabets-right .ensures) (m .before .before .if1 .left) in
+    let W = m .measure-output .ensures .whole _ _ (c .before .before .before .enum-told .given .1) .0 in
+    (W, omega (arith, A .outs .few, ap length (m .before .output-ranks .ensures)), omega (arith, c .before .before .text-size .ensures, c .before .if2 .left))
+
+enum-told-2 : tie.Need-enum-told-2
+enum-told-2 c = search needs
 
 same-length : tie.Need-same-length
 same-length c = search needs
 
 returns-3 : tie.Need-returns-3
 returns-3 c =
-    let m = c .before .before .before .before .before .before .before .before .measure-text .ensures .whole (c .before .before .before .before .before .before .n .given .0 .0) (c .before .before .before .before .before .before .n .given .1) in
-    text-written (held (c .before .before .before .before .before .before .before .before .before .before .before .alphabets-right .ensures) (c .before .before .before .before .before .before .before .before .before .before .if1 .left)) (c .before .before .before .before .before .before .before .before .before .output-ranks .ensures) (m .0) (m .1) (c .before .before .before .before .if2 .left) (c .before .before .put-xml .ensures)
+    let n = c .before .before .before .before .before in
+    let m = n .before .before .before in
+    let A = held (m .before .before .before .alphabets-right .ensures) (m .before .before .if1 .left) in
+    let W = m .measure-output .ensures .whole _ _ (n .before .enum-told .given .1) .0 in
+    text-written A (m .before .output-ranks .ensures) W (n .text-size .ensures) (c .before .before .before .before .if2 .left) (c .before .before .put-xml .ensures)
 
 returns-4 : tie.Need-returns-4
-returns-4 c = no-plan (held (c .before .before .before .before .before .alphabets-right .ensures) (c .before .before .before .before .if1 .left)) (c .before .before .before .output-ranks .ensures) (c .before .before .measure-text .ensures .bad (c .enum-told .given .1))
+returns-4 c =
+    let m = c .before .before in
+    let A = held (m .before .before .before .alphabets-right .ensures) (m .before .before .if1 .left) in
+    no-plan A (m .before .output-ranks .ensures) (m .measure-output .ensures .bad (c .enum-told2 .given .1))
 
 pub write-xml-spec : {M : Type 1} → statement M
 write-xml-spec =
@@ -56,11 +68,12 @@ write-xml-spec =
     alphabets-right-requires
     returns
     output-ranks-requires
-    measure-text-requires
-    enum-known-n
+    measure-output-requires
+    enum-told
+    text-size-requires
     returns-2
     put-xml-requires
-    enum-told
+    enum-told-2
     same-length
     returns-3
     returns-4)
