@@ -13,7 +13,7 @@ use Rattle.trees.specs.Code.{code}
 use Rattle.trees.specs.Refusal.{accepted, done, check, Holds, Judged}
 use Rattle.trees.specs.declared.refusal.Refusal.{Refusal}
 use Rattle.trees.proofs.Judging.{refuse, pass, accept, accepted-holds, refused-early, must-refuse}
-use Rattle.xml.specs.Answers.{Form, Formed, formsCheck, converted, Converts, WritesXml, ReadsXml}
+use Rattle.xml.specs.Answers.{Form, InForm, formsCheck, converted, Converts, WritesXml, ReadsXml}
 use Rattle.xml.specs.Xml.{xml, OutputTree}
 use Rattle.xml.specs.declared.write.Converted.{Converted}
 use Rattle.xml.specs.declared.write.Converted.the-variants.{Length, Refused}
@@ -28,7 +28,7 @@ unfolding Holds
 was-stock from to stock s area area′ r n C e = accepted-holds (rw e at C) .0 .0
 
 -- what an output tree is converted to
-gives : (from to : Form) (stock : List ℕ) → Alphabets stock → Distinct from (outputs stock) → (s area area′ : List ℕ) (r : Converted) → Converts from to stock s area area′ r → (t : Tree) → Formed from stock s t → length (to t) ≤ length area → Gave r area′ (to t)
+gives : (from to : Form) (stock : List ℕ) → Alphabets stock → Distinct from (outputs stock) → (s area area′ : List ℕ) (r : Converted) → Converts from to stock s area area′ r → (t : Tree) → InForm from stock s t → length (to t) ≤ length area → Gave r area′ (to t)
 gives from to stock A D s area area′ r C t F h =
     let w = converted-so from to stock A D s area area′ r C t F h in
     record { answer = w .0; bytes = ap (take (length (to t))) (w .1) ∙ stands-there area (to t) h }
@@ -63,9 +63,9 @@ text-given {stock} {s} {before} {after} {n} r C e =
 
 -- a text that is read is one that the writer gives
 module _ {stock text : List ℕ} (A : Alphabets stock) where
-  writer-gives : (t : Tree) → Formed xml stock text t → WriterGives stock text
+  writer-gives : (t : Tree) → InForm xml stock text t → WriterGives stock text
   writer-gives t F =
-      let C : Formed code stock (code t) t = record { output = F .output; is = refl } in
+      let C : InForm code stock (code t) t = record { output = F .output; is = refl } in
       let P = conversion code xml stock A (code t) (xml t) t C (omega arith) in
       record {
         plan = code t;
@@ -76,7 +76,7 @@ module _ {stock text : List ℕ} (A : Alphabets stock) where
         gave = subst (λ x. Gave (Length (length (xml t))) (sets (xml t) 0 (xml t)) x) (F .is) (gives code xml stock A (codes-apart A) (code t) (xml t) (sets (xml t) 0 (xml t)) (Length (length (xml t))) P t C (omega arith));
       }
 
-  reader-takes : WriterGives stock text → (t : Tree) × Formed xml stock text t
+  reader-takes : WriterGives stock text → (t : Tree) × InForm xml stock text t
   reader-takes W =
       let w = was-formed code xml stock (codes-apart A) (W .plan) (W .before) (W .after) (W .r) (length text) (W .promise) (W .gave .answer) in
       (w .0, record { output = w .1 .0 .output; is = sym (w .1 .2) ∙ W .gave .bytes })
@@ -127,14 +127,14 @@ read-back {stock} {s} {text} {text′} {before} {after} r n e C r′ R =
     let h = accepted-holds (rw e at C) .0 in
     let A = h .0 in
     let w = was-formed code xml stock (codes-apart A) s text text′ r n C (ap converted e) in
-    let F : Formed xml stock (take n text′) (w .0) = record { output = w .1 .0 .output; is = sym (w .1 .2) } in
+    let F : InForm xml stock (take n text′) (w .0) = record { output = w .1 .0 .output; is = sym (w .1 .2) } in
     pass A (pass (h .1 .0) (pass (h .1 .1 .0) (go A (w .0) (w .1 .0) F (decLe (length s) (length before)))))
   where
-    go : Alphabets stock → (t : Tree) → Formed code stock s t → Formed xml stock (take n text′) t → Dec (length s ≤ length before) → Judged (after ≡ before) (λ n. (n ≡ length s) × (after ≡ sets before 0 s)) (check 12 (length s ≤ length before) done) (converted r′)
+    go : Alphabets stock → (t : Tree) → InForm code stock s t → InForm xml stock (take n text′) t → Dec (length s ≤ length before) → Judged (after ≡ before) (λ n. (n ≡ length s) × (after ≡ sets before 0 s)) (check 12 (length s ≤ length before) done) (converted r′)
     go A t F G (yes h) =
         let w = converted-so xml code stock A (texts-apart A) (take n text′) before after r′ R t G (omega (arith, ap length (F .is))) in
         rw (w .0) (pass h (accept (ap length (F .is), w .1 ∙ ap (sets before 0) (F .is))))
     go A t F G (no h) =
-        let short : ((u : Tree) × (Formed xml stock (take n text′) u × (length (code u) ≤ length before))) → ⊥ = λ v. let e : v .0 ≡ t = texts-apart A (v .0) t (v .1 .0 .output) (G .output) (v .1 .0 .is ∙ sym (G .is)) in h (omega (arith, v .1 .1, ap (λ u. length (code u)) e, ap length (F .is))) in
-        let w = must-refuse (alphabetCheck stock (check 11 ((u : Tree) × Formed xml stock (take n text′) u) done)) done (A, ((t, G), tt)) short R in
+        let short : ((u : Tree) × (InForm xml stock (take n text′) u × (length (code u) ≤ length before))) → ⊥ = λ v. let e : v .0 ≡ t = texts-apart A (v .0) t (v .1 .0 .output) (G .output) (v .1 .0 .is ∙ sym (G .is)) in h (omega (arith, v .1 .1, ap (λ u. length (code u)) e, ap length (F .is))) in
+        let w = must-refuse (alphabetCheck stock (check 11 ((u : Tree) × InForm xml stock (take n text′) u) done)) done (A, ((t, G), tt)) short R in
         rw (w .0) (refuse h (w .1))

@@ -9,7 +9,7 @@ use Rattle.theory.specs.Term.{Tree, node, none, more}
 use Rattle.trees.specs.Alphabets.{Alphabets, alphabetCheck}
 use Rattle.trees.specs.Code.{code}
 use Rattle.trees.specs.Refusal.{accepted, done, check, Judged}
-use Rattle.xml.specs.Answers.{Formed, formsCheck, converted, WritesXml, ReadsXml}
+use Rattle.xml.specs.Answers.{InForm, formsCheck, converted, WritesXml, ReadsXml}
 use Rattle.xml.specs.Xml.{xml, OutputTree}
 use Rattle.xml.specs.declared.write.Converted.{Converted}
 
@@ -38,8 +38,8 @@ pub record Request4 : Type 0 where
   -- An accepted writing is such a call, of what stands at the start of its area.
   pub writes : {stock s before after : List ℕ} {n : ℕ} (r : Converted) → WritesXml stock s before after r → converted r ≡ accepted n → WriterGives stock (take n after)
   -- A plan is written as XML elements named by the block codes, `<A1>` with its sub-trees and `</A1>`, and `<A2/>` for a block with no places (`xml`), and the same text is read back.
-  pub written : {stock s before after : List ℕ} {t : Tree} (r : Converted) → Alphabets stock → Formed code stock s t → WritesXml stock s before after r → length (xml t) ≤ length before → Gave r after (xml t)
-  pub read : {stock text before after : List ℕ} {t : Tree} (r : Converted) → Alphabets stock → Formed xml stock text t → ReadsXml stock text before after r → length (code t) ≤ length before → Gave r after (code t)
+  pub written : {stock s before after : List ℕ} {t : Tree} (r : Converted) → Alphabets stock → InForm code stock s t → WritesXml stock s before after r → length (xml t) ≤ length before → Gave r after (xml t)
+  pub read : {stock text before after : List ℕ} {t : Tree} (r : Converted) → Alphabets stock → InForm xml stock text t → ReadsXml stock text before after r → length (code t) ≤ length before → Gave r after (code t)
   -- For f(e, e) under stock S that is `<A1><A2/><A2/></A1>`.
   pub sample : xml planSample ≡ textSample
   -- The reader accepts exactly the texts that the writer gives for plans of 1 to 4,096 blocks under that stock.
