@@ -112,6 +112,33 @@ fn unreadable_files() {
     }
 }
 
+/// A file may come in pieces, as through a pipe: it is read to its end, and not as far as the first read gets.
+#[cfg(unix)]
+#[test]
+fn files_in_pieces() {
+    use std::io::Write;
+    use std::process::Command;
+    use std::{thread, time::Duration};
+    for name in ["stock", "first", "second"] {
+        let folder = folder(S, T, U);
+        let (whole, bytes, path) = (run(&folder), folder.read(name), folder.file(name));
+        assert_eq!(whole, "first 1 7\nsecond 1 11\ndiffer 1 at 1 A2 A1\n");
+        fs::remove_file(&path).expect("it was there");
+        assert!(Command::new("mkfifo").arg(&path).status().expect("mkfifo starts").success());
+        let writer = thread::spawn(move || {
+            // waits until the program opens it
+            let mut pipe = fs::OpenOptions::new().write(true).open(path).expect("a pipe");
+            let (start, rest) = bytes.split_at(bytes.len() / 2);
+            pipe.write_all(start).expect("the program reads");
+            thread::sleep(Duration::from_millis(50));
+            // a program that has stopped reading has closed it
+            let _ = pipe.write_all(rest);
+        });
+        assert_eq!(run(&folder), whole, "{name}");
+        writer.join().expect("all is written");
+    }
+}
+
 /// 16 part kinds and 64 block kinds, the most there are: 82 bytes. All part kinds and the last two block
 /// kinds have no places.
 fn longest_stock() -> Vec<u8> {

@@ -31,7 +31,7 @@ pub enum Translation {
 }
 
 // Where what was written ends, and how many levels it has, or 257 where there are more.
-struct Written {
+struct Emission {
     end: usize,
     levels: usize,
 }
@@ -329,7 +329,7 @@ fn emit(
     to: usize,
     left: usize,
     out: &mut [u8],
-) -> Written
+) -> Emission
     requires { ⌜ Walkable (now ins) (now starts) (now marks) (now s) (now ends) 0 to 0 left × Depths (now marks) (now depths) ⌝ }
     ensures { λ r. ⌜ Emitted (walked (now (ins .entry)) (now (starts .entry)) (now (marks .entry)) (now (s .entry)) 0 0 to) (walkedLevels (now (ins .entry)) (now (starts .entry)) (now (marks .entry)) (now (depths .entry)) (now (s .entry)) 0 0 to) (now (out .entry)) (now (out .exit)) (r .end) (r .levels) ⌝ }
 {
@@ -353,20 +353,20 @@ fn emit(
         larger(out.len(), 8192),
     );
     if n > out.len() {
-        return Written {
+        return Emission {
             end: n,
             levels: levels,
         };
     }
     if levels > 256 {
-        return Written {
+        return Emission {
             end: n,
             levels: levels,
         };
     }
     if n <= 8192 {
         copy_at(&short[0..n], out, 0);
-        return Written {
+        return Emission {
             end: n,
             levels: levels,
         };
@@ -386,7 +386,7 @@ fn emit(
         out,
         out.len(),
     );
-    Written {
+    Emission {
         end: end,
         levels: levels,
     }
