@@ -8,6 +8,10 @@ use borrow.Author.Needs.{needs}
 use Rattle.join.proofs.join.join.Statement.{statement}
 use Rattle.join.proofs.join.join.Tie as tie
 
+-- the files are read only where the alphabets fit: 16 comes before 4 and 5 (first here: it is what the edit sheet_before_fit breaks)
+join-sheets-requires : tie.Need-join-sheets-requires
+join-sheets-requires c κs = (held (c .before .before .before .before .before .before .before .before .alphabets-right .ensures) (c .before .before .before .before .before .before .before .if2 .left), held (c .before .before .before .before .before .before .alphabets-right2 .ensures) (c .before .before .before .before .before .if3 .left), held (same-ranks (c .before .before .before .before .output-ranks .ensures) (c .before .before .before .input-ranks .ensures) (c .before .before .same-bytes .ensures)) (c .before .if4 .left), omega (arith, c .before .before .before .before .before .before .before .before .before .if1 .left))
+
 returns : tie.Need-returns
 returns c = refuse (λ h. omega (arith, c .if1 .taken)) refl
 
@@ -34,9 +38,6 @@ same-bytes-requires c κs = search needs
 
 returns-4 : tie.Need-returns-4
 returns-4 c = pass (omega (arith, c .before .before .before .before .before .before .before .before .if1 .left)) (pass (held (c .before .before .before .before .before .before .before .alphabets-right .ensures) (c .before .before .before .before .before .before .if2 .left)) (pass (held (c .before .before .before .before .before .alphabets-right2 .ensures) (c .before .before .before .before .if3 .left)) (refuse (refuted (same-ranks (c .before .before .before .output-ranks .ensures) (c .before .before .input-ranks .ensures) (c .before .same-bytes .ensures)) (c .if4 .taken)) refl)))
-
-join-sheets-requires : tie.Need-join-sheets-requires
-join-sheets-requires c κs = (held (c .before .before .before .before .before .before .before .before .alphabets-right .ensures) (c .before .before .before .before .before .before .before .if2 .left), held (c .before .before .before .before .before .before .alphabets-right2 .ensures) (c .before .before .before .before .before .if3 .left), held (same-ranks (c .before .before .before .before .output-ranks .ensures) (c .before .before .before .input-ranks .ensures) (c .before .before .same-bytes .ensures)) (c .before .if4 .left), omega (arith, c .before .before .before .before .before .before .before .before .before .if1 .left))
 
 same-length : tie.Need-same-length
 same-length c = search needs

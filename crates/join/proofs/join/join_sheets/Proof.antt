@@ -10,6 +10,12 @@ use borrow.Author.Needs.{needs}
 use Rattle.join.proofs.join.join_sheets.Statement.{statement}
 use Rattle.join.proofs.join.join_sheets.Tie as tie
 
+-- the refusal of the first file comes before that of the second (first here: it is what the edit second_before_first breaks)
+returns-3 : tie.Need-returns-3
+returns-3 c =
+    let a = c .before .before .before .before .before .before .before .before .before .args in
+    first-refused (now (a .first)) (now (a .second)) (now (a .sheet1)) (now (a .sheet2)) (now (a .area)) (c .before .before .before .before .before .before .before .before .before .pre .0) (c .before .before .before .read-transducer .ensures) (c .before .r2 .given .1)
+
 read-transducer-requires : tie.Need-read-transducer-requires
 read-transducer-requires c κs = search needs
 
@@ -89,11 +95,6 @@ returns-2 : tie.Need-returns-2
 returns-2 c =
     let a = c .before .before .before .before .before .before .before .before .before .before .before .before .before .args in
     second-refused (now (a .first)) (now (a .second)) (now (a .sheet1)) (now (a .sheet2)) (now (a .area)) (c .before .before .before .before .before .before .before .read-transducer .ensures) (c .before .before .before .before .before .n1 .given .1) (c .before .before .before .before .before .before .before .before .before .before .before .before .before .pre .1) (c .before .before .before .read-transducer2 .ensures) (c .before .r .given .1)
-
-returns-3 : tie.Need-returns-3
-returns-3 c =
-    let a = c .before .before .before .before .before .before .before .before .before .args in
-    first-refused (now (a .first)) (now (a .second)) (now (a .sheet1)) (now (a .sheet2)) (now (a .area)) (c .before .before .before .before .before .before .before .before .before .pre .0) (c .before .before .before .read-transducer .ensures) (c .before .r2 .given .1)
 
 pub join-sheets-spec : {M : Type 1} → statement M
 join-sheets-spec =
