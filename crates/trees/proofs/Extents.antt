@@ -301,7 +301,7 @@ measured-whole ins s room l m =
 
 -- ---- what measuring all of s answers
 module _ {nodes most : ℕ} {ranks s : List ℕ} where
-  not-whole : (Within nodes most ranks s → ⊥) → MeasuredWithin nodes most ranks s Bad
+  pub not-whole : (Within nodes most ranks s → ⊥) → MeasuredWithin nodes most ranks s Bad
   not-whole f = record { whole = λ e l q. conflict (cc); bad = λ q W. f W }
 
   pub too-long : nodes < length s → MeasuredWithin nodes most ranks s Bad

@@ -117,7 +117,7 @@ split-letters (suc n) none = omega arith
 split-letters (suc n) (more t ts) = omega (arith, split-letters n ts)
 
 -- a letter that is not broken is one letter more
-put-letters : {A : Type 0} (l : Letter A) (G : Terms A) → 0 < lettersAll (put l G) → lettersAll (put l G) ≡ suc (lettersAll G)
+pub put-letters : {A : Type 0} (l : Letter A) (G : Terms A) → 0 < lettersAll (put l G) → lettersAll (put l G) ≡ suc (lettersAll G)
 unfolding put lettersAll letters
 put-letters (call a) G h = omega arith
 put-letters (symbol k n) G h = go (leb n (count G)) h

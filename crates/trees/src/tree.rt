@@ -3,7 +3,7 @@ ghost use mathlib.Core.Path.{_≡_};
 ghost use lib.ListN.{drop};
 ghost use Rattle.trees.specs.Answers.{ReadsTree};
 ghost use Rattle.trees.specs.Inner.Symbols.{trees};
-ghost use Rattle.trees.specs.Inner.Measured.{measured, MeasuredWithin, MeasuredAll};
+ghost use Rattle.trees.specs.Inner.Measured.{measured, MeasuredAll};
 use crate::alphabet::alphabets_right;
 use crate::alphabet::input_ranks;
 use crate::bytes::larger;
@@ -53,14 +53,14 @@ fn measure(ranks: &[u8], s: &[u8], at: usize, room: usize) -> Extent
     Extent::Tree(p, deep + 1)
 }
 
-// Measures the bytes as one tree of at most so many nodes and levels.
-pub fn measure_within(ranks: &[u8], s: &[u8], nodes: usize, levels: usize) -> Extent
-    ensures { λ r. ⌜ MeasuredWithin nodes levels (now (ranks .entry)) (now (s .entry)) r ⌝ }
+// Measures the bytes as one input tree within the limits.
+pub fn measure_all(ins: &[u8], s: &[u8]) -> Extent
+    ensures { λ r. ⌜ MeasuredAll (now (ins .entry)) (now (s .entry)) r ⌝ }
 {
-    if s.len() > nodes {
+    if s.len() > 4096 {
         return Extent::Bad;
     }
-    match measure(ranks, s, 0, levels) {
+    match measure(ins, s, 0, 512) {
         Extent::Tree(e, l) => {
             if e != s.len() {
                 return Extent::Bad;
@@ -69,13 +69,6 @@ pub fn measure_within(ranks: &[u8], s: &[u8], nodes: usize, levels: usize) -> Ex
         }
         Extent::Bad => Extent::Bad,
     }
-}
-
-// Measures the bytes as one input tree within the limits.
-pub fn measure_all(ins: &[u8], s: &[u8]) -> Extent
-    ensures { λ r. ⌜ MeasuredAll (now (ins .entry)) (now (s .entry)) r ⌝ }
-{
-    measure_within(ins, s, 4096, 512)
 }
 
 // Reads the file of an input tree.

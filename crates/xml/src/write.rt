@@ -6,7 +6,8 @@ ghost use Rattle.formats.specs.Inner.Judging.{Put};
 ghost use Rattle.trees.specs.Inner.Symbols.{tree};
 ghost use Rattle.xml.specs.Xml.{xml};
 ghost use Rattle.xml.specs.Answers.{WritesXml};
-ghost use Rattle.xml.specs.Inner.Measured.{WholeOutput, MeasuredOutput, nodeSize};
+ghost use Rattle.xml.specs.Inner.Measured.{WholeOutput, nodeSize};
+use crate::measure::measure_output;
 use crate::tag::write_tag;
 use crate::walk::next_tag;
 use trees::alphabet::alphabets_right;
@@ -14,19 +15,11 @@ use trees::alphabet::output_ranks;
 use trees::bytes::wide;
 use trees::refusal::Refusal;
 use trees::tree::Extent;
-use trees::tree::measure_within;
 
 // How long the result of a conversion is, or the refusal.
 pub enum Converted {
     Length(usize),
     Refused(Refusal),
-}
-
-// Measures the bytes as one output tree, which has at most as many levels as nodes.
-pub(crate) fn measure_output(ranks: &[u8], s: &[u8]) -> Extent
-    ensures { λ r. ⌜ MeasuredOutput (now (ranks .entry)) (now (s .entry)) r ⌝ }
-{
-    measure_within(ranks, s, 4096, 4096)
 }
 
 // How many bytes the tags of a node with so many children have.
