@@ -194,8 +194,8 @@ fn wrong_usage() {
         ("book show --bytes -o ./made made 1", "made: it would be overwritten: give another file"),
         ("compare --svg t.txt stock.txt t.txt u.txt", "t.txt: it would be overwritten: give another file"),
         (
-            "join --stock both -o both stock.txt t.txt pairs.txt p.txt",
-            "both: it would be overwritten: give another file",
+            "join --stock ./both -o both stock.txt t.txt pairs.txt p.txt",
+            "both: it would be written twice: give another file",
         ),
         ("compare stock.txt t.txt", "compare: it takes STOCK SHEET SHEET...; `caplune compare --help` tells more"),
         ("card stock.txt t.txt", "card: it takes [STOCK]; `caplune card --help` tells more"),
@@ -715,6 +715,158 @@ fn outputs_that_fail() {
     folder.write("long", &[vec![0; 17], vec![1]].concat());
     let ended = folder.run(Path::new("/bin/sh"), &["-c", script, PROGRAM], b"");
     assert_eq!(ended.err, "2\n");
+}
+
+impl Folder {
+    /// Every file: its name, its bytes, and its number on disk, which another file has when it is replaced.
+    #[cfg(unix)]
+    fn state(&self) -> Vec<(String, Vec<u8>, u64)> {
+        use std::os::unix::fs::MetadataExt;
+        let number = |name: &String| fs::symlink_metadata(self.file(name)).unwrap().ino();
+        self.names().into_iter().map(|name| (name.clone(), self.read(&name), number(&name))).collect()
+    }
+
+    /// What it says of this file where nothing at all has changed.
+    #[cfg(unix)]
+    fn keeps(&self, line: &str, file: &str) -> String {
+        let before = self.state();
+        let said = self.says(line);
+        assert_eq!(self.state(), before, "{line}");
+        said.strip_prefix(&format!("{file}: ")).unwrap_or_else(|| panic!("{line}: {said}")).to_string()
+    }
+}
+
+/// A folder with files that must not be lost: bytes with their tables, a book with its lock, copies of both under other
+/// names, and links of both kinds.
+#[cfg(unix)]
+fn kept() -> Folder {
+    let folder = first();
+    for line in ["convert -o stock stock.txt", "convert -o t stock.txt t.txt", "book make book stock.txt"] {
+        folder.prints(line);
+    }
+    folder.prints("book enter book t.txt");
+    for (name, bytes) in [
+        ("copied", &folder.read("t.names")[..]),
+        ("saved", &folder.read("book")),
+        ("plan.txt", b"plan f(e, e)"),
+        ("plan.xml", b"<A1><A2/><A2/></A1>"),
+        ("pairs.txt", b"stock parts f/2 e/0 blocks g/0"),
+        ("p.txt", b"sheet opening g"),
+    ] {
+        folder.write(name, bytes);
+    }
+    folder
+}
+
+/// Every command with an output: what stands before it, behind it, and the files among this that are read.
+#[cfg(unix)]
+const OUTPUTS: &[(&str, &str, &[&str])] = &[
+    ("convert -o", "stock.txt", &["stock.txt"]),
+    ("convert -o", "stock", &["stock"]),
+    ("convert -o", "stock t", &["stock", "t"]),
+    ("convert -o", "stock.txt design.txt", &["stock.txt", "design.txt"]),
+    ("sew -o", "stock.txt t.txt design.txt", &["stock.txt", "t.txt", "design.txt"]),
+    ("sew --bytes -o", "stock t design.txt", &["stock", "t", "design.txt"]),
+    ("xml -o", "stock.txt plan.txt", &["stock.txt", "plan.txt"]),
+    ("plan -o", "stock.txt plan.xml", &["stock.txt", "plan.xml"]),
+    ("clean -o", "stock.txt t.txt", &["stock.txt", "t.txt"]),
+    ("clean --bytes -o", "stock t", &["stock", "t"]),
+    ("compare --svg", "stock.txt t.txt u.txt", &["stock.txt", "t.txt", "u.txt"]),
+    ("compare --svg", "stock.txt t.txt t2.txt", &["stock.txt", "t.txt", "t2.txt"]),
+    ("join -o", "stock.txt t.txt pairs.txt p.txt", &["stock.txt", "t.txt", "pairs.txt", "p.txt"]),
+    ("join --bytes --stock", "stock.txt t.txt pairs.txt p.txt", &["stock.txt", "t.txt", "pairs.txt", "p.txt"]),
+    ("join --stock new -o", "stock.txt t.txt pairs.txt p.txt", &["stock.txt", "t.txt", "pairs.txt", "p.txt"]),
+    ("book show -o", "book 1", &["book"]),
+    ("book show --bytes -o", "book 0", &["book"]),
+];
+
+/// No output of any command overwrites a file that it reads, a table of names, a lock or a book.
+#[cfg(unix)]
+#[test]
+fn nothing_is_overwritten() {
+    let folder = kept();
+    for (before, behind, inputs) in OUTPUTS {
+        let refused = "it would be overwritten: give another file";
+        for input in *inputs {
+            assert_eq!(folder.keeps(&format!("{before} {input} {behind}"), input), refused);
+            assert_eq!(folder.keeps(&format!("{before} ./{input} {behind}"), input), refused);
+            // over links, and under a second name
+            std::os::unix::fs::symlink(input, folder.file("link")).unwrap();
+            fs::hard_link(folder.file(input), folder.file("second")).unwrap();
+            assert_eq!(folder.keeps(&format!("{before} link {behind}"), input), refused);
+            assert_eq!(folder.keeps(&format!("{before} second {behind}"), input), refused);
+            ["link", "second"].iter().for_each(|name| fs::remove_file(folder.file(name)).unwrap());
+        }
+        for (output, what) in [("copied", "a table of names"), ("saved", "a book")] {
+            let said = folder.keeps(&format!("{before} {output} {behind}"), output);
+            assert_eq!(said, format!("it is {what}, and would be overwritten: give another file"));
+        }
+        // those that are read, too, are told by their names
+        for output in ["t.names", "stock.names", "u.txt.names", "book.lock", "later.lock", "book.new~"] {
+            let said = folder.keeps(&format!("{before} {output} {behind}"), output);
+            let ending = output.rsplit_once('.').unwrap().1;
+            assert!(said == refused || said.starts_with(&format!("names that end in `.{ending}` are ")), "{said}");
+        }
+        std::os::unix::fs::symlink("t.names", folder.file("link")).unwrap();
+        let said = folder.says(&format!("{before} link {behind}"));
+        assert!(said.starts_with("t.names: it would be ") || said.starts_with("link: names that end in "), "{said}");
+        fs::remove_file(folder.file("link")).unwrap();
+        // another file is replaced, and what is no file is written to
+        for output in ["new", "p2.txt", "/dev/null"] {
+            let ended = folder.caplune(&format!("{} {output} {behind}", before.replace(" new", " other")));
+            assert!(matches!(ended.status, Some(0 | 1)) && ended.err.is_empty(), "{before}: {ended:?}");
+        }
+    }
+    // a number is no file
+    folder.write("1", b"");
+    folder.prints("book show -o 1 book 1");
+}
+
+/// Nor does what is written beside an output, or beside a book.
+#[cfg(unix)]
+#[test]
+fn nothing_beside_is_overwritten() {
+    let folder = kept();
+    for (from, to) in [("stock.txt", "x.names"), ("t.txt", "y.names"), ("t.txt", "book.new~"), ("stock.txt", "z.new~")]
+    {
+        folder.write(to, &folder.read(from));
+    }
+    fs::hard_link(folder.file("y.names"), folder.file("second")).unwrap();
+    for (line, file, output) in [
+        ("convert -o x x.names", "x.names", "x"),
+        ("convert -o ./x x.names t.txt", "x.names", "./x"),
+        ("convert -o y stock.txt y.names", "y.names", "y"),
+        ("convert -o y stock.txt second", "second", "y"),
+        ("clean --bytes -o y stock.txt y.names", "y.names", "y"),
+        ("join --bytes --stock x -o new x.names t.txt pairs.txt p.txt", "x.names", "x"),
+        ("join --bytes --stock new -o y stock.txt y.names pairs.txt p.txt", "y.names", "y"),
+        ("book make x x.names", "x.names", "x"),
+        ("book make z z.new~", "z.new~", "z"),
+        ("book enter book t.txt book.new~", "book.new~", "book"),
+    ] {
+        let said = folder.keeps(line, file);
+        assert_eq!(
+            said,
+            format!("it would be overwritten by what stands beside {output}: give another file"),
+            "{line}"
+        );
+    }
+    for line in ["book make t2.txt.names stock.txt", "book make n.lock stock.txt", "book make n.new~ stock.txt"] {
+        let file = line.split(' ').nth(2).unwrap();
+        assert!(folder.keeps(line, file).starts_with("names that end in "), "{line}");
+    }
+    // a table whose file has gone stays where no book is made
+    folder.write("gone.names", &folder.read("stock.names"));
+    assert!(folder.keeps("book make --area 5 gone stock.txt", "gone").starts_with("refused by 8: "));
+    // the second of two outputs is refused before the first is written
+    let line = "join --bytes --stock new -o n stock.txt t.txt pairs.txt p.txt";
+    folder.write("n.names", b"a letter");
+    assert_eq!(folder.keeps(line, "n.names"), "it would be overwritten by the names, and is no table of names");
+    // standard input may be a file
+    let script = "exec \"$0\" xml -o plan.txt stock.txt < plan.txt";
+    let ended = folder.run(Path::new("/bin/sh"), &["-c", script, PROGRAM], b"");
+    assert_eq!(told(&ended, script), "standard input: it would be overwritten: give another file");
+    assert_eq!(folder.read("plan.txt"), b"plan f(e, e)");
 }
 
 /// Damaged files by seed, text and bytes, given to every command: it ends with 0, 1 or 2, says one line exactly where

@@ -2,6 +2,9 @@
 use crate::failure::Failure;
 use std::ffi::{OsStr, OsString};
 
+/// What an option takes that names a file to be written.
+pub const FILE: &str = "FILE";
+
 /// An option of a command.
 pub struct Choice {
     /// How it is written.

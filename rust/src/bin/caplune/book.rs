@@ -3,20 +3,25 @@ use crate::arguments::{number, Arguments};
 use crate::commands::count;
 use crate::failure::Failure;
 use crate::files::{
-    names_beside, not_over, own_table, print, remove_table, shown, write_table, Content, Inputs, Stock,
+    free_name, keep_beside, names_beside, own_table, print, remove_table, shown, write_table, Content, Inputs, Stock,
 };
 use crate::Status;
 use caplune::{store, text, Registry};
 use std::ffi::OsStr;
 use std::path::Path;
 
+/// The endings of what is written, or removed, beside a book.
+const WRITTEN_BESIDE: &[&str] = &[".names", ".new~"];
+
 /// Makes a book.
 pub fn make(arguments: &Arguments) -> Result<Status, Failure> {
     let area = arguments.number("--area", Registry::LONGEST_AREA, Registry::LONGEST_AREA)?;
     let path = path_of(&arguments.plain[0])?;
+    free_name(path)?;
+    keep_beside(path, WRITTEN_BESIDE, &arguments.plain[1..])?;
     let stock = Inputs::default().stock(&arguments.plain[1])?;
     let name = shown(path.as_os_str());
-    if !path.exists() {
+    if !path.exists() && Registry::new(&stock.alphabets, area).is_ok() {
         // a table without its book, which must not become the new book's
         own_table(path)?;
         remove_table(path).map_err(|error| Failure::of_file(&name, error))?;
@@ -47,6 +52,7 @@ fn open(file: &OsStr) -> Result<(Registry, Stock), Failure> {
 /// the book is on disk.
 pub fn enter(arguments: &Arguments) -> Result<Status, Failure> {
     let file = &arguments.plain[0];
+    keep_beside(path_of(file)?, WRITTEN_BESIDE, &arguments.plain[1..])?;
     // the stock of a book never changes, so it can be read before the book is kept from others
     let (_, stock) = open(file)?;
     let mut inputs = Inputs::default();
@@ -95,7 +101,6 @@ pub fn list(arguments: &Arguments) -> Result<Status, Failure> {
 
 /// Shows the sheet of a number, or the stock.
 pub fn show(arguments: &Arguments) -> Result<Status, Failure> {
-    not_over(arguments.value("-o"), &arguments.plain[..1])?;
     let (registry, stock) = open(&arguments.plain[0])?;
     match number(&arguments.plain[1]) {
         Some(0) => Content::stock(&stock).deliver(arguments)?,

@@ -1,11 +1,11 @@
 //! The commands: what each takes, does and says of itself.
-use crate::arguments::{Arguments, Choice};
+use crate::arguments::{Arguments, Choice, FILE};
 use crate::failure::Failure;
-use crate::files::{not_over, print, shown, Content, Either, Input, Inputs, Stock};
+use crate::files::{keep, print, shown, Content, Either, Input, Inputs, Stock};
 use crate::{book, comparing, Status};
 use caplune::text::{self, Names};
 use caplune::{Address, Transducer};
-use std::ffi::OsString;
+use std::ffi::{OsStr, OsString};
 use std::fmt::Write;
 
 /// A command of the program.
@@ -21,7 +21,7 @@ pub struct Command {
     run: fn(&Arguments) -> Result<Status, Failure>,
 }
 
-const OUTPUT: Choice = Choice { name: "-o", takes: Some("FILE"), says: "write to FILE, not to standard output" };
+const OUTPUT: Choice = Choice { name: "-o", takes: Some(FILE), says: "write to FILE, not to standard output" };
 const BYTES: Choice =
     Choice { name: "--bytes", takes: None, says: "write bytes, and the table FILE.names beside FILE; else text" };
 const PLAN: Choice = Choice { name: "--bytes", takes: None, says: "write bytes; else text" };
@@ -33,10 +33,10 @@ const MOST: Choice = Choice {
 };
 const SVG: Choice = Choice {
     name: "--svg",
-    takes: Some("FILE"),
+    takes: Some(FILE),
     says: "draw the difference of two sheets as a picture; none if they are alike",
 };
-const STOCK: Choice = Choice { name: "--stock", takes: Some("FILE"), says: "write the joined sheet's stock to FILE" };
+const STOCK: Choice = Choice { name: "--stock", takes: Some(FILE), says: "write the joined sheet's stock to FILE" };
 const AREA: Choice =
     Choice { name: "--area", takes: Some("N"), says: "the book has room for N bytes (else for any 32 sheets)" };
 
@@ -236,6 +236,7 @@ pub fn run(words: &[OsString]) -> Result<Status, Failure> {
     if !(least..=most).contains(&arguments.plain.len()) {
         return Err(wrong(&format!("it takes {}", command.takes), Some(command)));
     }
+    keep(&command.outputs(&arguments), command.files(&arguments))?;
     (command.run)(&arguments)
 }
 
@@ -278,6 +279,18 @@ The status is 0 if it is done or the sheets are alike, 1 if they differ,
 }
 
 impl Command {
+    /// The files that the options name, to be written.
+    fn outputs<'a>(&self, arguments: &'a Arguments) -> Vec<&'a OsStr> {
+        let options = self.choices.iter().filter(|choice| choice.takes == Some(FILE));
+        options.filter_map(|choice| arguments.value(choice.name)).collect()
+    }
+
+    /// The words that are files: all but a place or a number, which stands last.
+    fn files<'a>(&self, arguments: &'a Arguments) -> &'a [OsString] {
+        let last = ["PLACE", "NUMBER"].iter().any(|word| self.takes.ends_with(word));
+        &arguments.plain[..arguments.plain.len() - usize::from(last)]
+    }
+
     fn help(&self) -> String {
         let Command { name, takes, choices, does, more, example, .. } = self;
         let options = if choices.is_empty() { "" } else { "[OPTION...] " };
@@ -431,11 +444,13 @@ fn join(arguments: &Arguments) -> Result<Status, Failure> {
     let first = inputs.sheet(&arguments.plain[1], &first_stock)?;
     let second = inputs.sheet(&arguments.plain[3], &second_stock)?;
     let joined = first.transducer.then(&second.transducer).map_err(|refusal| Failure::refused(&both(1, 3), refusal))?;
-    let stock_file = arguments.value("--stock");
-    not_over(stock_file, &arguments.value("-o").map(OsString::from).into_iter().collect::<Vec<_>>())?;
-    if let Some(file) = stock_file {
-        Content::stock(&stock).write(Some(file), arguments.has("--bytes"))?;
+    let (file, stock_file, bytes) = (arguments.value("-o"), arguments.value("--stock"), arguments.has("--bytes"));
+    let (sheet, stock) = (Content::numbered(&joined, &stock.names), Content::stock(&stock));
+    // both can be written, or neither is
+    sheet.fits(file, bytes)?;
+    if stock_file.is_some() {
+        stock.write(stock_file, bytes)?;
     }
-    Content::numbered(&joined, &stock.names).deliver(arguments)?;
+    sheet.write(file, bytes)?;
     Ok(Status::Done)
 }

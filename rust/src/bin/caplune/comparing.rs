@@ -2,7 +2,7 @@
 use crate::arguments::Arguments;
 use crate::commands::block;
 use crate::failure::Failure;
-use crate::files::{not_over, print, write_file, Inputs, Sheet, Stock};
+use crate::files::{print, write_file, Inputs, Sheet, Stock};
 use crate::Status;
 use caplune::drawing::{short, svg, Drawn};
 use caplune::{text, Comparison, Difference, Refusal, Transducer};
@@ -21,7 +21,6 @@ pub fn compare(arguments: &Arguments) -> Result<Status, Failure> {
     if arguments.has("--svg") && files.len() != 2 {
         return Err(Failure::Told("--svg draws the difference of two sheets, and more are given".to_string()));
     }
-    not_over(arguments.value("--svg"), &arguments.plain)?;
     let sheets = files.iter().map(|file| inputs.sheet(file, &stock)).collect::<Result<Vec<_>, _>>()?;
     match &sheets[..] {
         [first, second] => two(&stock, first, second, arguments),
