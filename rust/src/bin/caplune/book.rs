@@ -6,7 +6,7 @@ use crate::files::{
     free_name, keep_beside, names_beside, own_table, print, remove_table, shown, write_table, Content, Inputs, Stock,
 };
 use crate::Status;
-use caplune::{store, text, Registry};
+use caplune::{store, text, Refusal, Registry};
 use std::ffi::OsStr;
 use std::path::Path;
 
@@ -15,7 +15,7 @@ const WRITTEN_BESIDE: &[&str] = &[".names", ".new~"];
 
 /// Makes a book.
 pub fn make(arguments: &Arguments) -> Result<Status, Failure> {
-    let area = arguments.number("--area", Registry::LONGEST_AREA, Registry::LONGEST_AREA)?;
+    let area = arguments.number("--size", Registry::LONGEST_AREA, Registry::LONGEST_AREA)?;
     let path = path_of(&arguments.plain[0])?;
     free_name(path)?;
     keep_beside(path, WRITTEN_BESIDE, &arguments.plain[1..])?;
@@ -26,7 +26,7 @@ pub fn make(arguments: &Arguments) -> Result<Status, Failure> {
         own_table(path)?;
         remove_table(path).map_err(|error| Failure::of_file(&name, error))?;
     }
-    store::make(path, &stock.alphabets, area).map_err(|error| Failure::of_book(&name, error))?;
+    store::make(path, &stock.alphabets, area).map_err(|error| failed(path, error))?;
     write_table(path, &text::write_names(&stock.names))?;
     Ok(Status::Done)
 }
@@ -39,10 +39,21 @@ fn path_of(file: &OsStr) -> Result<&Path, Failure> {
     }
 }
 
+/// Why a book is not made, read or changed.
+fn failed(path: &Path, error: store::Error) -> Failure {
+    let is_empty = std::fs::metadata(path).is_ok_and(|found| found.len() == 0);
+    match error {
+        store::Error::Damaged(_) if is_empty => {
+            Failure::empty(&shown(path.as_os_str()), Some(Refusal::BadRegistry), "a book")
+        }
+        error => Failure::of_book(&shown(path.as_os_str()), error),
+    }
+}
+
 /// A book on disk, with the stock that it was made for.
 fn open(file: &OsStr) -> Result<(Registry, Stock), Failure> {
     let path = path_of(file)?;
-    let registry = store::read(path).map_err(|error| Failure::of_book(&shown(file), error))?;
+    let registry = store::read(path).map_err(|error| failed(path, error))?;
     let alphabets = registry.alphabets().clone();
     let names = names_beside(Some(path), &alphabets)?;
     Ok((registry, Stock { alphabets, names }))
@@ -67,7 +78,7 @@ pub fn enter(arguments: &Arguments) -> Result<Status, Failure> {
         };
         sheets.into_iter().map(entered).collect::<Vec<_>>()
     });
-    let answers = answers.map_err(|error| Failure::of_book(&shown(file), error))?;
+    let answers = answers.map_err(|error| failed(Path::new(file), error))?;
     let mut refused = false;
     for answer in answers {
         match answer {

@@ -21,10 +21,12 @@ pub fn compare(arguments: &Arguments) -> Result<Status, Failure> {
     if arguments.has("--svg") && files.len() != 2 {
         return Err(Failure::Told("--svg draws the difference of two sheets, and more are given".to_string()));
     }
-    let sheets = files.iter().map(|file| inputs.sheet(file, &stock)).collect::<Result<Vec<_>, _>>()?;
-    match &sheets[..] {
-        [first, second] => two(&stock, first, second, arguments),
-        many => classes(many),
+    match files {
+        [first, second] => {
+            let [first, second] = [inputs.sheet(first, &stock)?, inputs.sheet(second, &stock)?];
+            two(&stock, &first, &second, arguments)
+        }
+        many => classes(many.iter().map(|file| inputs.sheet(file, &stock))),
     }
 }
 
@@ -96,20 +98,37 @@ impl Drawings {
     }
 }
 
-/// Prints the classes of alike sheets, a line each, in the order of their first sheets.
-fn classes(sheets: &[Sheet]) -> Result<Status, Failure> {
+/// Prints the classes of alike sheets, a line each, in the order of their first sheets. Those that are refused are told
+/// one by one.
+fn classes(sheets: impl Iterator<Item = Result<Sheet, Failure>>) -> Result<Status, Failure> {
     let mut classes: Vec<(Transducer, Vec<String>)> = Vec::new();
-    for Sheet { name, transducer, .. } in sheets {
-        let form = transducer.normal_form().map_err(|refusal| Failure::refused(name, refusal))?;
-        match classes.iter_mut().find(|(other, _)| *other == form) {
-            Some((_, names)) => names.push(apart(name)),
-            None => classes.push((form, vec![apart(name)])),
+    let mut refused = false;
+    for cleaned in sheets.map(|sheet| sheet.and_then(cleaned)) {
+        match cleaned {
+            Ok((name, form)) => match classes.iter_mut().find(|(other, _)| *other == form) {
+                Some((_, names)) => names.push(name),
+                None => classes.push((form, vec![name])),
+            },
+            Err(failure) => {
+                failure.tell();
+                refused = true;
+            }
         }
     }
     for (number, (_, names)) in (1..).zip(&classes) {
         print(&format!("{number}: {}\n", names.join(" ")))?;
     }
-    Ok(if classes.len() > 1 { Status::Differing } else { Status::Done })
+    match classes.len() {
+        _ if refused => Err(Failure::ToldBefore),
+        0 | 1 => Ok(Status::Done),
+        _ => Ok(Status::Differing),
+    }
+}
+
+/// The name of a sheet, as it stands in its class, and its clean sheet.
+fn cleaned(sheet: Sheet) -> Result<(String, Transducer), Failure> {
+    let form = sheet.transducer.normal_form().map_err(|refusal| Failure::refused(&sheet.name, refusal))?;
+    Ok((apart(&sheet.name), form))
 }
 
 /// A name that can be told from its neighbours on a line.

@@ -2,7 +2,7 @@
 use crate::arguments::Arguments;
 use crate::failure::Failure;
 use caplune::text::{self, Kind, Names, StateNames};
-use caplune::{store, Alphabets, InputTree, OutputTree, Registry, Transducer};
+use caplune::{store, Alphabets, InputTree, OutputTree, Refusal, Registry, Transducer};
 use std::ffi::{OsStr, OsString};
 use std::fs::File;
 use std::io::{self, Read, Write};
@@ -97,7 +97,7 @@ impl Inputs {
     pub fn xml(&mut self, file: Option<&OsString>, stock: &Stock) -> Result<OutputTree, Failure> {
         let input = self.read_or_standard_input(file)?;
         let read = OutputTree::from_xml(&stock.alphabets, &input.bytes);
-        read.map_err(|refusal| Failure::refused(&input.name, refusal))
+        read.map_err(|refusal| input.refused(refusal, "the XML of a plan"))
     }
 
     fn read_or_standard_input(&mut self, file: Option<&OsString>) -> Result<Input, Failure> {
@@ -111,13 +111,34 @@ impl Input {
         text::is_text(&self.bytes)
     }
 
+    /// Whether there is nothing in it, or line ends alone.
+    fn is_empty(&self) -> bool {
+        self.bytes.iter().all(|byte| matches!(byte, b'\n' | b'\r'))
+    }
+
+    /// The library refuses it, where this was expected.
+    fn refused(&self, refusal: Refusal, expected: &str) -> Failure {
+        match self.is_empty() {
+            true => Failure::empty(&self.name, Some(refusal), expected),
+            false => Failure::refused(&self.name, refusal),
+        }
+    }
+
+    /// It is not read as a table of names.
+    fn unread(&self, error: text::Error) -> Failure {
+        match self.is_empty() {
+            true => Failure::empty(&self.name, None, "a table of names"),
+            false => Failure::of_text(&self.name, error),
+        }
+    }
+
     /// It as a stock.
     pub fn stock(&self) -> Result<Stock, Failure> {
         if self.is_text() {
             let read = text::read_alphabets(&self.bytes).map_err(|error| Failure::of_text(&self.name, error))?;
             return Ok(Stock { alphabets: read.0, names: read.1 });
         }
-        let alphabets = Alphabets::read(&self.bytes).map_err(|refusal| Failure::refused(&self.name, refusal))?;
+        let alphabets = Alphabets::read(&self.bytes).map_err(|refusal| self.refused(refusal, "a stock"))?;
         let names = names_beside(self.path.as_deref(), &alphabets)?;
         Ok(Stock { alphabets, names })
     }
@@ -130,11 +151,12 @@ impl Input {
             return Ok(Sheet { name, transducer, states });
         }
         let transducer =
-            Transducer::read(alphabets, &self.bytes).map_err(|refusal| Failure::refused(&name, refusal))?;
+            Transducer::read(alphabets, &self.bytes).map_err(|refusal| self.refused(refusal, "a sheet"))?;
         let states = match table_beside(self.path.as_deref())? {
             None => StateNames::numbered(transducer.states()),
-            Some(table) => text::read_state_names(&table.bytes, transducer.states())
-                .map_err(|error| Failure::of_text(&table.name, error))?,
+            Some(table) => {
+                text::read_state_names(&table.bytes, transducer.states()).map_err(|error| table.unread(error))?
+            }
         };
         Ok(Sheet { name, transducer, states })
     }
@@ -145,7 +167,7 @@ impl Input {
             let read = text::read_input_tree(&self.bytes, alphabets, names);
             return read.map_err(|error| Failure::of_text(&self.name, error));
         }
-        InputTree::read(alphabets, &self.bytes).map_err(|refusal| Failure::refused(&self.name, refusal))
+        InputTree::read(alphabets, &self.bytes).map_err(|refusal| self.refused(refusal, "a design"))
     }
 
     fn plan(&self, stock: &Stock) -> Result<OutputTree, Failure> {
@@ -154,7 +176,7 @@ impl Input {
             let read = text::read_output_tree(&self.bytes, alphabets, names);
             return read.map_err(|error| Failure::of_text(&self.name, error));
         }
-        OutputTree::read(alphabets, &self.bytes).map_err(|refusal| Failure::refused(&self.name, refusal))
+        OutputTree::read(alphabets, &self.bytes).map_err(|refusal| self.refused(refusal, "a plan"))
     }
 
     /// A sheet or a design, by the first word of a text; bytes are what they can be read as, or what `--as` says.
@@ -179,6 +201,7 @@ impl Input {
             (Ok(_), Err(_)) => self.sheet(stock).map(Either::Sheet),
             (Err(_), Ok(design)) => Ok(Either::Design(design)),
             (Ok(_), Ok(_)) => Err(Failure::of_file(&self.name, "a sheet and a design at once: say which by --as")),
+            _ if self.is_empty() => Err(Failure::empty(&self.name, None, "a sheet or a design")),
             (Err(sheet), Err(design)) => {
                 let why = format!("no sheet ({sheet}) and no design ({design})");
                 Err(Failure::of_file(&self.name, why + "; what to do: say which it is by --as, to read what is wrong"))
@@ -235,7 +258,7 @@ fn table_beside(path: Option<&Path>) -> Result<Option<Input>, Failure> {
 pub fn names_beside(path: Option<&Path>, alphabets: &Alphabets) -> Result<Names, Failure> {
     match table_beside(path)? {
         None => Ok(Names::codes(alphabets)),
-        Some(table) => text::read_names(&table.bytes, alphabets).map_err(|error| Failure::of_text(&table.name, error)),
+        Some(table) => text::read_names(&table.bytes, alphabets).map_err(|error| table.unread(error)),
     }
 }
 
