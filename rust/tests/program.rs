@@ -498,9 +498,9 @@ fn small_stacks() {
     let ended = folder.run(Path::new("/bin/sh"), &["-c", script, PROGRAM], b"");
     assert!(told(&ended, script).starts_with("deepest: refused by 10: "), "{ended:?}");
     // where there is no memory for a stack, that is told
-    let script = "ulimit -v 10000; exec \"$0\" --version";
+    let script = "ulimit -v 8000; exec \"$0\" --version";
     let ended = folder.run(Path::new("/bin/sh"), &["-c", script, PROGRAM], b"");
-    assert!(told(&ended, script).starts_with("there is no memory for a stack of 8388608 bytes: "), "{ended:?}");
+    assert!(told(&ended, script).starts_with("no thread with a stack of 8388608 bytes can be made: "), "{ended:?}");
 }
 
 /// What is not told apart, or is something else.
@@ -773,13 +773,44 @@ fn late_differences() {
     let ended = folder.caplune("compare --svg difference.svg stock one two");
     assert_eq!((ended.status, &ended.err[..]), (Some(1), ""));
     let lines: Vec<&str> = ended.text().lines().collect();
-    assert!(lines.len() < 400, "{}", lines.len());
+    assert!(lines.len() < 40, "{}", lines.len());
+    let drawn = ended.text().split("the design:\n").nth(1).and_then(|rest| rest.split("\n\n").next()).unwrap();
+    assert!(drawn.contains("─ … (") && drawn.contains(" parts)\n") && drawn.ends_with("a2 <=="), "{drawn}");
+    let picture = String::from_utf8(folder.read("difference.svg")).unwrap();
+    assert!(picture.lines().count() < 80 && picture.contains(" parts)</text>"), "{picture}");
     folder.write("design.txt", lines[1].as_bytes());
     let place = lines[2].strip_prefix("place ").unwrap();
     for (sheet, line) in [("one", lines[3]), ("two", lines[4])] {
         let found = folder.prints(&format!("place stock {sheet} design.txt {place}"));
         assert_eq!(format!("{sheet} holds {} there", found.trim_end()), line);
     }
+}
+
+/// Two sheets that go on with the two sub-parts of the twentieth part, of which one ends 30 levels below: the chain is
+/// folded twice, and the leaf at which each lays its block is seen and marked.
+#[test]
+fn leaves_that_decide() {
+    let folder = Folder::new();
+    folder.write("stock", b"stock parts a/2 e/0 c/0 blocks g/1 u/0 v/0");
+    for (name, variable) in [("left", "x1"), ("right", "x2")] {
+        let mut sheet = "sheet opening p1(x1)\n".to_string();
+        for pass in 1..=20 {
+            let next = if pass < 20 { format!("p{}(x1)", pass + 1) } else { format!("r1({variable})") };
+            sheet += &format!("p{pass}(a(x1, x2)) -> g({next}) p{pass}(e) -> u p{pass}(c) -> u\n");
+        }
+        for pass in 1..=30 {
+            let (next, last) = if pass < 30 { (format!("r{}(x1)", pass + 1), "u") } else { ("u".to_string(), "v") };
+            sheet += &format!("r{pass}(a(x1, x2)) -> {next} r{pass}(e) -> u r{pass}(c) -> {last}\n");
+        }
+        folder.write(name, sheet.as_bytes());
+    }
+    let ended = folder.caplune("compare stock left right");
+    assert_eq!((ended.status, &ended.err[..]), (Some(1), ""));
+    let drawn = ended.text().split("the design:\n").nth(1).and_then(|rest| rest.split("\n\n").next()).unwrap();
+    let labels: Vec<&str> = drawn.lines().map(|line| line.trim_start_matches([' ', '│', '├', '└', '─'])).collect();
+    let (down, up) = labels.split_at(labels.iter().position(|label| label.ends_with("<==")).unwrap());
+    assert_eq!(down, ["a", "a", "a", "… (28 parts)", "a", "a", "a", "a", "a", "a", "… (46 parts)", "a", "a", "a"]);
+    assert_eq!(up, ["c <==", "e", "e", "e", "e", "e", "e", "e <==", "e", "e", "e", "e", "e"]);
 }
 
 /// What has no such place is told by words that are no name.

@@ -141,7 +141,8 @@ const COMMANDS: &[Command] = &[
         words: (3, ANY),
         choices: &[SVG],
         does: "tell whether sheets give equal plans on every design",
-        more: "Of two sheets that do not, it shows a design, a place, and the plans around it; of more\n\
+        more: "Of two sheets that do not, it shows a design, a place, and the plans around it. In the design\n\
+               the parts at which the two blocks are laid are marked, and long chains are folded. Of more\n\
                than two it lists the classes of alike ones. The status is 0 if all are alike, and 1 if not.\n\
                Of more than two, a sheet that is refused is told, the others are compared, and the status is 2.",
         example: "caplune compare --svg difference.svg stock.txt t.txt u.txt",

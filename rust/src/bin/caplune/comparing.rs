@@ -4,8 +4,8 @@ use crate::commands::block;
 use crate::failure::Failure;
 use crate::files::{print, write_file, Inputs, Sheet, Stock};
 use crate::Status;
-use caplune::drawing::{short, svg, Drawn};
-use caplune::{text, Comparison, Difference, Refusal, Transducer};
+use caplune::drawing::{origin, short, svg, Drawn};
+use caplune::{text, Address, Comparison, Difference, Refusal, Transducer};
 use std::path::Path;
 
 /// How many parts of a design are drawn.
@@ -62,8 +62,11 @@ impl Drawings {
     fn of(stock: &Stock, sheets: [&Sheet; 2], shown: &Difference) -> Result<Self, Refusal> {
         let names = stock.names.outputs();
         let plan = |transducer: &Transducer| Drawn::around(transducer, &shown.tree, &shown.address, names, DISTANCE);
+        // the parts at which the two blocks are laid, which are seen however far down they are
+        let lays = |sheet: &Sheet| origin(&sheet.transducer, &shown.tree, &shown.address);
+        let parts: Vec<Address> = sheets.into_iter().filter_map(lays).collect();
         Ok(Drawings {
-            design: Drawn::input_tree(&shown.tree, stock.names.inputs(), MOST_PARTS),
+            design: Drawn::input_tree(&shown.tree, stock.names.inputs(), MOST_PARTS, &parts),
             plans: [plan(&sheets[0].transducer)?, plan(&sheets[1].transducer)?],
         })
     }

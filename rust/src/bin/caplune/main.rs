@@ -32,7 +32,9 @@ fn main() -> ExitCode {
     match Builder::new().stack_size(STACK).spawn(move || ended(commands::run(&words))) {
         // why it panicked was told
         Ok(command) => command.join().unwrap_or_else(|panic| std::panic::resume_unwind(panic)),
-        Err(error) => ended(Err(Failure::Told(format!("there is no memory for a stack of {STACK} bytes: {error}")))),
+        Err(error) => {
+            ended(Err(Failure::Told(format!("no thread with a stack of {STACK} bytes can be made: {error}"))))
+        }
     }
 }
 
