@@ -119,19 +119,11 @@ pub fn resolved(path: &Path) -> PathBuf {
             return found;
         }
         match fs::read_link(&path) {
-            Ok(target) => path = folder_of(&path).join(target),
+            Ok(target) => path = path.parent().unwrap_or(Path::new("")).join(target),
             Err(_) => break,
         }
     }
-    match (fs::canonicalize(folder_of(&path)), path.file_name()) {
-        (Ok(folder), Some(name)) => folder.join(name),
-        _ => path,
-    }
-}
-
-/// The folder that a path's file is in.
-fn folder_of(path: &Path) -> &Path {
-    path.parent().filter(|folder| !folder.as_os_str().is_empty()).unwrap_or(Path::new("."))
+    path
 }
 
 /// The path of a file beside another: this stands behind its name.
@@ -167,8 +159,9 @@ fn write_and_rename(
     write: impl FnOnce(&mut dyn Write) -> io::Result<()>,
     ready: impl FnOnce() -> io::Result<()>,
 ) -> io::Result<()> {
+    let folder = path.parent().filter(|folder| !folder.as_os_str().is_empty()).unwrap_or(Path::new("."));
     // opened first, so that nothing has changed where it cannot be
-    let folder = File::open(folder_of(path))?;
+    let folder = File::open(folder)?;
     let mut file = File::options().write(true).create_new(true).open(beside).map_err(|error| named(beside, error))?;
     let written = write_through(path, &mut file, write).and_then(|()| ready()).and_then(|()| fs::rename(beside, path));
     if let Err(error) = written {

@@ -4,21 +4,19 @@ use crate::commands::count;
 use crate::failure::Failure;
 use crate::files::{
     free_name, keep_beside, names_beside, own_table, print, remove_table, shown, write_table, Content, Inputs, Stock,
+    NAMES, UNFINISHED,
 };
 use crate::Status;
 use caplune::{store, text, Refusal, Registry};
 use std::ffi::OsStr;
 use std::path::Path;
 
-/// The endings of what is written, or removed, beside a book.
-const WRITTEN_BESIDE: &[&str] = &[".names", ".new~"];
-
 /// Makes a book.
 pub fn make(arguments: &Arguments) -> Result<Status, Failure> {
     let area = arguments.number("--size", Registry::LONGEST_AREA, Registry::LONGEST_AREA)?;
     let path = path_of(&arguments.plain[0])?;
     free_name(path)?;
-    keep_beside(path, WRITTEN_BESIDE, &arguments.plain[1..])?;
+    keep_beside(path, &[NAMES, UNFINISHED], &arguments.plain[1..])?;
     let stock = Inputs::default().stock(&arguments.plain[1])?;
     let name = shown(path.as_os_str());
     if !path.exists() && Registry::new(&stock.alphabets, area).is_ok() {
@@ -63,7 +61,7 @@ fn open(file: &OsStr) -> Result<(Registry, Stock), Failure> {
 /// the book is on disk.
 pub fn enter(arguments: &Arguments) -> Result<Status, Failure> {
     let file = &arguments.plain[0];
-    keep_beside(path_of(file)?, WRITTEN_BESIDE, &arguments.plain[1..])?;
+    keep_beside(path_of(file)?, &[UNFINISHED], &arguments.plain[1..])?;
     // the stock of a book never changes, so it can be read before the book is kept from others
     let (_, stock) = open(file)?;
     let mut inputs = Inputs::default();

@@ -278,9 +278,8 @@ where they do not. It sews, cleans and joins sheets, and keeps a book of them.
                fixed number of places, none to four, for smaller parts
   plan         what the machine sews: a tree of stitch blocks, built the same way
   sheet        the table that turns a design into a plan for one fabric
-  pass         one way in which a sheet reads a part: for each kind of part it has
-               a line, a piece of plan whose open ends say which pass goes on with
-               which smaller part
+  pass         one way in which a sheet reads a part: a line for each kind of part,
+               whose open ends say which pass goes on with which smaller part
   clean sheet  a sheet that lays every block as early as it is certain, holds no
                two passes that do the same, and numbers its passes as they are met
 
@@ -407,16 +406,6 @@ fn no_plan(design: &str, refusal: Refusal, most: usize) -> Failure {
     Failure::of_file(design, format!("{why}; what to do: {remedy}"))
 }
 
-/// The highest limit is not advised to be raised.
-#[test]
-fn highest_limit() {
-    for (most, advice) in [(Transducer::MOST_OUTPUT, "take a smaller design"), (1 << 20, "allow more by --most")] {
-        let Failure::Told(line) = no_plan("design", Refusal::LongOutput, most) else { panic!("it is told") };
-        assert!(line.starts_with(&format!("design: refused by 6: the plan has more blocks than {most}; ")), "{line}");
-        assert!(line.contains(&format!("what to do: {advice}")), "{line}");
-    }
-}
-
 fn place(arguments: &Arguments) -> Result<Status, Failure> {
     let mut inputs = Inputs::default();
     let stock = inputs.stock(&arguments.plain[0])?;
@@ -502,4 +491,14 @@ fn join(arguments: &Arguments) -> Result<Status, Failure> {
     }
     sheet.write(file, bytes)?;
     Ok(Status::Done)
+}
+
+/// The highest limit is not advised to be raised.
+#[test]
+fn highest_limit() {
+    for (most, advice) in [(Transducer::MOST_OUTPUT, "take a smaller design"), (1 << 20, "allow more by --most")] {
+        let Failure::Told(line) = no_plan("design", Refusal::LongOutput, most) else { panic!("it is told") };
+        assert!(line.starts_with(&format!("design: refused by 6: the plan has more blocks than {most}; ")), "{line}");
+        assert!(line.contains(&format!("what to do: {advice}")), "{line}");
+    }
 }

@@ -399,8 +399,10 @@ pub fn write_file(path: &Path, text: &str) -> Result<(), Failure> {
 /// The endings of names that the program gives to files beside others, and what these are.
 const KEPT_ENDINGS: [(&str, &str); 3] =
     [(NAMES, "tables of names"), (".lock", "locks of books"), (UNFINISHED, "files that are not whole yet")];
-const NAMES: &str = ".names";
-const UNFINISHED: &str = ".new~";
+/// The ending of a table of names.
+pub const NAMES: &str = ".names";
+/// The ending of a file that is not whole yet.
+pub const UNFINISHED: &str = ".new~";
 
 /// Nothing is lost by what a command writes: no output is a file that it reads, a table of names, a lock, a book or
 /// another output, and no table of names that is written beside an output is a file that it reads. This is asked of
@@ -439,7 +441,10 @@ pub fn keep_beside(path: &Path, endings: &[&str], inputs: &[OsString]) -> Result
 /// may be a file too.
 fn read_files(inputs: &[OsString]) -> impl Iterator<Item = PathBuf> + '_ {
     let named = inputs.iter().filter(|input| *input != "-").map(PathBuf::from);
-    let with_tables = named.flat_map(|input| [table_of(&input), input].into_iter().rev());
+    let with_tables = named.flat_map(|input| {
+        let table = table_of(&input);
+        [input, table]
+    });
     with_tables.chain([PathBuf::from(STANDARD_INPUT)]).filter(|path| path.exists())
 }
 
@@ -461,9 +466,9 @@ fn of_no_program_file(path: &Path) -> Result<(), Failure> {
     let mut start = Vec::new();
     // what cannot be read is not known to be one
     let _ = File::open(path).and_then(|file| file.take(LONGEST).read_to_end(&mut start));
-    let what = match () {
-        _ if Registry::is_begun(&start) => "a book",
-        _ if text::kind(&start) == Ok(Kind::Names) => "a table of names",
+    let what = match (Registry::is_begun(&start), text::kind(&start)) {
+        (true, _) => "a book",
+        (false, Ok(Kind::Names)) => "a table of names",
         _ => return Ok(()),
     };
     Err(Failure::of_file(&shown_path(path), format!("it is {what}, and would be overwritten: give another file")))
@@ -472,7 +477,17 @@ fn of_no_program_file(path: &Path) -> Result<(), Failure> {
 /// Whether two paths lead to one file, over links of either kind.
 fn same(one: &Path, two: &Path) -> bool {
     let number = file_number(one);
-    store::resolved(one) == store::resolved(two) || number.is_some() && number == file_number(two)
+    whole_path(one) == whole_path(two) || number.is_some() && number == file_number(two)
+}
+
+/// The whole path of the file that a path leads to, even if there is none yet.
+fn whole_path(path: &Path) -> PathBuf {
+    let path = store::resolved(path);
+    let folder = path.parent().filter(|folder| !folder.as_os_str().is_empty()).unwrap_or(Path::new("."));
+    match (folder.canonicalize(), path.file_name()) {
+        (Ok(folder), Some(name)) => folder.join(name),
+        _ => path,
+    }
 }
 
 /// The number of a file with that of its disk: a file of several names has one.
