@@ -16,11 +16,12 @@
 //! assert!(svg(&[("first".to_string(), drawn)]).contains("#d62728"));
 //! # Ok::<(), Refusal>(())
 //! ```
-use crate::{Address, InputTree, Refusal, Transducer};
-use std::collections::{BTreeMap, VecDeque};
+use crate::{Address, InputTree, Mark, Refusal, Transducer};
+use std::collections::{BTreeMap, HashSet, VecDeque};
 use std::fmt::Write;
 
-/// A tree to draw: the nodes that are drawn, in preorder, and a "…" for each run of children that are left out.
+/// A tree to draw: the nodes that are drawn, in preorder, a "…" for each run of children that are left out, and a line
+/// for each chain that is folded.
 #[must_use]
 #[derive(Clone, Debug, PartialEq, Eq)]
 pub struct Drawn {
@@ -43,11 +44,18 @@ enum Kind {
     Marked,
     /// Not a node: it stands for adjacent children that are left out, or for all that is above the first node.
     LeftOut,
+    /// Not a node: it stands for the middle of a chain.
+    Folded,
 }
 
 impl Node {
     fn left_out(level: usize) -> Self {
         Node { level, label: "…".to_string(), kind: Kind::LeftOut }
+    }
+
+    /// The middle of a chain, of so many nodes.
+    fn folded(level: usize, count: usize) -> Self {
+        Node { level, label: format!("… ({count} parts)"), kind: Kind::Folded }
     }
 
     /// The node of a symbol. A symbol without a name has its number as its label.
@@ -63,33 +71,49 @@ impl Drawn {
     /// has.
     pub const MOST_NODES: usize = 4_096;
 
-    /// The whole of an input tree (the paper: a design) if it has at most `most` nodes; otherwise the first `most`
-    /// nodes in breadth-first order, and "…" in place of the children that are left out. `names` are those of the input
-    /// symbols.
+    /// An input tree (the paper: a design), in which long chains are folded: of a chain the first and the last three
+    /// nodes are drawn, and one line tells how many are between. A chain goes on from a node to its one child that is no
+    /// leaf. If more than `most` nodes are left, the first ones in breadth-first order are drawn, and "…" in place of
+    /// the children that are left out. The nodes at the addresses `marked` are marked and always drawn, as are those on
+    /// the way to them, but for chains, which are folded. `names` are those of the input symbols.
     ///
     /// ```
     /// use caplune::drawing::Drawn;
-    /// use caplune::{Alphabets, InputTree, Refusal};
-    /// let tree = InputTree::read(&Alphabets::new(&[2, 0], &[0])?, &[0, 0, 1, 1, 1])?;
-    /// let drawn = Drawn::input_tree(&tree, &["a".to_string()], 3);
+    /// use caplune::{Address, Alphabets, InputTree, Refusal};
+    /// let alphabets = Alphabets::new(&[2, 0], &[0])?;
+    /// let tree = InputTree::read(&alphabets, &[0, 0, 1, 1, 1])?;
+    /// let drawn = Drawn::input_tree(&tree, &["a".to_string()], 3, &[]);
     /// assert_eq!((drawn.to_text().as_str(), drawn.left_out()), ("a\n├─ a\n│  └─ …\n└─ 1\n", 2));
+    /// // 100 nodes of rank 2, each over the next one and a leaf
+    /// let tree = InputTree::read(&alphabets, &[vec![0; 100], vec![1; 101]].concat())?;
+    /// let text = Drawn::input_tree(&tree, &[], 60, &[]).to_text();
+    /// assert!(text.contains("─ … (188 parts)\n") && text.lines().count() == 14);
     /// # Ok::<(), Refusal>(())
     /// ```
-    pub fn input_tree(tree: &InputTree, names: &[String], most: usize) -> Drawn {
-        let levels = levels(tree.as_bytes(), tree.alphabets().input_ranks());
-        let mut breadth_first: Vec<(usize, usize)> = levels.iter().copied().zip(0..).collect();
-        breadth_first.sort_unstable();
-        let first_left_out = breadth_first.get(most).copied();
-        // The first level at which a node is left out: in preorder, nodes before the first one left out are kept on its
-        // level too.
-        let limit = |node: usize| first_left_out.map_or(usize::MAX, |(level, first)| level + usize::from(node < first));
-        let entries = levels.iter().zip(tree.as_bytes()).enumerate();
-        let shown = entries.filter(|&(node, (&level, _))| level <= limit(node));
-        let nodes = shown.map(|(node, (&level, &symbol))| match level < limit(node) {
-            true => Node::of(level, symbol, names, false),
-            false => Node::left_out(level),
-        });
-        Drawn { nodes: joined(nodes), top: Address::ROOT, left_out: tree.nodes().saturating_sub(most) }
+    pub fn input_tree(tree: &InputTree, names: &[String], most: usize, marked: &[Address]) -> Drawn {
+        let shape = Shape::of(ranks_of(tree));
+        let marked: Vec<usize> = marked.iter().filter_map(|address| shape.at(address)).collect();
+        let entries = shape.folded(&marked);
+        let drawn = shape.first(&entries, most, &marked);
+        let mut nodes = Vec::new();
+        // By level: whether the node that was met last is drawn.
+        let mut above: Vec<bool> = Vec::new();
+        for entry in &entries {
+            above.truncate(entry.level);
+            let (is_drawn, below_drawn) = (drawn.contains(&entry.node), above.last().is_none_or(|drawn| *drawn));
+            above.push(is_drawn);
+            match (is_drawn, entry.stands_for) {
+                (true, 1) => {
+                    let (symbol, is_marked) = (tree.as_bytes()[entry.node], marked.contains(&entry.node));
+                    nodes.push(Node::of(entry.level, symbol, names, is_marked));
+                }
+                (true, count) => nodes.push(Node::folded(entry.level, count)),
+                (false, _) if below_drawn => nodes.push(Node::left_out(entry.level)),
+                (false, _) => {}
+            }
+        }
+        let left_out = entries.iter().filter(|entry| !drawn.contains(&entry.node)).map(|entry| entry.stands_for).sum();
+        Drawn { nodes: joined(nodes.into_iter()), top: Address::ROOT, left_out }
     }
 
     /// The output tree of a transducer (the paper: a plan) around an address: all nodes at most `distance` steps from
@@ -125,7 +149,7 @@ impl Drawn {
         &self.top
     }
 
-    /// How many nodes [`input_tree`](Self::input_tree) left out. It is not known of an output tree, and 0 then.
+    /// How many nodes [`input_tree`](Self::input_tree) left out, without those that it folded. It is not known of an output tree, and 0 then.
     #[must_use]
     pub fn left_out(&self) -> usize {
         self.left_out
@@ -185,22 +209,172 @@ fn rank(ranks: &[u8], symbol: u8) -> u8 {
     ranks.get(usize::from(symbol)).copied().unwrap_or(0)
 }
 
-/// How many nodes are above each node of a tree in preorder.
-fn levels(symbols: &[u8], ranks: &[u8]) -> Vec<usize> {
-    // For each node above: how many of its children are not reached yet.
-    let mut above: Vec<u8> = Vec::new();
-    let mut levels = Vec::with_capacity(symbols.len());
-    for &symbol in symbols {
-        levels.push(above.len());
-        if let Some(left) = above.last_mut() {
-            *left = left.saturating_sub(1);
-        }
-        above.push(rank(ranks, symbol));
-        while above.last() == Some(&0) {
-            above.pop();
+/// The ranks of the nodes of an input tree, in preorder.
+fn ranks_of(tree: &InputTree) -> impl DoubleEndedIterator<Item = u8> + '_ {
+    tree.as_bytes().iter().map(|&symbol| rank(tree.alphabets().input_ranks(), symbol))
+}
+
+/// The address of the node at which a transducer writes the symbol at an address of its output tree (the paper: the part
+/// at which a sheet lays the block at a place). `None` where the initial term has that symbol, and where there is no such
+/// address.
+///
+/// ```
+/// use caplune::drawing::origin;
+/// use caplune::{Address, Alphabets, InputTree, Refusal, Transducer};
+/// let alphabets = Alphabets::new(&[1, 0], &[2, 0])?;
+/// // q(a(x1)) = f(q(x1), q(x1)), q(e) = e, with the initial term f(q(x1), q(x1))
+/// let file = [1, 0, 3, 0, 3, 0, 1, 0, 0, 1, 0, 1, 0, 0, 0, 1, 0, 1, 0, 0, 1];
+/// let (transducer, tree) = (Transducer::read(&alphabets, &file)?, InputTree::read(&alphabets, &[0, 1])?);
+/// let origin = |at: &[u8]| origin(&transducer, &tree, &Address::from(at.to_vec())).map(|found| found.to_string());
+/// assert_eq!([origin(&[]), origin(&[2]), origin(&[2, 1])], [None, Some("-".to_string()), Some("1".to_string())]);
+/// # Ok::<(), Refusal>(())
+/// ```
+#[must_use]
+pub fn origin(transducer: &Transducer, tree: &InputTree, address: &Address) -> Option<Address> {
+    let input = Shape::of(ranks_of(tree));
+    let output_ranks = transducer.alphabets().output_ranks();
+    let mut numbers = address.as_bytes().iter();
+    // Where in the input tree the right-hand side is read; nowhere yet in the initial term.
+    let (mut path, mut node): (Option<Vec<u8>>, usize) = (None, 0);
+    let (mut term, mut at) = (transducer.initial_term(), 0);
+    loop {
+        match *term.get(at)? {
+            Mark::Symbol(_) => {
+                let Some(&number) = numbers.next() else { return path.map(Address::from) };
+                at = Shape::of(term.iter().map(|mark| mark_rank(*mark, output_ranks))).child(at, number)?;
+            }
+            Mark::Call { child, state } => {
+                if path.is_some() {
+                    node = input.child(node, child)?;
+                }
+                path = Some(path.map_or(Vec::new(), |path| child_of(&path, child)));
+                term = transducer.right_hand_side(state.into(), tree.as_bytes()[node].into())?;
+                at = 0;
+            }
         }
     }
-    levels
+}
+
+/// The rank of a mark: that of its symbol, and 0 of a call.
+fn mark_rank(mark: Mark, ranks: &[u8]) -> u8 {
+    match mark {
+        Mark::Symbol(symbol) => rank(ranks, symbol),
+        Mark::Call { .. } => 0,
+    }
+}
+
+/// How many nodes of a chain are drawn at either end.
+const ENDS: usize = 3;
+/// The longest chain that is not folded.
+const LONGEST_CHAIN: usize = 9;
+
+/// The nodes of a tree, in preorder.
+struct Shape {
+    /// How many nodes are above each.
+    levels: Vec<usize>,
+    /// How many are at and below each.
+    sizes: Vec<usize>,
+}
+
+/// A node that is not folded, or the first of those that are.
+struct Entry {
+    node: usize,
+    /// How many entries are above it.
+    level: usize,
+    /// How many nodes it stands for: 1 where nothing is folded.
+    stands_for: usize,
+}
+
+impl Shape {
+    /// Of the tree of nodes with these ranks.
+    fn of(ranks: impl DoubleEndedIterator<Item = u8>) -> Self {
+        let mut sizes = Vec::new();
+        // From the end on: the sizes of the sub-trees whose parent is not reached yet.
+        let mut waiting: Vec<usize> = Vec::new();
+        for rank in ranks.rev() {
+            let children = waiting.len().saturating_sub(rank.into());
+            let size = 1 + waiting.drain(children..).sum::<usize>();
+            waiting.push(size);
+            sizes.push(size);
+        }
+        sizes.reverse();
+        let mut levels = vec![0; sizes.len()];
+        for (node, size) in sizes.iter().enumerate() {
+            levels[node + 1..node + size].iter_mut().for_each(|level| *level += 1);
+        }
+        Shape { levels, sizes }
+    }
+
+    fn children(&self, node: usize) -> impl Iterator<Item = usize> + '_ {
+        let end = node + self.sizes[node];
+        let next = move |child: &usize| self.sizes.get(*child).map(|size| child + size);
+        std::iter::successors(Some(node + 1), next).take_while(move |child| *child < end)
+    }
+
+    /// The child of this number, from 1 on.
+    fn child(&self, node: usize, number: u8) -> Option<usize> {
+        self.children(node).nth(usize::from(number).checked_sub(1)?)
+    }
+
+    /// The node at an address.
+    fn at(&self, address: &Address) -> Option<usize> {
+        address.as_bytes().iter().try_fold(0, |node, &number| self.child(node, number))
+    }
+
+    /// Where a chain goes on behind a node: its one child that is no leaf. There is none if it has more of them, or it
+    /// or one of its leaves is marked.
+    fn next(&self, node: usize, marked: &[usize]) -> Option<usize> {
+        let (leaves, others): (Vec<usize>, Vec<usize>) = self.children(node).partition(|&child| self.sizes[child] == 1);
+        let hides = leaves.iter().chain([&node]).any(|node| marked.contains(node));
+        match others[..] {
+            [next] if !hides => Some(next),
+            _ => None,
+        }
+    }
+
+    /// What is folded: from the first of the nodes of a chain that are not drawn up to the next one that is.
+    fn folds(&self, marked: &[usize]) -> Vec<(usize, usize)> {
+        let mut folds = Vec::new();
+        let mut chained = vec![false; self.sizes.len()];
+        for node in 0..self.sizes.len() {
+            if chained[node] {
+                continue;
+            }
+            let chain: Vec<usize> = std::iter::successors(Some(node), |node| self.next(*node, marked)).collect();
+            chain.iter().for_each(|node| chained[*node] = true);
+            if chain.len() > LONGEST_CHAIN {
+                folds.push((chain[ENDS], chain[chain.len() - ENDS]));
+            }
+        }
+        folds
+    }
+
+    /// The entries of the tree in preorder, with its long chains folded.
+    fn folded(&self, marked: &[usize]) -> Vec<Entry> {
+        let mut levels = self.levels.clone();
+        let mut stands_for = vec![1; levels.len()];
+        for (first, end) in self.folds(marked) {
+            let behind = end + self.sizes[end];
+            stands_for[first..end].fill(0);
+            stands_for[behind..first + self.sizes[first]].fill(0);
+            stands_for[first] = self.sizes[first] - self.sizes[end];
+            let passed = self.levels[end] - self.levels[first] - 1;
+            levels[end..behind].iter_mut().for_each(|level| *level -= passed);
+        }
+        let entries = levels.into_iter().zip(stands_for).enumerate();
+        let entry = |(node, (level, stands_for))| Entry { node, level, stands_for };
+        entries.map(entry).filter(|entry| entry.stands_for > 0).collect()
+    }
+
+    /// The nodes of the entries that are drawn: those on the way to a node that is marked, and the first ones in
+    /// breadth-first order, up to `most`.
+    fn first(&self, entries: &[Entry], most: usize, marked: &[usize]) -> HashSet<usize> {
+        let leads = |node: usize| marked.iter().any(|marked| (node..node + self.sizes[node]).contains(marked));
+        let mut order: Vec<_> = entries.iter().map(|entry| (!leads(entry.node), entry.level, entry.node)).collect();
+        order.sort_unstable();
+        let least = order.iter().filter(|(aside, ..)| !aside).count();
+        order.into_iter().take(most.max(least)).map(|(_, _, node)| node).collect()
+    }
 }
 
 /// The symbols at most `distance` steps from `path`, by address, and at most [`Drawn::MOST_NODES`] of them: the nearest
@@ -287,7 +461,7 @@ const TEXT_DROP: f64 = 5.0;
 /// use caplune::drawing::{svg, Drawn};
 /// use caplune::{Alphabets, InputTree, Refusal};
 /// let tree = InputTree::read(&Alphabets::new(&[2, 0], &[0])?, &[0, 1, 1])?;
-/// let drawn = Drawn::input_tree(&tree, &["a & b".to_string()], 10);
+/// let drawn = Drawn::input_tree(&tree, &["a & b".to_string()], 10, &[]);
 /// let picture = svg(&[("first".to_string(), drawn)]);
 /// assert!(picture.starts_with("<?xml") && picture.contains(">a &amp; b</text>"));
 /// # Ok::<(), Refusal>(())
@@ -432,6 +606,7 @@ fn write_node(body: &mut String, node: &Node, (x, y): (f64, f64)) {
         Kind::Marked => ("#d62728", "#d62728", "#ffffff"),
         // Its dots stand on the line of the letters, which is the middle of the level here.
         Kind::LeftOut => return write_text(body, &node.label, (x, y), "fill=\"#000000\""),
+        Kind::Folded => return write_text(body, &node.label, (x, y + TEXT_DROP), "fill=\"#000000\""),
     };
     let width = box_width(node);
     let [left, top, width, height] = [x - width / 2.0, y - BOX_HEIGHT / 2.0, width, BOX_HEIGHT].map(pixels);

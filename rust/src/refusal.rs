@@ -7,7 +7,7 @@ use std::fmt;
 /// use caplune::{Alphabets, Refusal};
 /// let refusal = Alphabets::read(&[1, 1, 1, 0]).unwrap_err();
 /// assert_eq!((refusal, refusal.number()), (Refusal::BadAlphabets, 2));
-/// assert_eq!(refusal.to_string(), "refused by 2: not two ranked alphabets (a stock)");
+/// assert_eq!(refusal.to_string(), "refused by 2: not a stock");
 /// ```
 #[must_use]
 #[non_exhaustive]
@@ -75,26 +75,26 @@ impl Refusal {
         found.unwrap_or_else(|| unreachable!("the library refuses by {number}, which no contract allows"))
     }
 
-    /// What is wrong, in a few words.
+    /// What is wrong, in a few words, which are the paper's.
     #[must_use]
     pub fn meaning(self) -> &'static str {
         match self {
-            Refusal::ShortArea => "an area is too short",
-            Refusal::BadAlphabets => "not two ranked alphabets (a stock)",
-            Refusal::BadTree => "not an input tree (a design), or over its limits",
-            Refusal::BadContents => "the number of states (passes), a count, their sum or a length is wrong",
-            Refusal::BadBody => "an initial term (opening) or right-hand side (line) is not one tree of known marks",
-            Refusal::LongOutput => "the output tree (the plan) has more symbols than its area has bytes",
-            Refusal::OverLimits => "the earliest form (the trimmed sheet) is over the limits of a sheet",
-            Refusal::FullRegistry => "the registry (the book) is full",
-            Refusal::BadRegistry => "not a registry (a book)",
-            Refusal::DeepOutput => "the output tree (the plan) has more than 256 levels",
-            Refusal::BadOutput => "not an output tree (a plan) of 1 to 4,096 symbols, or not the XML of one",
-            Refusal::ShortTarget => "the target area is shorter than the result",
-            Refusal::OtherAlphabet => {
-                "the output symbols (block kinds) of the first are not the input symbols (part kinds) of the second"
+            Refusal::ShortArea => "what is lent for a result is too short",
+            Refusal::BadAlphabets => "not a stock",
+            Refusal::BadTree => "not a design, or over its limits",
+            Refusal::BadContents => {
+                "the number of passes, a count of marks, their sum or the length of the sheet is wrong"
             }
-            Refusal::JoinOverLimits => "the joined transducer (the joined sheet) is over the limits of a sheet",
+            Refusal::BadBody => "the opening or a line is not one tree of known marks",
+            Refusal::LongOutput => "the plan has more blocks than there is room for",
+            Refusal::OverLimits => "the trimmed sheet is over the limits of a sheet",
+            Refusal::FullRegistry => "the book is full",
+            Refusal::BadRegistry => "not a book",
+            Refusal::DeepOutput => "the plan has more than 256 levels",
+            Refusal::BadOutput => "not a plan of 1 to 4,096 blocks, or not the XML of one",
+            Refusal::ShortTarget => "what is lent for the result is shorter than the result",
+            Refusal::OtherAlphabet => "the block kinds of the first stock are not the part kinds of the second",
+            Refusal::JoinOverLimits => "the joined sheet is over the limits of a sheet",
         }
     }
 
@@ -102,43 +102,43 @@ impl Refusal {
     #[must_use]
     pub fn remedy(self) -> &'static str {
         match self {
-            Refusal::ShortArea => "lend a longer area",
+            Refusal::ShortArea => "lend more bytes for it",
             Refusal::BadAlphabets => {
-                "P (1 to 16), P ranks (0 to 4), B (1 to 64), B ranks, nothing more; some input rank is 0"
+                "P (1 to 16), the places of P part kinds (0 to 4 each), B (1 to 64), the places of B block kinds, nothing \
+                 more; some part kind has 0 places"
             }
             Refusal::BadTree => {
-                "one symbol for each node in preorder, nothing behind the tree; at most 4,096 nodes and 512 levels"
+                "the kind of each part, a part before its sub-parts, nothing behind the design; at most 4,096 parts and \
+                 512 levels"
             }
             Refusal::BadContents => {
-                "N (at most 128), two bytes for each body's mark count (1 to 64, at most 8,192 in all), two bytes for \
-                 each mark, nothing more"
+                "N (at most 128), two bytes for the count of marks of the opening and of each line (1 to 64, at most \
+                 8,192 in all), two bytes for each mark, nothing more"
             }
             Refusal::BadBody => {
-                "each body is one tree; symbols below B, states below N, children up to the rank of the body's symbol \
-                 (1 in the initial term)"
+                "the opening and each line are one tree; block kinds below B, passes below N, sub-parts up to the places \
+                 of the line's part kind (1 in the opening)"
             }
             Refusal::LongOutput => {
-                "lend a longer area (`caplune sew --most N`); the symbol at one address can be had without any \
-                 (`caplune place`)"
+                "give it more room (`caplune sew --most N`, up to 1073741824); the block at one place can be had without \
+                 any (`caplune place`)"
             }
             Refusal::OverLimits => "split the sheet: what it lays at once is too large for one line",
             Refusal::FullRegistry => {
-                "make another book with a longer area (`caplune book make --area N`), or one for the further sheets: \
-                 numbers given stay"
+                "make another book for the further sheets, or one with more room (`caplune book make --size N`, up to \
+                 655538): numbers given stay"
             }
-            Refusal::BadRegistry => {
-                "lend head, records and area as the last call left them; make the book anew if they are lost"
-            }
+            Refusal::BadRegistry => "lend the book as it was left last; make it anew if it is lost",
             Refusal::DeepOutput => {
-                "take a design of fewer levels, or a sheet that nests less: 256 are the most, the top block being \
-                 level 1; the symbol at one address can be had at any level (`caplune place`)"
+                "take a design of fewer levels, or a sheet that nests less: 256 are the most, the top block being level \
+                 1; the block at one place can be had at any level (`caplune place`)"
             }
             Refusal::BadOutput => {
-                "a plan is one symbol for each block in preorder, 1 to 4,096, nothing behind the tree; its XML is just as \
-                 `caplune xml` writes it: no declaration, no space, no line end"
+                "a plan is the kind of each block, a block before its sub-trees, 1 to 4,096, nothing behind it; its XML \
+                 is just as `caplune xml` writes it: no declaration, no space, no line end"
             }
             Refusal::ShortTarget => {
-                "lend a longer area: 36,860 bytes are enough for every text, 4,096 for every plan that is read"
+                "lend more bytes: 36,860 are enough for every text, 4,096 for every plan that is read"
             }
             Refusal::OtherAlphabet => "join under a second stock whose part kinds are the first's block kinds",
             Refusal::JoinOverLimits => {

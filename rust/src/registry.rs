@@ -104,6 +104,17 @@ impl Registry {
         bytes
     }
 
+    /// Whether bytes begin as the file of a registry does, of this make or another.
+    ///
+    /// ```
+    /// use caplune::Registry;
+    /// assert!(Registry::is_begun(b"caplune book 1\n") && !Registry::is_begun(b"caplune"));
+    /// ```
+    #[must_use]
+    pub fn is_begun(bytes: &[u8]) -> bool {
+        bytes.starts_with(FIRST_WORDS)
+    }
+
     /// Reads the bytes of a file. Whatever they are, the answer is a registry as [`new`](Self::new) and
     /// [`enter`](Self::enter) make them, or why they are none.
     pub fn from_bytes(bytes: &[u8]) -> Result<Self, DamagedRegistry> {
@@ -147,6 +158,8 @@ impl Registry {
 
 /// How the file of a registry begins: what it is, and which make.
 const FIRST_LINE: &[u8] = b"caplune book 1\n";
+/// That of every make.
+const FIRST_WORDS: &[u8] = b"caplune book ";
 /// The numbers of the file: the length of the area, the head's three, and two of each record.
 const NUMBERS: usize = 4 + 2 * RECORDS;
 

@@ -198,7 +198,7 @@ pub struct NoAddress;
 
 impl fmt::Display for NoAddress {
     fn fmt(&self, f: &mut fmt::Formatter) -> fmt::Result {
-        f.write_str("an address (a place) is `-` for the root or numbers from 0 to 255 with dots between, as in 1.2")
+        f.write_str("a place is `-` for the top or numbers from 0 to 255 with dots between, as in 1.2")
     }
 }
 

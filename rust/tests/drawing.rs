@@ -1,8 +1,8 @@
 //! Holds drawings against a second, recursive way to draw small trees, and reads pictures back.
 mod generate;
 
-use caplune::drawing::{short, svg, Drawn};
-use caplune::{Address, Alphabets, Comparison, Difference, InputTree, Refusal, Transducer};
+use caplune::drawing::{origin, short, svg, Drawn};
+use caplune::{Address, Alphabets, Comparison, Difference, InputTree, Mark, Refusal, Transducer};
 use generate::alike::{chain, chain_alphabets, small_alphabets, small_transducer};
 use generate::rows::{row_alphabets, Row};
 use generate::samples::{S, T, U};
@@ -33,18 +33,28 @@ fn sample(height: usize) -> (Transducer, InputTree) {
     (Transducer::read(&alphabets, T).expect("it is a transducer"), tree)
 }
 
-/// How many nodes, "…" and marks a text has, without the line of the address.
+/// How many nodes, "…" with what is folded, and marks a text has, without the line of the address.
 fn counts(drawn: &Drawn) -> [usize; 3] {
     let text = drawn.to_text();
     let lines = text.lines().filter(|line| !line.contains("(place "));
-    let (left_out, nodes): (Vec<&str>, Vec<&str>) = lines.partition(|line| line.ends_with('…'));
+    let (left_out, nodes): (Vec<&str>, Vec<&str>) =
+        lines.partition(|line| line.ends_with('…') || line.ends_with(" parts)"));
     [nodes.len(), left_out.len(), nodes.iter().filter(|line| line.ends_with(" <==")).count()]
+}
+
+/// How many nodes a text tells that it has folded.
+fn folded(drawn: &Drawn) -> usize {
+    let told = |line: &str| line.split_once("… (")?.1.strip_suffix(" parts)")?.parse::<usize>().ok();
+    drawn.to_text().lines().filter_map(told).sum()
 }
 
 #[test]
 fn samples() {
     let (both, shown) = difference(S, [T, U]);
-    assert_eq!(Drawn::input_tree(&shown.tree, &names(&["a", "e"]), 100).to_text(), "e\n");
+    assert_eq!(Drawn::input_tree(&shown.tree, &names(&["a", "e"]), 100, &[]).to_text(), "e\n");
+    let origins: Vec<Address> = both.iter().filter_map(|one| origin(one, &shown.tree, &shown.address)).collect();
+    assert_eq!(origins, [Address::ROOT, Address::ROOT]);
+    assert_eq!(Drawn::input_tree(&shown.tree, &names(&["a", "e"]), 100, &origins).to_text(), "e <==\n");
     let drawn = |number: usize, distance| {
         let transducer: &Transducer = &both[number];
         Drawn::around(transducer, &shown.tree, &shown.address, &names(&["f", "e"]), distance)
@@ -94,7 +104,12 @@ fn deep(alphabets: &generate::Alphabets, files: [Vec<u8>; 2], numbers: usize) ->
     assert!(shown.address.as_bytes().len() >= numbers, "{}", shown.address.as_bytes().len());
     let (inputs, outputs) = (names(&["u", "e"]), names(&["g", "c", "d"]));
     let start = Instant::now();
-    let mut drawn = vec![("design".to_string(), Drawn::input_tree(&shown.tree, &inputs, 30))];
+    let marked: Vec<Address> = both.iter().filter_map(|one| origin(one, &shown.tree, &shown.address)).collect();
+    let design = Drawn::input_tree(&shown.tree, &inputs, 30, &marked);
+    let ends = marked.iter().map(|address| address.as_bytes().len() + 1).max().expect("a part");
+    assert!(shown.tree.levels() - ends <= 1, "what is laid last is laid at the end of the chain");
+    assert!(!marked.is_empty() && design.to_text().lines().any(|line| line.ends_with("e <==")), "{}", design.to_text());
+    let mut drawn = vec![("design".to_string(), design)];
     for (transducer, symbol) in both.iter().zip([shown.first, shown.second]) {
         let around = Drawn::around(transducer, &shown.tree, &shown.address, &outputs, 4).expect("it is drawn");
         let above = shown.address.as_bytes().len() - 4;
@@ -108,8 +123,9 @@ fn deep(alphabets: &generate::Alphabets, files: [Vec<u8>; 2], numbers: usize) ->
     }
     assert_picture(&drawn);
     assert!(start.elapsed() < Duration::from_secs(2), "{:?}", start.elapsed());
-    assert_eq!(drawn[0].1.left_out(), shown.tree.nodes() - 30);
-    assert_eq!(counts(&drawn[0].1)[0], 30);
+    let (design, [nodes, ..]) = (&drawn[0].1, counts(&drawn[0].1));
+    assert_eq!(nodes + folded(design) + design.left_out(), shown.tree.nodes());
+    assert!(nodes <= 30 && folded(design) > shown.tree.nodes() - 40, "{}", design.to_text());
     drawn
 }
 
@@ -154,18 +170,91 @@ impl Built {
         std::iter::once(self.address.clone()).chain(self.children.iter().flat_map(Built::addresses)).collect()
     }
 
+    fn nodes(&self) -> usize {
+        1 + self.children.iter().map(Built::nodes).sum::<usize>()
+    }
+
+    fn piece(&self, names: &[String], children: Vec<Piece>) -> Piece {
+        let (label, address) = (names[usize::from(self.symbol)].clone(), self.address.clone());
+        Piece { label, address, stands_for: 1, children }
+    }
+
+    /// As it is.
+    fn whole(&self, names: &[String]) -> Piece {
+        self.piece(names, self.children.iter().map(|child| child.whole(names)).collect())
+    }
+
+    /// The nodes from this one on that have one child each which is no leaf, and the node behind them. What is marked,
+    /// or has a marked leaf, ends it.
+    fn chain(&self, marked: &[Vec<u8>]) -> Vec<&Built> {
+        let ends = self.address_of_leaves().chain([&self.address]).any(|address| marked.contains(address));
+        let inner: Vec<&Built> = self.children.iter().filter(|child| !child.children.is_empty()).collect();
+        let below = if ends || inner.len() != 1 { Vec::new() } else { inner[0].chain(marked) };
+        [vec![self], below].concat()
+    }
+
+    fn address_of_leaves(&self) -> impl Iterator<Item = &Vec<u8>> {
+        self.children.iter().filter(|child| child.children.is_empty()).map(|child| &child.address)
+    }
+
+    /// With long chains folded, from their ends up.
+    fn folded(&self, names: &[String], marked: &[Vec<u8>]) -> Piece {
+        let chain = self.chain(marked);
+        let (end, before) = chain.split_last().unwrap();
+        let mut below = end.piece(names, end.children.iter().map(|child| child.folded(names, marked)).collect());
+        for (index, node) in before.iter().enumerate().rev() {
+            if chain.len() >= 10 && index >= 3 && index < chain.len() - 3 {
+                if index == 3 {
+                    let stands_for = node.nodes() - chain[chain.len() - 3].nodes();
+                    let label = format!("… ({stands_for} parts)");
+                    below = Piece { label, address: node.address.clone(), stands_for, children: vec![below] };
+                }
+                continue;
+            }
+            let mut next = Some(below);
+            let child =
+                |child: &Built| if child.children.is_empty() { child.whole(names) } else { next.take().unwrap() };
+            below = node.piece(names, node.children.iter().map(child).collect());
+        }
+        below
+    }
+
+    fn at(&self, address: &[u8]) -> &Built {
+        address.iter().fold(self, |node, &child| &node.children[usize::from(child) - 1])
+    }
+}
+
+/// A tree as it is drawn, before any of it is left out.
+struct Piece {
+    label: String,
+    address: Vec<u8>,
+    stands_for: usize,
+    children: Vec<Piece>,
+}
+
+impl Piece {
+    /// Its pieces in breadth-first order: the address of each, and how many nodes it stands for.
+    fn breadth_first(&self) -> Vec<(Vec<u8>, usize)> {
+        let (mut level, mut all) = (vec![self], Vec::new());
+        while !level.is_empty() {
+            all.extend(level.iter().map(|piece| (piece.address.clone(), piece.stands_for)));
+            level = level.into_iter().flat_map(|piece| &piece.children).collect();
+        }
+        all
+    }
+
     /// The lines of this node and those below that are kept.
-    fn lines(&self, kept: &BTreeSet<Vec<u8>>, names: &[String], marked: Option<&[u8]>) -> Vec<String> {
-        let mark = if marked == Some(&self.address[..]) { " <==" } else { "" };
+    fn lines(&self, kept: &BTreeSet<Vec<u8>>, marked: &[Vec<u8>]) -> Vec<String> {
         let mut blocks: Vec<Vec<String>> = Vec::new();
         for child in &self.children {
             if kept.contains(&child.address) {
-                blocks.push(child.lines(kept, names, marked));
+                blocks.push(child.lines(kept, marked));
             } else if blocks.last().is_none_or(|block| block[0] != "…") {
                 blocks.push(vec!["…".to_string()]);
             }
         }
-        let mut lines = vec![format!("{}{mark}", names[usize::from(self.symbol)])];
+        let mark = if marked.contains(&self.address) { " <==" } else { "" };
+        let mut lines = vec![format!("{}{mark}", self.label)];
         let count = blocks.len();
         for (number, block) in blocks.into_iter().enumerate() {
             let [first, other] = if number + 1 == count { ["└─ ", "   "] } else { ["├─ ", "│  "] };
@@ -175,12 +264,8 @@ impl Built {
         lines
     }
 
-    fn text(&self, kept: &BTreeSet<Vec<u8>>, names: &[String], marked: Option<&[u8]>) -> String {
-        self.lines(kept, names, marked).join("\n") + "\n"
-    }
-
-    fn at(&self, address: &[u8]) -> &Built {
-        address.iter().fold(self, |node, &child| &node.children[usize::from(child) - 1])
+    fn text(&self, kept: &BTreeSet<Vec<u8>>, marked: &[Vec<u8>]) -> String {
+        self.lines(kept, marked).join("\n") + "\n"
     }
 }
 
@@ -196,26 +281,117 @@ fn odd_names(random: &mut Random) -> Vec<String> {
     (0..64).map(|number| format!("{}{number}", random.pick(&some))).collect()
 }
 
+/// Trees of many shapes, with none to two nodes marked, cut and folded.
 #[test]
 fn input_trees_cut() {
     let mut random = Random::new(1);
-    for round in 0..400 {
+    let (mut folds, mut cuts, mut further) = (0, 0, 0);
+    for round in 0..600 {
         let alphabets = generate::Alphabets::random(&mut random);
         let growth = random.pick(&[Growth::Right, Growth::Left, Growth::Even(9), Growth::Even(14)]);
-        let file = generate::tree(&mut random, &alphabets.inputs, 60, 20, growth);
+        let (nodes, levels) = random.pick(&[(60, 20), (200, 70), (400, 200)]);
+        let file = generate::tree(&mut random, &alphabets.inputs, nodes, levels, growth);
         let tree =
             InputTree::read(&Alphabets::read(&alphabets.file()).expect("they are"), &file).expect("it is a tree");
         let names = odd_names(&mut random);
-        let most = random.range(1, file.len() + 2);
-        let drawn = Drawn::input_tree(&tree, &names, most);
         let built = Built::of(&mut file.iter(), &alphabets.inputs, vec![]);
-        let mut order = built.addresses();
-        order.sort_by_key(|address| (address.len(), address.clone()));
-        let kept: BTreeSet<Vec<u8>> = order.into_iter().take(most).collect();
-        assert_eq!(drawn.to_text(), built.text(&kept, &names, None), "{round}");
-        assert_eq!((drawn.left_out(), drawn.top()), (file.len().saturating_sub(most), &Address::ROOT));
-        assert_picture(&[("a <design>".to_string(), drawn)]);
+        let addresses = built.addresses();
+        let marked: Vec<Vec<u8>> =
+            (0..random.below(3)).map(|_| addresses[random.below(addresses.len())].clone()).collect();
+        let most = random.range(1, 70);
+        let given: Vec<Address> = marked.iter().cloned().map(Address::from).collect();
+        let drawn = Drawn::input_tree(&tree, &names, most, &given);
+        let pieces = built.folded(&names, &marked);
+        let leads = |address: &Vec<u8>| marked.iter().any(|marked| marked.starts_with(address));
+        let (first, others): (Vec<_>, Vec<_>) = pieces.breadth_first().into_iter().partition(|(at, _)| leads(at));
+        let room = most.saturating_sub(first.len());
+        let left_out: usize = others.iter().skip(room).map(|(_, stands_for)| stands_for).sum();
+        let kept = first.iter().chain(others.iter().take(room)).map(|(at, _)| at.clone()).collect();
+        assert_eq!(drawn.to_text(), pieces.text(&kept, &marked), "{round}");
+        assert_eq!((drawn.left_out(), drawn.top()), (left_out, &Address::ROOT));
+        assert_eq!(counts(&drawn)[0] + folded(&drawn) + left_out, file.len());
+        assert_picture(&[("a <design>".to_string(), drawn.clone())]);
+        folds += usize::from(folded(&drawn) > 0);
+        cuts += usize::from(left_out > 0);
+        further += usize::from(first.len() > most);
     }
+    println!("{folds} with folded chains, {cuts} cut, {further} with more on the way to what is marked");
+    assert!(folds > 50 && cuts > 100 && further > 5, "{folds} {cuts} {further}");
+}
+
+/// Chains of just so many nodes, their ends, and what is marked within them.
+#[test]
+fn folded_chains() {
+    let alphabets = Alphabets::new(&[1, 0], &[0]).expect("they are alphabets");
+    let names = names(&["a", "e"]);
+    let drawn = |nodes: usize, marked: &[usize]| {
+        let tree = InputTree::read(&alphabets, &[vec![0; nodes - 1], vec![1]].concat()).expect("it is a tree");
+        let marked: Vec<Address> = marked.iter().map(|above| Address::from(vec![1; *above])).collect();
+        Drawn::input_tree(&tree, &names, 60, &marked)
+    };
+    let labels = |drawn: &Drawn| -> Vec<String> {
+        let text = drawn.to_text();
+        text.lines().map(|line| line.trim_start_matches([' ', '└', '─']).to_string()).collect()
+    };
+    assert_eq!(labels(&drawn(1, &[])), ["e"]);
+    // nine over the last one, which are not folded, and ten
+    assert_eq!(labels(&drawn(10, &[])).concat(), "aaaaaaaaae");
+    assert_eq!(labels(&drawn(11, &[])), ["a", "a", "a", "… (4 parts)", "a", "a", "a", "e"]);
+    let longest = drawn(512, &[]);
+    assert_eq!(labels(&longest), ["a", "a", "a", "… (505 parts)", "a", "a", "a", "e"]);
+    assert_eq!(longest.left_out(), 0);
+    assert_eq!(labels(&drawn(512, &[511])).last().map(String::as_str), Some("e <=="));
+    let middle =
+        ["a", "a", "a", "… (195 parts)", "a", "a", "a <==", "a", "a", "a", "… (304 parts)", "a", "a", "a", "e"];
+    assert_eq!(labels(&drawn(512, &[200])), middle);
+    // a picture of it is no higher than these levels
+    let picture = svg(&[("design".to_string(), drawn(512, &[200, 511]))]);
+    let [height] = elements(&picture)[0].numbers(["height"]);
+    assert!(height < 1000.0 && picture.contains(">… (195 parts)</text>"), "{picture}");
+}
+
+/// Where a symbol of an output tree comes from, held against a translation that tells it.
+#[test]
+fn origins() {
+    let mut random = Random::new(4);
+    let (mut opened, mut found) = (0, 0);
+    for round in 0..300 {
+        let alphabets = small_alphabets(&mut random);
+        let read = Alphabets::read(&alphabets.file()).expect("they are alphabets");
+        let sheet = small_transducer(&mut random, &alphabets, 4, 7).file();
+        let Ok(transducer) = Transducer::read(&read, &sheet) else { continue };
+        let file = generate::tree(&mut random, &alphabets.inputs, 12, 8, Growth::Even(14));
+        let tree = InputTree::read(&read, &file).expect("it is a tree");
+        if transducer.translate(&tree, 500).is_err() {
+            continue;
+        }
+        let built = Built::of(&mut file.iter(), &alphabets.inputs, vec![]);
+        let written = written(&transducer, &transducer.initial_term(), None, &built);
+        let symbols: Vec<u8> = written.iter().map(|(symbol, _)| *symbol).collect();
+        for (node, (_, from)) in written.iter().enumerate() {
+            let at = address_of(&symbols, &alphabets.outputs, node);
+            let from = from.clone().map(Address::from);
+            assert_eq!(origin(&transducer, &tree, &Address::from(at.clone())), from, "{round}");
+            opened += usize::from(from.is_none());
+            found += usize::from(from.is_some());
+            let beyond = [&at[..], &[1 + alphabets.outputs[usize::from(symbols[node])]]].concat();
+            assert_eq!(origin(&transducer, &tree, &Address::from(beyond)), None, "{round}");
+        }
+    }
+    assert!(opened > 100 && found > 1000, "{opened} {found}");
+}
+
+/// The symbols that a term gives on a node, or in the initial term on the whole tree, and the nodes that they come from.
+fn written(transducer: &Transducer, term: &[Mark], node: Option<&Built>, tree: &Built) -> Vec<(u8, Option<Vec<u8>>)> {
+    let mark = |mark: &Mark| match *mark {
+        Mark::Symbol(symbol) => vec![(symbol, node.map(|node| node.address.clone()))],
+        Mark::Call { child, state } => {
+            let below = node.map_or(tree, |node| &node.children[usize::from(child) - 1]);
+            let term = transducer.right_hand_side(state.into(), below.symbol.into()).expect("it is total");
+            written(transducer, &term, Some(below), tree)
+        }
+    };
+    term.iter().flat_map(mark).collect()
 }
 
 #[test]
@@ -224,10 +400,12 @@ fn largest_input_trees() {
         let alphabets = Alphabets::new(&[4, 0], &[0]).expect("they are alphabets");
         let file = generate::tree(&mut Random::new(2), alphabets.input_ranks(), 4_096, levels, growth);
         let tree = InputTree::read(&alphabets, &file).expect("it is a tree");
-        let whole = Drawn::input_tree(&tree, &[], usize::MAX);
-        assert_eq!((counts(&whole), whole.left_out()), ([file.len(), 0, 0], 0));
-        assert_eq!((Drawn::input_tree(&tree, &[], 0).to_text().as_str(), file.len() > 2_000), ("…\n", true));
-        assert_eq!(svg(&[("whole".to_string(), whole)]).matches("<rect ").count(), 1 + file.len());
+        let whole = Drawn::input_tree(&tree, &[], usize::MAX, &[]);
+        let [nodes, ..] = counts(&whole);
+        assert_eq!((nodes + folded(&whole), whole.left_out()), (file.len(), 0));
+        assert_eq!(nodes < file.len(), levels == 512);
+        assert_eq!((Drawn::input_tree(&tree, &[], 0, &[]).to_text().as_str(), file.len() > 2_000), ("…\n", true));
+        assert_eq!(svg(&[("whole".to_string(), whole)]).matches("<rect ").count(), 1 + nodes);
     }
 }
 
@@ -250,7 +428,7 @@ fn output_trees_around() {
         let kept = built.addresses().into_iter().filter(|at| steps(at, &marked) <= distance).collect();
         let top = &marked[..marked.len().saturating_sub(distance)];
         let first = if top.is_empty() { String::new() } else { format!("… (place {})\n", short(drawn.top())) };
-        let expected = first + &built.at(top).text(&kept, &names, Some(&marked));
+        let expected = first + &built.at(top).whole(&names).text(&kept, std::slice::from_ref(&marked));
         assert_eq!((drawn.to_text(), drawn.top().as_bytes()), (expected, top), "{round}");
         cut_above += usize::from(!top.is_empty());
         cut_below += usize::from(counts(&drawn)[1] > 0);

@@ -117,6 +117,9 @@ fn remedies() {
         assert_eq!((row[0], row[1]), (&refusal.number().to_string()[..], &format!("`{refusal:?}`")[..]));
         assert_eq!(*row.last().unwrap(), refusal.remedy());
     }
+    // the limits that two of them tell are those of the library
+    assert!(Refusal::LongOutput.remedy().contains(&format!(" {})", Transducer::MOST_OUTPUT)));
+    assert!(Refusal::FullRegistry.remedy().contains(&format!(" {})", Registry::LONGEST_AREA)));
 }
 
 /// The figures of docs/AREAS.md on the stack are those of the crate's documentation and of the C header.
@@ -161,7 +164,102 @@ fn help() {
     }
     assert_eq!(tried, 15);
     assert_eq!(folder.prints("book --help").lines().filter(|line| line.starts_with("  caplune book ")).count(), 4);
-    assert_eq!(folder.prints("--version"), "caplune 0.1.0\n");
+    assert_eq!((folder.prints("--version"), folder.prints("-V")), ("caplune 0.1.0\n".into(), "caplune 0.1.0\n".into()));
+    // what it is for comes first, then the five words, a line or two each
+    let before = overview.split("usage: ").next().unwrap();
+    assert!(before.starts_with("caplune tells whether two sheets sew alike"), "{overview}");
+    let words: Vec<&str> = before.lines().filter_map(|line| line.get(2..15).map(str::trim)).collect();
+    assert!(words[2..].iter().filter(|word| !word.is_empty()).eq(&["design", "plan", "sheet", "pass", "clean sheet"]));
+}
+
+/// Words of the field that no message has: docs/GLOSSARY.md gives the paper's in their place. With their endings.
+const NOT_SAID: [&str; 10] =
+    ["area", "alphabet", "state", "call", "transducer", "symbol", "node", "rank", "address", "registr"];
+
+/// The first word of a text that no message has.
+fn not_said(text: &str) -> Option<&str> {
+    let words = text.split(|character: char| !character.is_alphabetic());
+    words.into_iter().find(|word| NOT_SAID.iter().any(|begun| word.to_lowercase().starts_with(begun)))
+}
+
+/// The literal strings of a source file, without its comments and without what is put in between braces.
+fn literals(source: &str) -> Vec<String> {
+    let (mut found, mut rest) = (Vec::new(), source);
+    while let Some(at) = rest.find(['"', '\'', '/']) {
+        let (begun, behind) = rest[at..].split_at(1);
+        let passed = match begun {
+            "\"" => {
+                let end = end_of_string(behind);
+                found.push(without_braces(&behind[..end]));
+                end + 1
+            }
+            "'" => length_of_character(behind),
+            _ if behind.starts_with('/') => behind.find('\n').unwrap_or(behind.len()),
+            _ => 0,
+        };
+        rest = &behind[passed..];
+    }
+    found
+}
+
+/// Where the string ends whose first quote stands before this.
+fn end_of_string(text: &str) -> usize {
+    let escapes = |end: usize| text[..end].bytes().rev().take_while(|byte| *byte == b'\\').count();
+    let mut quotes = text.match_indices('"').map(|(end, _)| end);
+    quotes.find(|&end| escapes(end) % 2 == 0).expect("a string ends")
+}
+
+/// How long a character with the quote behind it is, whose first quote stands before this: 0 for a lifetime.
+fn length_of_character(text: &str) -> usize {
+    let escaped = usize::from(text.starts_with('\\'));
+    let length = escaped + text[escaped..].chars().next().map_or(0, char::len_utf8);
+    if text[length..].starts_with('\'') {
+        length + 1
+    } else {
+        0
+    }
+}
+
+fn without_braces(text: &str) -> String {
+    let mut pieces = text.split('{');
+    let first = pieces.next().unwrap_or("").to_string();
+    pieces.fold(first, |text, piece| text + piece.split_once('}').map_or(piece, |(_, rest)| rest))
+}
+
+/// Every message is in the paper's words: the help of every command, all refusals, and every string of the sources from
+/// which messages are made, errors of texts among them.
+#[test]
+fn words_of_messages() {
+    let folder = Folder::new();
+    let overview = folder.prints("--help");
+    let commands = overview.lines().filter_map(|line| line.strip_prefix("  caplune "));
+    let names = commands.map(|line| line.split_terminator(|c: char| c.is_uppercase() || c == '[').next().unwrap());
+    let helps: Vec<String> = names.map(|name| folder.prints(&format!("{name} --help"))).collect();
+    assert_eq!(helps.len(), 15);
+    let refusals = Refusal::ALL.iter().map(|refusal| format!("{refusal}; {}", refusal.remedy()));
+    for text in [overview.clone(), folder.prints("book --help")].into_iter().chain(helps).chain(refusals) {
+        assert_eq!(not_said(&text), None, "{text}");
+    }
+    let mut checked = 0;
+    for part in ["src", "src/text", "src/bin/caplune"] {
+        for entry in fs::read_dir(repository("rust").join(part)).unwrap() {
+            let path = entry.unwrap().path();
+            if path.is_dir() || path.ends_with("src/ffi.rs") {
+                continue;
+            }
+            for literal in literals(&fs::read_to_string(&path).unwrap()) {
+                // the former name of an option is taken, and not told
+                assert!(literal == "--area" || not_said(&literal).is_none(), "{}: {literal:?}", path.display());
+                checked += 1;
+            }
+        }
+    }
+    assert!(checked > 300, "{checked}");
+    // what is looked for is found
+    let source =
+        "// \"a call\"\nlet x = ['\"', '\\'', '\\\\']; f::<'a>(\"q \\\"of\\\" Nodes\", \"o{state}k\"); // \"no\"\n\"two\"";
+    assert_eq!(literals(source), ["q \\\"of\\\" Nodes", "ok", "two"]);
+    assert_eq!((not_said(&literals(source)[0]), not_said("basically an arena")), (Some("Nodes"), None));
 }
 
 #[test]
@@ -183,7 +281,13 @@ fn wrong_usage() {
         ("sew -o a -o b stock.txt t.txt design.txt", "sew: -o is given twice; `caplune sew --help` tells more"),
         ("sew --most many stock.txt t.txt design.txt", "--most takes a number, at most 1073741824"),
         ("sew --most 1073741825 stock.txt t.txt design.txt", "--most takes a number, at most 1073741824"),
-        ("book make --area 655539 book stock.txt", "--area takes a number, at most 655538"),
+        ("book make --size 655539 book stock.txt", "--size takes a number, at most 655538"),
+        (
+            "book make --size 1 --area 1 book stock.txt",
+            "book make: --area is given twice; `caplune book make --help` tells more",
+        ),
+        ("sew -oa -o b stock.txt t.txt design.txt", "sew: -o is given twice; `caplune sew --help` tells more"),
+        ("sew -x stock.txt t.txt design.txt", "sew: there is no option -x; `caplune sew --help` tells more"),
         ("show --as plan stock.txt t.txt", "--as takes `sheet` or `design`"),
         (
             "compare --svg x stock.txt t.txt t2.txt u.txt",
@@ -194,8 +298,8 @@ fn wrong_usage() {
         ("book show --bytes -o ./made made 1", "made: it would be overwritten: give another file"),
         ("compare --svg t.txt stock.txt t.txt u.txt", "t.txt: it would be overwritten: give another file"),
         (
-            "join --stock both -o both stock.txt t.txt pairs.txt p.txt",
-            "both: it would be overwritten: give another file",
+            "join --stock ./both -o both stock.txt t.txt pairs.txt p.txt",
+            "both: it would be written twice: give another file",
         ),
         ("compare stock.txt t.txt", "compare: it takes STOCK SHEET SHEET...; `caplune compare --help` tells more"),
         ("card stock.txt t.txt", "card: it takes [STOCK]; `caplune card --help` tells more"),
@@ -204,7 +308,7 @@ fn wrong_usage() {
         ("plan stock.txt plan.xml -", "plan: it takes STOCK [TEXT]; `caplune plan --help` tells more"),
         (
             "place stock.txt t.txt design.txt 1,2",
-            "`1,2`: an address (a place) is `-` for the root or numbers from 0 to 255 with dots between, as in 1.2",
+            "`1,2`: a place is `-` for the top or numbers from 0 to 255 with dots between, as in 1.2",
         ),
     ] {
         assert_eq!(folder.says(line), said, "{line}");
@@ -212,6 +316,13 @@ fn wrong_usage() {
     assert_eq!(folder.names(), before);
     assert_eq!(folder.prints("sew -- stock.txt t.txt design.txt"), "plan f(f(e, e), f(e, e))\n");
     assert_eq!(folder.prints("sew --most=7 stock.txt t.txt design.txt"), "plan f(f(e, e), f(e, e))\n");
+    for (line, file) in
+        [("-oplan", "plan"), ("-o=plan2", "plan2"), ("-oa=b", "a=b"), ("-o-", "-"), ("-o plan3", "plan3")]
+    {
+        let printed = folder.prints(&format!("sew {line} stock.txt t.txt design.txt"));
+        let plan = if file == "-" { printed.into_bytes() } else { folder.read(file) };
+        assert_eq!(plan, b"plan f(f(e, e), f(e, e))\n", "{line}");
+    }
 }
 
 /// Each refusal that a command can meet: the file, the number and what to do.
@@ -240,11 +351,10 @@ fn refusals() {
         ("no_plan", &[0, 1]),
         ("spaced.xml", b"<A1> <A2/></A1>"),
         ("ended.xml", b"<A1><A2/></A1>\n"),
-        ("empty", b""),
     ] {
         folder.write(name, bytes);
     }
-    assert_eq!(folder.prints("book make --area 26 small stock"), "");
+    assert_eq!(folder.prints("book make --size 26 small stock"), "");
     assert_eq!(folder.prints("book make book stock"), "");
     let before = folder.names();
     for (line, file, number) in [
@@ -252,27 +362,21 @@ fn refusals() {
         ("sew stock t no_design", "no_design", 3),
         ("single stock cut", "cut", 4),
         ("clean stock no_pass", "no_pass", 5),
-        ("sew --most 6 stock t design", "design", 6),
         ("clean stock over", "over", 7),
         ("compare stock over over", "over", 7),
         ("compare stock t over", "over", 7),
-        ("compare stock t t over", "over", 7),
         ("book enter book over", "over", 7),
         ("book enter small t", "t", 8),
-        ("book make --area 5 other stock", "other", 8),
+        ("book make --size 5 other stock", "other", 8),
         ("sew unary copy deeper", "deeper", 10),
         ("sew --most 257 -o plan unary copy deeper", "deeper", 10),
         ("sew --bytes -o plan unary copy deeper", "deeper", 10),
-        ("sew --most 256 unary copy deeper", "deeper", 6),
-        ("sew --most 255 unary copy deepest", "deepest", 6),
         ("xml no_stock no_plan", "no_stock", 2),
         ("xml stock no_plan", "no_plan", 11),
-        ("xml -o xml stock empty", "empty", 11),
         ("xml unary longer", "longer", 11),
         ("plan no_stock ended.xml", "no_stock", 2),
         ("plan unary ended.xml", "ended.xml", 11),
         ("plan unary spaced.xml", "spaced.xml", 11),
-        ("plan --bytes -o plan unary empty", "empty", 11),
         ("plan stock deepest", "deepest", 11),
         ("join stock t stock t", "stock and stock", 16),
         ("join one first two second", "first and second", 17),
@@ -294,7 +398,7 @@ fn refusals() {
     assert_eq!(deepest, format!("plan {}A2{}\n", "A1(".repeat(255), ")".repeat(255)));
     assert_eq!(folder.prints(&format!("place unary copy deeper 1{}", ".1".repeat(255))), "A2\n");
     let said = folder.says("sew unary copy deeper");
-    assert!(said.starts_with("deeper: refused by 10: the output tree (the plan) has more than 256 levels; "), "{said}");
+    assert!(said.starts_with("deeper: refused by 10: the plan has more than 256 levels; what to do: "), "{said}");
     folder.write("book", b"caplune book 1\n");
     assert_eq!(
         folder.says("book list book"),
@@ -305,6 +409,98 @@ fn refusals() {
     assert!(folder.says("show t").starts_with("t: refused by 2: "));
     assert!(folder.says("show missing").starts_with("missing: "));
     assert!(folder.says("sew stock . design").starts_with(".: "));
+}
+
+/// A plan that is too long: the limit that it passes, and advice that can be followed.
+#[test]
+fn long_plans() {
+    let folder = first();
+    for (name, height) in [("design", 1), ("tall", 40)] {
+        folder.write(name, &[vec![0; height], vec![1]].concat());
+    }
+    let place = "or ask for the block at one place (`caplune place`)";
+    for (line, most) in [("--most 6 stock.txt t.txt design", 6), ("stock.txt t.txt tall", 16_777_216)] {
+        let said = folder.says(&format!("sew {line}"));
+        let said = said.split_once(": ").unwrap().1;
+        let raised = "what to do: allow more by --most, up to 1073741824";
+        assert_eq!(said, format!("refused by 6: the plan has more blocks than {most}; {raised}, {place}"));
+    }
+    // that of the highest limit is a test of the program itself, since it takes a GiB of memory
+    let smaller = format!("what to do: take a smaller design, {place}");
+    let script = "ulimit -v 150000; exec \"$0\" sew --most 1073741824 stock.txt t.txt tall";
+    let ended = folder.run(Path::new("/bin/sh"), &["-c", script, PROGRAM], b"");
+    let limit = "there is memory for";
+    assert_eq!(told(&ended, script), format!("tall: refused by 6: the plan has more blocks than {limit}; {smaller}"));
+}
+
+/// An empty file, and one of a line end, is told as that.
+#[test]
+fn empty_files() {
+    let folder = first();
+    folder.prints("convert -o stock stock.txt");
+    folder.prints("convert -o t stock.txt t.txt");
+    folder.write("unary", &[2, 1, 0, 2, 1, 0]);
+    for (empty, bytes) in [("empty", &b""[..]), ("line", b"\n"), ("lines", b"\r\n\n")] {
+        folder.write(empty, bytes);
+        for (line, number, expected) in [
+            ("show {}", Some(2), "a stock"),
+            ("book make book {}", Some(2), "a stock"),
+            ("sew stock.txt {} design.txt", Some(4), "a sheet"),
+            ("compare stock.txt t.txt {}", Some(4), "a sheet"),
+            ("sew stock.txt t.txt {}", Some(3), "a design"),
+            ("xml -o xml stock.txt {}", Some(11), "a plan"),
+            ("plan --bytes -o plan unary {}", Some(11), "the XML of a plan"),
+            ("convert stock.txt {}", None, "a sheet or a design"),
+            ("convert --as design stock.txt {}", Some(3), "a design"),
+        ] {
+            let number = number.map_or(String::new(), |number| format!("refused by {number}: "));
+            let said = format!("{empty}: {number}it is empty, where {expected} was expected");
+            assert_eq!(folder.says(&line.replace("{}", empty)), said, "{line}");
+        }
+    }
+    assert_eq!(folder.says("show -"), "standard input: refused by 2: it is empty, where a stock was expected");
+    assert_eq!(folder.says("book list empty"), "empty: refused by 9: it is empty, where a book was expected");
+    for table in ["stock.names", "t.names"] {
+        folder.write(table, b"");
+        assert_eq!(folder.says("show stock t"), format!("{table}: it is empty, where a table of names was expected"));
+        fs::remove_file(folder.file(table)).unwrap();
+    }
+    // part 10 of a wide stock is a line end, and a design
+    folder.write("wide", &[&[11][..], &[0; 11], &[1, 0]].concat());
+    assert_eq!(folder.prints("convert wide line"), "design b3\n");
+}
+
+/// A design of 512 levels where the system gives hardly any stack.
+#[cfg(unix)]
+#[test]
+fn small_stacks() {
+    let folder = first();
+    folder.write("unary", &[2, 1, 0, 2, 1, 0]);
+    folder.write("constant", &[0, 0, 1, 0, 1]);
+    folder.write("deepest", &[vec![0; 511], vec![1]].concat());
+    folder.prints("convert -o deepest.txt stock.txt deepest");
+    folder.prints("book make book stock.txt");
+    for (line, ends) in [
+        ("sew unary constant deepest", "plan A2\n"),
+        ("sew stock.txt constant deepest.txt", "plan e\n"),
+        ("place stock.txt t.txt deepest.txt 1.2.1", "f\n"),
+        ("compare stock.txt t.txt t2.txt", "alike\n"),
+        ("book enter book t.txt u.txt", "u.txt: 2\n"),
+        ("clean stock.txt t.txt", "q0(e) -> e\n"),
+    ] {
+        let script = format!("ulimit -s 64; exec \"$0\" {line}");
+        let ended = folder.run(Path::new("/bin/sh"), &["-c", &script, PROGRAM], b"");
+        assert_eq!((ended.status, &ended.err[..]), (Some(0), ""), "{line}");
+        assert!(ended.text().ends_with(ends), "{line}: {ended:?}");
+    }
+    folder.write("copy", &[1, 0, 1, 0, 2, 0, 1, 1, 0, 0, 0, 1, 0, 0, 1]);
+    let script = "ulimit -s 64; exec \"$0\" sew unary copy deepest";
+    let ended = folder.run(Path::new("/bin/sh"), &["-c", script, PROGRAM], b"");
+    assert!(told(&ended, script).starts_with("deepest: refused by 10: "), "{ended:?}");
+    // where there is no memory for a stack, that is told
+    let script = "ulimit -v 8000; exec \"$0\" --version";
+    let ended = folder.run(Path::new("/bin/sh"), &["-c", script, PROGRAM], b"");
+    assert!(told(&ended, script).starts_with("no thread with a stack of 8388608 bytes can be made: "), "{ended:?}");
 }
 
 /// What is not told apart, or is something else.
@@ -533,6 +729,20 @@ fn comparing() {
     assert_eq!(folder.prints("compare stock.txt t.txt t2.txt t.txt"), "1: t.txt t2.txt t.txt\n");
     let ended = folder.caplune("compare stock.txt t.txt u.txt t2.txt u.txt");
     assert_eq!((ended.status, ended.text()), (Some(1), "1: t.txt t2.txt\n2: u.txt u.txt\n"));
+    // of many, every one that is refused is told, and the others are compared
+    folder.write("bad", b"sheet opening g");
+    folder.write("over", &ring(65));
+    let ended = folder.caplune("compare stock.txt missing t.txt over u.txt bad t2.txt");
+    assert_eq!((ended.status, ended.text()), (Some(2), "1: t.txt t2.txt\n2: u.txt\n"));
+    let said: Vec<&str> = ended.err.lines().collect();
+    let begun = ["caplune: missing: ", "caplune: over: refused by 7: ", "caplune: bad:1:15: expected "];
+    assert!(said.len() == 3 && said.iter().zip(begun).all(|(line, begun)| line.starts_with(begun)), "{said:?}");
+    for (line, printed) in [("t.txt bad t2.txt", "1: t.txt t2.txt\n"), ("bad missing bad", "")] {
+        let ended = folder.caplune(&format!("compare stock.txt {line}"));
+        assert_eq!((ended.status, ended.text()), (Some(2), printed), "{line}");
+    }
+    // of two, the first
+    assert!(folder.says("compare stock.txt missing bad").starts_with("missing: "));
     folder.write("a b", &folder.read("u.txt"));
     let words = ["compare", "stock.txt", "t.txt", "u.txt", "a b"];
     assert_eq!(folder.run(Path::new(PROGRAM), &words, b"").text(), "1: t.txt\n2: u.txt \"a b\"\n");
@@ -563,13 +773,44 @@ fn late_differences() {
     let ended = folder.caplune("compare --svg difference.svg stock one two");
     assert_eq!((ended.status, &ended.err[..]), (Some(1), ""));
     let lines: Vec<&str> = ended.text().lines().collect();
-    assert!(lines.len() < 400, "{}", lines.len());
+    assert!(lines.len() < 40, "{}", lines.len());
+    let drawn = ended.text().split("the design:\n").nth(1).and_then(|rest| rest.split("\n\n").next()).unwrap();
+    assert!(drawn.contains("─ … (") && drawn.contains(" parts)\n") && drawn.ends_with("a2 <=="), "{drawn}");
+    let picture = String::from_utf8(folder.read("difference.svg")).unwrap();
+    assert!(picture.lines().count() < 80 && picture.contains(" parts)</text>"), "{picture}");
     folder.write("design.txt", lines[1].as_bytes());
     let place = lines[2].strip_prefix("place ").unwrap();
     for (sheet, line) in [("one", lines[3]), ("two", lines[4])] {
         let found = folder.prints(&format!("place stock {sheet} design.txt {place}"));
         assert_eq!(format!("{sheet} holds {} there", found.trim_end()), line);
     }
+}
+
+/// Two sheets that go on with the two sub-parts of the twentieth part, of which one ends 30 levels below: the chain is
+/// folded twice, and the leaf at which each lays its block is seen and marked.
+#[test]
+fn leaves_that_decide() {
+    let folder = Folder::new();
+    folder.write("stock", b"stock parts a/2 e/0 c/0 blocks g/1 u/0 v/0");
+    for (name, variable) in [("left", "x1"), ("right", "x2")] {
+        let mut sheet = "sheet opening p1(x1)\n".to_string();
+        for pass in 1..=20 {
+            let next = if pass < 20 { format!("p{}(x1)", pass + 1) } else { format!("r1({variable})") };
+            sheet += &format!("p{pass}(a(x1, x2)) -> g({next}) p{pass}(e) -> u p{pass}(c) -> u\n");
+        }
+        for pass in 1..=30 {
+            let (next, last) = if pass < 30 { (format!("r{}(x1)", pass + 1), "u") } else { ("u".to_string(), "v") };
+            sheet += &format!("r{pass}(a(x1, x2)) -> {next} r{pass}(e) -> u r{pass}(c) -> {last}\n");
+        }
+        folder.write(name, sheet.as_bytes());
+    }
+    let ended = folder.caplune("compare stock left right");
+    assert_eq!((ended.status, &ended.err[..]), (Some(1), ""));
+    let drawn = ended.text().split("the design:\n").nth(1).and_then(|rest| rest.split("\n\n").next()).unwrap();
+    let labels: Vec<&str> = drawn.lines().map(|line| line.trim_start_matches([' ', '│', '├', '└', '─'])).collect();
+    let (down, up) = labels.split_at(labels.iter().position(|label| label.ends_with("<==")).unwrap());
+    assert_eq!(down, ["a", "a", "a", "… (28 parts)", "a", "a", "a", "a", "a", "a", "… (46 parts)", "a", "a", "a"]);
+    assert_eq!(up, ["c <==", "e", "e", "e", "e", "e", "e", "e <==", "e", "e", "e", "e", "e"]);
 }
 
 /// What has no such place is told by words that are no name.
@@ -586,7 +827,7 @@ fn places() {
     for place in ["+1", "1.+1", "1.", "256", ".", "x"] {
         assert!(folder
             .says(&format!("place stock sheet design {place}"))
-            .starts_with(&format!("`{place}`: an address")));
+            .starts_with(&format!("`{place}`: a place is ")));
     }
 }
 
@@ -717,8 +958,160 @@ fn outputs_that_fail() {
     assert_eq!(ended.err, "2\n");
 }
 
+impl Folder {
+    /// Every file: its name, its bytes, and its number on disk, which another file has when it is replaced.
+    #[cfg(unix)]
+    fn state(&self) -> Vec<(String, Vec<u8>, u64)> {
+        use std::os::unix::fs::MetadataExt;
+        let number = |name: &String| fs::symlink_metadata(self.file(name)).unwrap().ino();
+        self.names().into_iter().map(|name| (name.clone(), self.read(&name), number(&name))).collect()
+    }
+
+    /// What it says of this file where nothing at all has changed.
+    #[cfg(unix)]
+    fn keeps(&self, line: &str, file: &str) -> String {
+        let before = self.state();
+        let said = self.says(line);
+        assert_eq!(self.state(), before, "{line}");
+        said.strip_prefix(&format!("{file}: ")).unwrap_or_else(|| panic!("{line}: {said}")).to_string()
+    }
+}
+
+/// A folder with files that must not be lost: bytes with their tables, a book with its lock, copies of both under other
+/// names, and links of both kinds.
+#[cfg(unix)]
+fn kept() -> Folder {
+    let folder = first();
+    for line in ["convert -o stock stock.txt", "convert -o t stock.txt t.txt", "book make book stock.txt"] {
+        folder.prints(line);
+    }
+    folder.prints("book enter book t.txt");
+    for (name, bytes) in [
+        ("copied", &folder.read("t.names")[..]),
+        ("saved", &folder.read("book")),
+        ("plan.txt", b"plan f(e, e)"),
+        ("plan.xml", b"<A1><A2/><A2/></A1>"),
+        ("pairs.txt", b"stock parts f/2 e/0 blocks g/0"),
+        ("p.txt", b"sheet opening g"),
+    ] {
+        folder.write(name, bytes);
+    }
+    folder
+}
+
+/// Every command with an output: what stands before it, behind it, and the files among this that are read.
+#[cfg(unix)]
+const OUTPUTS: &[(&str, &str, &[&str])] = &[
+    ("convert -o", "stock.txt", &["stock.txt"]),
+    ("convert -o", "stock", &["stock"]),
+    ("convert -o", "stock t", &["stock", "t"]),
+    ("convert -o", "stock.txt design.txt", &["stock.txt", "design.txt"]),
+    ("sew -o", "stock.txt t.txt design.txt", &["stock.txt", "t.txt", "design.txt"]),
+    ("sew --bytes -o", "stock t design.txt", &["stock", "t", "design.txt"]),
+    ("xml -o", "stock.txt plan.txt", &["stock.txt", "plan.txt"]),
+    ("plan -o", "stock.txt plan.xml", &["stock.txt", "plan.xml"]),
+    ("clean -o", "stock.txt t.txt", &["stock.txt", "t.txt"]),
+    ("clean --bytes -o", "stock t", &["stock", "t"]),
+    ("compare --svg", "stock.txt t.txt u.txt", &["stock.txt", "t.txt", "u.txt"]),
+    ("compare --svg", "stock.txt t.txt t2.txt", &["stock.txt", "t.txt", "t2.txt"]),
+    ("join -o", "stock.txt t.txt pairs.txt p.txt", &["stock.txt", "t.txt", "pairs.txt", "p.txt"]),
+    ("join --bytes --stock", "stock.txt t.txt pairs.txt p.txt", &["stock.txt", "t.txt", "pairs.txt", "p.txt"]),
+    ("join --stock new -o", "stock.txt t.txt pairs.txt p.txt", &["stock.txt", "t.txt", "pairs.txt", "p.txt"]),
+    ("book show -o", "book 1", &["book"]),
+    ("book show --bytes -o", "book 0", &["book"]),
+];
+
+/// No output of any command overwrites a file that it reads, a table of names, a lock or a book.
+#[cfg(unix)]
+#[test]
+fn nothing_is_overwritten() {
+    let folder = kept();
+    for (before, behind, inputs) in OUTPUTS {
+        let refused = "it would be overwritten: give another file";
+        for input in *inputs {
+            assert_eq!(folder.keeps(&format!("{before} {input} {behind}"), input), refused);
+            assert_eq!(folder.keeps(&format!("{before} ./{input} {behind}"), input), refused);
+            // over links, and under a second name
+            std::os::unix::fs::symlink(input, folder.file("link")).unwrap();
+            fs::hard_link(folder.file(input), folder.file("second")).unwrap();
+            assert_eq!(folder.keeps(&format!("{before} link {behind}"), input), refused);
+            assert_eq!(folder.keeps(&format!("{before} second {behind}"), input), refused);
+            ["link", "second"].iter().for_each(|name| fs::remove_file(folder.file(name)).unwrap());
+        }
+        for (output, what) in [("copied", "a table of names"), ("saved", "a book")] {
+            let said = folder.keeps(&format!("{before} {output} {behind}"), output);
+            assert_eq!(said, format!("it is {what}, and would be overwritten: give another file"));
+        }
+        // those that are read, too, are told by their names
+        for output in ["t.names", "stock.names", "u.txt.names", "book.lock", "later.lock", "book.new~"] {
+            let said = folder.keeps(&format!("{before} {output} {behind}"), output);
+            let ending = output.rsplit_once('.').unwrap().1;
+            assert!(said == refused || said.starts_with(&format!("names that end in `.{ending}` are ")), "{said}");
+        }
+        std::os::unix::fs::symlink("t.names", folder.file("link")).unwrap();
+        let said = folder.says(&format!("{before} link {behind}"));
+        assert!(said.starts_with("t.names: it would be ") || said.starts_with("link: names that end in "), "{said}");
+        fs::remove_file(folder.file("link")).unwrap();
+        // another file is replaced, and what is no file is written to
+        for output in ["new", "p2.txt", "/dev/null"] {
+            let ended = folder.caplune(&format!("{} {output} {behind}", before.replace(" new", " other")));
+            assert!(matches!(ended.status, Some(0 | 1)) && ended.err.is_empty(), "{before}: {ended:?}");
+        }
+    }
+    // a number is no file
+    folder.write("1", b"");
+    folder.prints("book show -o 1 book 1");
+}
+
+/// Nor does what is written beside an output, or beside a book.
+#[cfg(unix)]
+#[test]
+fn nothing_beside_is_overwritten() {
+    let folder = kept();
+    for (from, to) in [("stock.txt", "x.names"), ("t.txt", "y.names"), ("t.txt", "book.new~"), ("stock.txt", "z.new~")]
+    {
+        folder.write(to, &folder.read(from));
+    }
+    fs::hard_link(folder.file("y.names"), folder.file("second")).unwrap();
+    for (line, file, output) in [
+        ("convert -o x x.names", "x.names", "x"),
+        ("convert -o ./x x.names t.txt", "x.names", "./x"),
+        ("convert -o y stock.txt y.names", "y.names", "y"),
+        ("convert -o y stock.txt second", "second", "y"),
+        ("clean --bytes -o y stock.txt y.names", "y.names", "y"),
+        ("join --bytes --stock x -o new x.names t.txt pairs.txt p.txt", "x.names", "x"),
+        ("join --bytes --stock new -o y stock.txt y.names pairs.txt p.txt", "y.names", "y"),
+        ("book make x x.names", "x.names", "x"),
+        ("book make z z.new~", "z.new~", "z"),
+        ("book enter book t.txt book.new~", "book.new~", "book"),
+    ] {
+        let said = folder.keeps(line, file);
+        assert_eq!(
+            said,
+            format!("it would be overwritten by what stands beside {output}: give another file"),
+            "{line}"
+        );
+    }
+    for line in ["book make t2.txt.names stock.txt", "book make n.lock stock.txt", "book make n.new~ stock.txt"] {
+        let file = line.split(' ').nth(2).unwrap();
+        assert!(folder.keeps(line, file).starts_with("names that end in "), "{line}");
+    }
+    // a table whose file has gone stays where no book is made
+    folder.write("gone.names", &folder.read("stock.names"));
+    assert!(folder.keeps("book make --size 5 gone stock.txt", "gone").starts_with("refused by 8: "));
+    // the second of two outputs is refused before the first is written
+    let line = "join --bytes --stock new -o n stock.txt t.txt pairs.txt p.txt";
+    folder.write("n.names", b"a letter");
+    assert_eq!(folder.keeps(line, "n.names"), "it would be overwritten by the names, and is no table of names");
+    // standard input may be a file
+    let script = "exec \"$0\" xml -o plan.txt stock.txt < plan.txt";
+    let ended = folder.run(Path::new("/bin/sh"), &["-c", script, PROGRAM], b"");
+    assert_eq!(told(&ended, script), "standard input: it would be overwritten: give another file");
+    assert_eq!(folder.read("plan.txt"), b"plan f(e, e)");
+}
+
 /// Damaged files by seed, text and bytes, given to every command: it ends with 0, 1 or 2, says one line exactly where
-/// it ends with 2, and leaves no other file behind.
+/// it ends with 2 (of many that are compared, one of each that is refused), and leaves no other file behind.
 #[test]
 fn damaged_files() {
     let folder = first();
@@ -759,7 +1152,11 @@ fn damaged_files() {
         let line = lines[seed as usize % lines.len()];
         let ended = folder.caplune(line);
         match ended.status {
-            Some(2) => assert_eq!((ended.err.lines().count(), &ended.err[..9]), (1, "caplune: "), "{seed}: {ended:?}"),
+            Some(2) => {
+                let most = if line.starts_with("compare stock sheet t.txt sheet") { 3 } else { 1 };
+                assert!((1..=most).contains(&ended.err.lines().count()), "{seed}: {ended:?}");
+                assert!(ended.err.lines().all(|line| line.starts_with("caplune: ")), "{seed}: {ended:?}");
+            }
             Some(0 | 1) => assert_eq!(ended.err, "", "{seed}"),
             _ => panic!("{seed}: {line}: {ended:?}"),
         }

@@ -156,7 +156,7 @@ impl<'a> Reader<'a> {
         if self.is_at_call() {
             return self.call(reach);
         }
-        self.symbol(symbols, " or a call as `q(x1)`").map(Node::Symbol)
+        self.symbol(symbols, " or an open end as `q(x1)`").map(Node::Symbol)
     }
 
     fn is_at_call(&self) -> bool {

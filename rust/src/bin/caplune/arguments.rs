@@ -2,6 +2,9 @@
 use crate::failure::Failure;
 use std::ffi::{OsStr, OsString};
 
+/// What an option takes that names a file to be written.
+pub const FILE: &str = "FILE";
+
 /// An option of a command.
 pub struct Choice {
     /// How it is written.
@@ -10,6 +13,28 @@ pub struct Choice {
     pub takes: Option<&'static str>,
     /// What it is for.
     pub says: &'static str,
+}
+
+impl Choice {
+    /// Whether this is how it is written, or was.
+    fn is(&self, name: &str) -> bool {
+        let former = FORMER.iter().find(|(former, _)| *former == name);
+        self.name == former.map_or(name, |(_, now)| now)
+    }
+}
+
+/// The names that options had before, and those that they have.
+const FORMER: [(&str, &str); 1] = [("--area", "--size")];
+
+/// An option apart from what it takes, if that stands in the same word: behind a `=`, or just behind a short option.
+fn split<'a>(text: &'a str, choices: &[Choice]) -> (&'a str, Option<&'a str>) {
+    let short = text.split_at_checked(2).filter(|(name, _)| choices.iter().any(|choice| choice.name == *name));
+    match (short, text.split_once('=')) {
+        (Some((name, "")), _) => (name, None),
+        (Some((name, value)), _) => (name, Some(value.strip_prefix('=').unwrap_or(value))),
+        (None, Some((name, value))) => (name, Some(value)),
+        (None, None) => (text, None),
+    }
 }
 
 /// What follows the name of a command.
@@ -38,25 +63,22 @@ impl Arguments {
         Ok(arguments)
     }
 
-    /// Takes the option `text`, with what it takes from behind its `=` or from the next of `words`.
+    /// Takes the option `text`, with what it takes from its own end or from the next of `words`.
     fn choose<'a>(
         &mut self,
         text: &str,
         words: &mut impl Iterator<Item = &'a OsString>,
         choices: &[Choice],
     ) -> Result<(), String> {
-        let (name, given) = match text.split_once('=') {
-            Some((name, value)) => (name, Some(OsString::from(value))),
-            None => (text, None),
-        };
-        let choice = choices.iter().find(|choice| choice.name == name).ok_or(format!("there is no option {name}"))?;
+        let (name, given) = split(text, choices);
+        let choice = choices.iter().find(|choice| choice.is(name)).ok_or(format!("there is no option {name}"))?;
         if self.value(choice.name).is_some() {
             return Err(format!("{name} is given twice"));
         }
         let value = match (choice.takes, given) {
             (None, None) => OsString::new(),
             (None, Some(_)) => return Err(format!("{name} takes nothing")),
-            (Some(_), Some(value)) => value,
+            (Some(_), Some(value)) => value.into(),
             (Some(takes), None) => words.next().cloned().ok_or(format!("{name} takes {takes}"))?,
         };
         self.chosen.push((choice.name, value));

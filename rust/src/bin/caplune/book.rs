@@ -3,25 +3,28 @@ use crate::arguments::{number, Arguments};
 use crate::commands::count;
 use crate::failure::Failure;
 use crate::files::{
-    names_beside, not_over, own_table, print, remove_table, shown, write_table, Content, Inputs, Stock,
+    free_name, keep_beside, names_beside, own_table, print, remove_table, shown, write_table, Content, Inputs, Stock,
+    NAMES, UNFINISHED,
 };
 use crate::Status;
-use caplune::{store, text, Registry};
+use caplune::{store, text, Refusal, Registry};
 use std::ffi::OsStr;
 use std::path::Path;
 
 /// Makes a book.
 pub fn make(arguments: &Arguments) -> Result<Status, Failure> {
-    let area = arguments.number("--area", Registry::LONGEST_AREA, Registry::LONGEST_AREA)?;
+    let area = arguments.number("--size", Registry::LONGEST_AREA, Registry::LONGEST_AREA)?;
     let path = path_of(&arguments.plain[0])?;
+    free_name(path)?;
+    keep_beside(path, &[NAMES, UNFINISHED], &arguments.plain[1..])?;
     let stock = Inputs::default().stock(&arguments.plain[1])?;
     let name = shown(path.as_os_str());
-    if !path.exists() {
+    if !path.exists() && Registry::new(&stock.alphabets, area).is_ok() {
         // a table without its book, which must not become the new book's
         own_table(path)?;
         remove_table(path).map_err(|error| Failure::of_file(&name, error))?;
     }
-    store::make(path, &stock.alphabets, area).map_err(|error| Failure::of_book(&name, error))?;
+    store::make(path, &stock.alphabets, area).map_err(|error| failed(path, error))?;
     write_table(path, &text::write_names(&stock.names))?;
     Ok(Status::Done)
 }
@@ -34,10 +37,21 @@ fn path_of(file: &OsStr) -> Result<&Path, Failure> {
     }
 }
 
+/// Why a book is not made, read or changed.
+fn failed(path: &Path, error: store::Error) -> Failure {
+    let is_empty = std::fs::metadata(path).is_ok_and(|found| found.len() == 0);
+    match error {
+        store::Error::Damaged(_) if is_empty => {
+            Failure::empty(&shown(path.as_os_str()), Some(Refusal::BadRegistry), "a book")
+        }
+        error => Failure::of_book(&shown(path.as_os_str()), error),
+    }
+}
+
 /// A book on disk, with the stock that it was made for.
 fn open(file: &OsStr) -> Result<(Registry, Stock), Failure> {
     let path = path_of(file)?;
-    let registry = store::read(path).map_err(|error| Failure::of_book(&shown(file), error))?;
+    let registry = store::read(path).map_err(|error| failed(path, error))?;
     let alphabets = registry.alphabets().clone();
     let names = names_beside(Some(path), &alphabets)?;
     Ok((registry, Stock { alphabets, names }))
@@ -47,6 +61,7 @@ fn open(file: &OsStr) -> Result<(Registry, Stock), Failure> {
 /// the book is on disk.
 pub fn enter(arguments: &Arguments) -> Result<Status, Failure> {
     let file = &arguments.plain[0];
+    keep_beside(path_of(file)?, &[UNFINISHED], &arguments.plain[1..])?;
     // the stock of a book never changes, so it can be read before the book is kept from others
     let (_, stock) = open(file)?;
     let mut inputs = Inputs::default();
@@ -61,7 +76,7 @@ pub fn enter(arguments: &Arguments) -> Result<Status, Failure> {
         };
         sheets.into_iter().map(entered).collect::<Vec<_>>()
     });
-    let answers = answers.map_err(|error| Failure::of_book(&shown(file), error))?;
+    let answers = answers.map_err(|error| failed(Path::new(file), error))?;
     let mut refused = false;
     for answer in answers {
         match answer {
@@ -95,7 +110,6 @@ pub fn list(arguments: &Arguments) -> Result<Status, Failure> {
 
 /// Shows the sheet of a number, or the stock.
 pub fn show(arguments: &Arguments) -> Result<Status, Failure> {
-    not_over(arguments.value("-o"), &arguments.plain[..1])?;
     let (registry, stock) = open(&arguments.plain[0])?;
     match number(&arguments.plain[1]) {
         Some(0) => Content::stock(&stock).deliver(arguments)?,

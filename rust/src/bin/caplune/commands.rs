@@ -1,11 +1,11 @@
 //! The commands: what each takes, does and says of itself.
-use crate::arguments::{Arguments, Choice};
+use crate::arguments::{Arguments, Choice, FILE};
 use crate::failure::Failure;
-use crate::files::{not_over, print, shown, Content, Either, Input, Inputs, Stock};
+use crate::files::{keep, print, shown, Content, Either, Input, Inputs, Stock};
 use crate::{book, comparing, Status};
 use caplune::text::{self, Names};
-use caplune::{Address, Transducer};
-use std::ffi::OsString;
+use caplune::{Address, Refusal, Transducer};
+use std::ffi::{OsStr, OsString};
 use std::fmt::Write;
 
 /// A command of the program.
@@ -21,7 +21,7 @@ pub struct Command {
     run: fn(&Arguments) -> Result<Status, Failure>,
 }
 
-const OUTPUT: Choice = Choice { name: "-o", takes: Some("FILE"), says: "write to FILE, not to standard output" };
+const OUTPUT: Choice = Choice { name: "-o", takes: Some(FILE), says: "write to FILE, not to standard output" };
 const BYTES: Choice =
     Choice { name: "--bytes", takes: None, says: "write bytes, and the table FILE.names beside FILE; else text" };
 const PLAN: Choice = Choice { name: "--bytes", takes: None, says: "write bytes; else text" };
@@ -33,12 +33,15 @@ const MOST: Choice = Choice {
 };
 const SVG: Choice = Choice {
     name: "--svg",
-    takes: Some("FILE"),
+    takes: Some(FILE),
     says: "draw the difference of two sheets as a picture; none if they are alike",
 };
-const STOCK: Choice = Choice { name: "--stock", takes: Some("FILE"), says: "write the joined sheet's stock to FILE" };
-const AREA: Choice =
-    Choice { name: "--area", takes: Some("N"), says: "the book has room for N bytes (else for any 32 sheets)" };
+const STOCK: Choice = Choice { name: "--stock", takes: Some(FILE), says: "write the joined sheet's stock to FILE" };
+const SIZE: Choice = Choice {
+    name: "--size",
+    takes: Some("N"),
+    says: "the book has room for N bytes, at most 655538 (else for any 32 sheets)",
+};
 
 /// As many words as a command line can have.
 const ANY: usize = usize::MAX;
@@ -138,8 +141,10 @@ const COMMANDS: &[Command] = &[
         words: (3, ANY),
         choices: &[SVG],
         does: "tell whether sheets give equal plans on every design",
-        more: "Of two sheets that do not, it shows a design, a place, and the plans around it; of more\n\
-               than two it lists the classes of alike ones. The status is 0 if all are alike, and 1 if not.",
+        more: "Of two sheets that do not, it shows a design, a place, and the plans around it. In the design\n\
+               the parts at which the two blocks are laid are marked, and long chains are folded. Of more\n\
+               than two it lists the classes of alike ones. The status is 0 if all are alike, and 1 if not.\n\
+               Of more than two, a sheet that is refused is told, the others are compared, and the status is 2.",
         example: "caplune compare --svg difference.svg stock.txt t.txt u.txt",
         run: comparing::compare,
     },
@@ -169,7 +174,7 @@ const COMMANDS: &[Command] = &[
         name: "book make",
         takes: "BOOK STOCK",
         words: (2, 2),
-        choices: &[AREA],
+        choices: &[SIZE],
         does: "make a book for sheets under a stock",
         more: "The names of the kinds go to the table BOOK.names. A book that is there already stays.",
         example: "caplune book make book stock.txt",
@@ -216,9 +221,9 @@ pub fn run(words: &[OsString]) -> Result<Status, Failure> {
         return run(&[&words[1..], &["--help".into()]].concat());
     }
     if is(first, &["--help", "-h", "help"]) {
-        return print(&overview(COMMANDS)).map(|()| Status::Done);
+        return print(&(PURPOSE.to_string() + &overview(COMMANDS))).map(|()| Status::Done);
     }
-    if is(first, &["--version"]) {
+    if is(first, &["--version", "-V"]) {
         return print(concat!("caplune ", env!("CARGO_PKG_VERSION"), "\n")).map(|()| Status::Done);
     }
     let helped = |word: &OsString| is(word, &["--help", "-h"]);
@@ -236,6 +241,7 @@ pub fn run(words: &[OsString]) -> Result<Status, Failure> {
     if !(least..=most).contains(&arguments.plain.len()) {
         return Err(wrong(&format!("it takes {}", command.takes), Some(command)));
     }
+    keep(&command.outputs(&arguments), command.files(&arguments))?;
     (command.run)(&arguments)
 }
 
@@ -263,6 +269,22 @@ fn wrong(why: &str, command: Option<&Command>) -> Failure {
     })
 }
 
+/// What the program is for, and the five words that its users use all day.
+const PURPOSE: &str = "\
+caplune tells whether two sheets sew alike, on every design there is, and shows
+where they do not. It sews, cleans and joins sheets, and keeps a book of them.
+
+  design       what a customer draws: a tree of parts; each kind of part has a
+               fixed number of places, none to four, for smaller parts
+  plan         what the machine sews: a tree of stitch blocks, built the same way
+  sheet        the table that turns a design into a plan for one fabric
+  pass         one way in which a sheet reads a part: a line for each kind of part,
+               whose open ends say which pass goes on with which smaller part
+  clean sheet  a sheet that lays every block as early as it is certain, holds no
+               two passes that do the same, and numbers its passes as they are met
+
+";
+
 /// All commands, a line each.
 fn overview<'a>(commands: impl IntoIterator<Item = &'a Command>) -> String {
     let mut text = "usage: caplune COMMAND ...\n\n".to_string();
@@ -278,6 +300,18 @@ The status is 0 if it is done or the sheets are alike, 1 if they differ,
 }
 
 impl Command {
+    /// The files that the options name, to be written.
+    fn outputs<'a>(&self, arguments: &'a Arguments) -> Vec<&'a OsStr> {
+        let options = self.choices.iter().filter(|choice| choice.takes == Some(FILE));
+        options.filter_map(|choice| arguments.value(choice.name)).collect()
+    }
+
+    /// The words that are files: all but a place or a number, which stands last.
+    fn files<'a>(&self, arguments: &'a Arguments) -> &'a [OsString] {
+        let last = ["PLACE", "NUMBER"].iter().any(|word| self.takes.ends_with(word));
+        &arguments.plain[..arguments.plain.len() - usize::from(last)]
+    }
+
     fn help(&self) -> String {
         let Command { name, takes, choices, does, more, example, .. } = self;
         let options = if choices.is_empty() { "" } else { "[OPTION...] " };
@@ -350,9 +384,26 @@ fn sew(arguments: &Arguments) -> Result<Status, Failure> {
     let sheet = inputs.sheet(&arguments.plain[1], &stock)?;
     let design = inputs.design(&arguments.plain[2], &stock)?;
     let plan = sheet.transducer.translate(&design, most);
-    let plan = plan.map_err(|refusal| Failure::refused(&shown(&arguments.plain[2]), refusal))?;
+    let plan = plan.map_err(|refusal| no_plan(&shown(&arguments.plain[2]), refusal, most))?;
     Content::plan(&plan, &stock.names).deliver(arguments)?;
     Ok(Status::Done)
+}
+
+/// A design is not sewn: where the plan is too long, the limit that it passes, which can be raised up to the highest.
+fn no_plan(design: &str, refusal: Refusal, most: usize) -> Failure {
+    if refusal != Refusal::LongOutput {
+        return Failure::refused(design, refusal);
+    }
+    let (limit, other) = match Vec::<u8>::new().try_reserve_exact(most) {
+        Err(_) => ("there is memory for".to_string(), "take a smaller design".to_string()),
+        Ok(()) if most < Transducer::MOST_OUTPUT => {
+            (most.to_string(), format!("allow more by --most, up to {}", Transducer::MOST_OUTPUT))
+        }
+        Ok(()) => (most.to_string(), "take a smaller design".to_string()),
+    };
+    let why = format!("refused by {}: the plan has more blocks than {limit}", refusal.number());
+    let remedy = format!("{other}, or ask for the block at one place (`caplune place`)");
+    Failure::of_file(design, format!("{why}; what to do: {remedy}"))
 }
 
 fn place(arguments: &Arguments) -> Result<Status, Failure> {
@@ -431,11 +482,23 @@ fn join(arguments: &Arguments) -> Result<Status, Failure> {
     let first = inputs.sheet(&arguments.plain[1], &first_stock)?;
     let second = inputs.sheet(&arguments.plain[3], &second_stock)?;
     let joined = first.transducer.then(&second.transducer).map_err(|refusal| Failure::refused(&both(1, 3), refusal))?;
-    let stock_file = arguments.value("--stock");
-    not_over(stock_file, &arguments.value("-o").map(OsString::from).into_iter().collect::<Vec<_>>())?;
-    if let Some(file) = stock_file {
-        Content::stock(&stock).write(Some(file), arguments.has("--bytes"))?;
+    let (file, stock_file, bytes) = (arguments.value("-o"), arguments.value("--stock"), arguments.has("--bytes"));
+    let (sheet, stock) = (Content::numbered(&joined, &stock.names), Content::stock(&stock));
+    // both can be written, or neither is
+    sheet.fits(file, bytes)?;
+    if stock_file.is_some() {
+        stock.write(stock_file, bytes)?;
     }
-    Content::numbered(&joined, &stock.names).deliver(arguments)?;
+    sheet.write(file, bytes)?;
     Ok(Status::Done)
+}
+
+/// The highest limit is not advised to be raised.
+#[test]
+fn highest_limit() {
+    for (most, advice) in [(Transducer::MOST_OUTPUT, "take a smaller design"), (1 << 20, "allow more by --most")] {
+        let Failure::Told(line) = no_plan("design", Refusal::LongOutput, most) else { panic!("it is told") };
+        assert!(line.starts_with(&format!("design: refused by 6: the plan has more blocks than {most}; ")), "{line}");
+        assert!(line.contains(&format!("what to do: {advice}")), "{line}");
+    }
 }

@@ -2,10 +2,10 @@
 use crate::arguments::Arguments;
 use crate::commands::block;
 use crate::failure::Failure;
-use crate::files::{not_over, print, write_file, Inputs, Sheet, Stock};
+use crate::files::{print, write_file, Inputs, Sheet, Stock};
 use crate::Status;
-use caplune::drawing::{short, svg, Drawn};
-use caplune::{text, Comparison, Difference, Refusal, Transducer};
+use caplune::drawing::{origin, short, svg, Drawn};
+use caplune::{text, Address, Comparison, Difference, Refusal, Transducer};
 use std::path::Path;
 
 /// How many parts of a design are drawn.
@@ -21,11 +21,12 @@ pub fn compare(arguments: &Arguments) -> Result<Status, Failure> {
     if arguments.has("--svg") && files.len() != 2 {
         return Err(Failure::Told("--svg draws the difference of two sheets, and more are given".to_string()));
     }
-    not_over(arguments.value("--svg"), &arguments.plain)?;
-    let sheets = files.iter().map(|file| inputs.sheet(file, &stock)).collect::<Result<Vec<_>, _>>()?;
-    match &sheets[..] {
-        [first, second] => two(&stock, first, second, arguments),
-        many => classes(many),
+    match files {
+        [first, second] => {
+            let [first, second] = [inputs.sheet(first, &stock)?, inputs.sheet(second, &stock)?];
+            two(&stock, &first, &second, arguments)
+        }
+        many => classes(many.iter().map(|file| inputs.sheet(file, &stock))),
     }
 }
 
@@ -61,8 +62,11 @@ impl Drawings {
     fn of(stock: &Stock, sheets: [&Sheet; 2], shown: &Difference) -> Result<Self, Refusal> {
         let names = stock.names.outputs();
         let plan = |transducer: &Transducer| Drawn::around(transducer, &shown.tree, &shown.address, names, DISTANCE);
+        // the parts at which the two blocks are laid, which are seen however far down they are
+        let lays = |sheet: &Sheet| origin(&sheet.transducer, &shown.tree, &shown.address);
+        let parts: Vec<Address> = sheets.into_iter().filter_map(lays).collect();
         Ok(Drawings {
-            design: Drawn::input_tree(&shown.tree, stock.names.inputs(), MOST_PARTS),
+            design: Drawn::input_tree(&shown.tree, stock.names.inputs(), MOST_PARTS, &parts),
             plans: [plan(&sheets[0].transducer)?, plan(&sheets[1].transducer)?],
         })
     }
@@ -97,20 +101,37 @@ impl Drawings {
     }
 }
 
-/// Prints the classes of alike sheets, a line each, in the order of their first sheets.
-fn classes(sheets: &[Sheet]) -> Result<Status, Failure> {
+/// Prints the classes of alike sheets, a line each, in the order of their first sheets. Those that are refused are told
+/// one by one.
+fn classes(sheets: impl Iterator<Item = Result<Sheet, Failure>>) -> Result<Status, Failure> {
     let mut classes: Vec<(Transducer, Vec<String>)> = Vec::new();
-    for Sheet { name, transducer, .. } in sheets {
-        let form = transducer.normal_form().map_err(|refusal| Failure::refused(name, refusal))?;
-        match classes.iter_mut().find(|(other, _)| *other == form) {
-            Some((_, names)) => names.push(apart(name)),
-            None => classes.push((form, vec![apart(name)])),
+    let mut refused = false;
+    for cleaned in sheets.map(|sheet| sheet.and_then(cleaned)) {
+        match cleaned {
+            Ok((name, form)) => match classes.iter_mut().find(|(other, _)| *other == form) {
+                Some((_, names)) => names.push(name),
+                None => classes.push((form, vec![name])),
+            },
+            Err(failure) => {
+                failure.tell();
+                refused = true;
+            }
         }
     }
     for (number, (_, names)) in (1..).zip(&classes) {
         print(&format!("{number}: {}\n", names.join(" ")))?;
     }
-    Ok(if classes.len() > 1 { Status::Differing } else { Status::Done })
+    match classes.len() {
+        _ if refused => Err(Failure::ToldBefore),
+        0 | 1 => Ok(Status::Done),
+        _ => Ok(Status::Differing),
+    }
+}
+
+/// The name of a sheet, as it stands in its class, and its clean sheet.
+fn cleaned(sheet: Sheet) -> Result<(String, Transducer), Failure> {
+    let form = sheet.transducer.normal_form().map_err(|refusal| Failure::refused(&sheet.name, refusal))?;
+    Ok((apart(&sheet.name), form))
 }
 
 /// A name that can be told from its neighbours on a line.

@@ -24,6 +24,12 @@ impl Failure {
         Failure::of_file(file, format!("{refusal}; what to do: {}", refusal.remedy()))
     }
 
+    /// A file is empty where something was expected, which the library refuses by this number.
+    pub fn empty(file: &str, refusal: Option<Refusal>, expected: &str) -> Self {
+        let number = refusal.map_or(String::new(), |refusal| format!("refused by {}: ", refusal.number()));
+        Failure::of_file(file, format!("{number}it is empty, where {expected} was expected"))
+    }
+
     /// A text is not read.
     pub fn of_text(file: &str, error: text::Error) -> Self {
         match error {

@@ -2,7 +2,7 @@
 use crate::arguments::Arguments;
 use crate::failure::Failure;
 use caplune::text::{self, Kind, Names, StateNames};
-use caplune::{store, Alphabets, InputTree, OutputTree, Transducer};
+use caplune::{store, Alphabets, InputTree, OutputTree, Refusal, Registry, Transducer};
 use std::ffi::{OsStr, OsString};
 use std::fs::File;
 use std::io::{self, Read, Write};
@@ -10,6 +10,9 @@ use std::path::{Path, PathBuf};
 
 /// The longest file that is read. A stock, design, plan or sheet in bytes is far shorter; this bounds texts.
 const LONGEST: u64 = 16 << 20;
+
+/// Standard input as a file.
+const STANDARD_INPUT: &str = "/dev/stdin";
 
 /// A file that was read.
 pub struct Input {
@@ -94,7 +97,7 @@ impl Inputs {
     pub fn xml(&mut self, file: Option<&OsString>, stock: &Stock) -> Result<OutputTree, Failure> {
         let input = self.read_or_standard_input(file)?;
         let read = OutputTree::from_xml(&stock.alphabets, &input.bytes);
-        read.map_err(|refusal| Failure::refused(&input.name, refusal))
+        read.map_err(|refusal| input.refused(refusal, "the XML of a plan"))
     }
 
     fn read_or_standard_input(&mut self, file: Option<&OsString>) -> Result<Input, Failure> {
@@ -108,13 +111,34 @@ impl Input {
         text::is_text(&self.bytes)
     }
 
+    /// Whether there is nothing in it, or line ends alone.
+    fn is_empty(&self) -> bool {
+        self.bytes.iter().all(|byte| matches!(byte, b'\n' | b'\r'))
+    }
+
+    /// The library refuses it, where this was expected.
+    fn refused(&self, refusal: Refusal, expected: &str) -> Failure {
+        match self.is_empty() {
+            true => Failure::empty(&self.name, Some(refusal), expected),
+            false => Failure::refused(&self.name, refusal),
+        }
+    }
+
+    /// It is not read as a table of names.
+    fn unread(&self, error: text::Error) -> Failure {
+        match self.is_empty() {
+            true => Failure::empty(&self.name, None, "a table of names"),
+            false => Failure::of_text(&self.name, error),
+        }
+    }
+
     /// It as a stock.
     pub fn stock(&self) -> Result<Stock, Failure> {
         if self.is_text() {
             let read = text::read_alphabets(&self.bytes).map_err(|error| Failure::of_text(&self.name, error))?;
             return Ok(Stock { alphabets: read.0, names: read.1 });
         }
-        let alphabets = Alphabets::read(&self.bytes).map_err(|refusal| Failure::refused(&self.name, refusal))?;
+        let alphabets = Alphabets::read(&self.bytes).map_err(|refusal| self.refused(refusal, "a stock"))?;
         let names = names_beside(self.path.as_deref(), &alphabets)?;
         Ok(Stock { alphabets, names })
     }
@@ -127,11 +151,12 @@ impl Input {
             return Ok(Sheet { name, transducer, states });
         }
         let transducer =
-            Transducer::read(alphabets, &self.bytes).map_err(|refusal| Failure::refused(&name, refusal))?;
+            Transducer::read(alphabets, &self.bytes).map_err(|refusal| self.refused(refusal, "a sheet"))?;
         let states = match table_beside(self.path.as_deref())? {
             None => StateNames::numbered(transducer.states()),
-            Some(table) => text::read_state_names(&table.bytes, transducer.states())
-                .map_err(|error| Failure::of_text(&table.name, error))?,
+            Some(table) => {
+                text::read_state_names(&table.bytes, transducer.states()).map_err(|error| table.unread(error))?
+            }
         };
         Ok(Sheet { name, transducer, states })
     }
@@ -142,7 +167,7 @@ impl Input {
             let read = text::read_input_tree(&self.bytes, alphabets, names);
             return read.map_err(|error| Failure::of_text(&self.name, error));
         }
-        InputTree::read(alphabets, &self.bytes).map_err(|refusal| Failure::refused(&self.name, refusal))
+        InputTree::read(alphabets, &self.bytes).map_err(|refusal| self.refused(refusal, "a design"))
     }
 
     fn plan(&self, stock: &Stock) -> Result<OutputTree, Failure> {
@@ -151,7 +176,7 @@ impl Input {
             let read = text::read_output_tree(&self.bytes, alphabets, names);
             return read.map_err(|error| Failure::of_text(&self.name, error));
         }
-        OutputTree::read(alphabets, &self.bytes).map_err(|refusal| Failure::refused(&self.name, refusal))
+        OutputTree::read(alphabets, &self.bytes).map_err(|refusal| self.refused(refusal, "a plan"))
     }
 
     /// A sheet or a design, by the first word of a text; bytes are what they can be read as, or what `--as` says.
@@ -176,6 +201,7 @@ impl Input {
             (Ok(_), Err(_)) => self.sheet(stock).map(Either::Sheet),
             (Err(_), Ok(design)) => Ok(Either::Design(design)),
             (Ok(_), Ok(_)) => Err(Failure::of_file(&self.name, "a sheet and a design at once: say which by --as")),
+            _ if self.is_empty() => Err(Failure::empty(&self.name, None, "a sheet or a design")),
             (Err(sheet), Err(design)) => {
                 let why = format!("no sheet ({sheet}) and no design ({design})");
                 Err(Failure::of_file(&self.name, why + "; what to do: say which it is by --as, to read what is wrong"))
@@ -205,14 +231,17 @@ pub fn shown(file: &OsStr) -> String {
 
 /// A path's name in messages.
 fn shown_path(path: &Path) -> String {
-    shown(path.as_os_str())
+    match path == Path::new(STANDARD_INPUT) {
+        true => shown(OsStr::new("-")),
+        false => shown(path.as_os_str()),
+    }
 }
 
 /// The path of the table of names beside a file of bytes: beside the file itself, where links lead to it.
 fn table_of(path: &Path) -> PathBuf {
     let is_link = std::fs::symlink_metadata(path).is_ok_and(|found| found.is_symlink());
     let path = if is_link { store::resolved(path) } else { path.to_path_buf() };
-    store::beside(&path, ".names")
+    store::beside(&path, NAMES)
 }
 
 /// The table of names beside a file, if there is one.
@@ -229,7 +258,7 @@ fn table_beside(path: Option<&Path>) -> Result<Option<Input>, Failure> {
 pub fn names_beside(path: Option<&Path>, alphabets: &Alphabets) -> Result<Names, Failure> {
     match table_beside(path)? {
         None => Ok(Names::codes(alphabets)),
-        Some(table) => text::read_names(&table.bytes, alphabets).map_err(|error| Failure::of_text(&table.name, error)),
+        Some(table) => text::read_names(&table.bytes, alphabets).map_err(|error| table.unread(error)),
     }
 }
 
@@ -297,17 +326,27 @@ impl<'a> Content<'a> {
         self.write(arguments.value("-o"), arguments.has("--bytes"))
     }
 
+    /// The names that go into a table beside a file, if any do.
+    fn names_for(&self, path: &Path, bytes: bool) -> Option<&str> {
+        // a terminal or /dev/null has no names beside it
+        self.names.as_deref().filter(|_| bytes && is_replaced(path))
+    }
+
+    /// What stands where its table of names would be written is such a table, if there is anything.
+    pub fn fits(&self, file: Option<&OsStr>, bytes: bool) -> Result<(), Failure> {
+        match file.map(Path::new).filter(|path| self.names_for(path, bytes).is_some()) {
+            Some(path) => own_table(path),
+            None => Ok(()),
+        }
+    }
+
     /// Writes it to a file, as text or as bytes with the table of names beside them; or to standard output.
     pub fn write(&self, file: Option<&OsStr>, bytes: bool) -> Result<(), Failure> {
         let Some(path) = file.map(Path::new).filter(|path| !is_standard_output(path)) else {
             return to_standard_output(|out| (self.write)(bytes, out));
         };
-        // a terminal or /dev/null has no names beside it
-        let regular = std::fs::metadata(path).map_or(true, |found| found.is_file());
-        let names = self.names.as_ref().filter(|_| bytes && regular);
-        if names.is_some() {
-            own_table(path)?;
-        }
+        self.fits(file, bytes)?;
+        let names = self.names_for(path, bytes);
         // The old table goes just before the file that it belongs to, so that a stop leaves a file without one and
         // never a file with another's.
         let ready = || if names.is_some() { remove_table(path) } else { Ok(()) };
@@ -320,6 +359,12 @@ impl<'a> Content<'a> {
 /// Whether a path is that of standard output.
 fn is_standard_output(path: &Path) -> bool {
     ["-", "/dev/stdout", "/dev/fd/1"].iter().any(|name| path == Path::new(name))
+}
+
+/// Whether a new file takes the place of what is at a path: of a file, or of nothing yet. A terminal, a pipe or
+/// `/dev/null` is written to, and loses nothing.
+fn is_replaced(path: &Path) -> bool {
+    !is_standard_output(path) && std::fs::metadata(path).map_or(true, |found| found.is_file())
 }
 
 /// There is no file where the table of names beside a file is to stand, or it is such a table.
@@ -351,16 +396,111 @@ pub fn write_file(path: &Path, text: &str) -> Result<(), Failure> {
     written.map_err(|error| Failure::of_file(&shown_path(path), error))
 }
 
-/// The output is none of the inputs, which it would overwrite.
-pub fn not_over(output: Option<&OsStr>, inputs: &[OsString]) -> Result<(), Failure> {
-    let output = output.filter(|output| *output != "-");
-    let same = |input: &&OsString| {
-        output.is_some_and(|output| store::resolved(output.as_ref()) == store::resolved(input.as_ref()))
-    };
-    match inputs.iter().find(same) {
-        Some(input) => Err(Failure::of_file(&shown(input), "it would be overwritten: give another file")),
+/// The endings of names that the program gives to files beside others, and what these are.
+const KEPT_ENDINGS: [(&str, &str); 3] =
+    [(NAMES, "tables of names"), (".lock", "locks of books"), (UNFINISHED, "files that are not whole yet")];
+/// The ending of a table of names.
+pub const NAMES: &str = ".names";
+/// The ending of a file that is not whole yet.
+pub const UNFINISHED: &str = ".new~";
+
+/// Nothing is lost by what a command writes: no output is a file that it reads, a table of names, a lock, a book or
+/// another output, and no table of names that is written beside an output is a file that it reads. This is asked of
+/// every command before it begins.
+pub fn keep(outputs: &[&OsStr], inputs: &[OsString]) -> Result<(), Failure> {
+    let outputs: Vec<&Path> = outputs.iter().map(Path::new).filter(|path| is_replaced(path)).collect();
+    for (number, output) in outputs.iter().enumerate() {
+        if let Some(read) = read_files(inputs).find(|read| same(output, read)) {
+            return Err(Failure::of_file(&shown_path(&read), "it would be overwritten: give another file"));
+        }
+        if let Some(other) = outputs[..number].iter().find(|other| same(output, other)) {
+            return Err(Failure::of_file(&shown_path(other), "it would be written twice: give another file"));
+        }
+        free_name(output)?;
+        of_no_program_file(output)?;
+        keep_beside(output, &[NAMES], inputs)?;
+    }
+    Ok(())
+}
+
+/// What the program writes or removes beside a file, under its name and these endings, is none of the files that the
+/// command reads.
+pub fn keep_beside(path: &Path, endings: &[&str], inputs: &[OsString]) -> Result<(), Failure> {
+    let beside =
+        |read: &PathBuf| endings.iter().any(|ending| same(read, &store::beside(&store::resolved(path), ending)));
+    match read_files(inputs).find(beside) {
+        Some(read) => {
+            let why = format!("it would be overwritten by what stands beside {}: give another file", shown_path(path));
+            Err(Failure::of_file(&shown_path(&read), why))
+        }
         None => Ok(()),
     }
+}
+
+/// The files that a command reads: its words that are files, the tables of names beside them, and standard input, which
+/// may be a file too.
+fn read_files(inputs: &[OsString]) -> impl Iterator<Item = PathBuf> + '_ {
+    let named = inputs.iter().filter(|input| *input != "-").map(PathBuf::from);
+    let with_tables = named.flat_map(|input| {
+        let table = table_of(&input);
+        [input, table]
+    });
+    with_tables.chain([PathBuf::from(STANDARD_INPUT)]).filter(|path| path.exists())
+}
+
+/// A name of a file that is not one of those that the program gives to files beside others.
+pub fn free_name(path: &Path) -> Result<(), Failure> {
+    let ends =
+        |ending: &str| [path, &store::resolved(path)].iter().any(|path| path.to_string_lossy().ends_with(ending));
+    match KEPT_ENDINGS.iter().find(|(ending, _)| ends(ending)) {
+        Some((ending, kept)) => {
+            let why = format!("names that end in `{ending}` are those of {kept}: give another file");
+            Err(Failure::of_file(&shown_path(path), why))
+        }
+        None => Ok(()),
+    }
+}
+
+/// What is at a path is no table of names and no book, whatever its name is.
+fn of_no_program_file(path: &Path) -> Result<(), Failure> {
+    let mut start = Vec::new();
+    // what cannot be read is not known to be one
+    let _ = File::open(path).and_then(|file| file.take(LONGEST).read_to_end(&mut start));
+    let what = match (Registry::is_begun(&start), text::kind(&start)) {
+        (true, _) => "a book",
+        (false, Ok(Kind::Names)) => "a table of names",
+        _ => return Ok(()),
+    };
+    Err(Failure::of_file(&shown_path(path), format!("it is {what}, and would be overwritten: give another file")))
+}
+
+/// Whether two paths lead to one file, over links of either kind.
+fn same(one: &Path, two: &Path) -> bool {
+    let number = file_number(one);
+    whole_path(one) == whole_path(two) || number.is_some() && number == file_number(two)
+}
+
+/// The whole path of the file that a path leads to, even if there is none yet.
+fn whole_path(path: &Path) -> PathBuf {
+    let path = store::resolved(path);
+    let folder = path.parent().filter(|folder| !folder.as_os_str().is_empty()).unwrap_or(Path::new("."));
+    match (folder.canonicalize(), path.file_name()) {
+        (Ok(folder), Some(name)) => folder.join(name),
+        _ => path,
+    }
+}
+
+/// The number of a file with that of its disk: a file of several names has one.
+#[cfg(unix)]
+fn file_number(path: &Path) -> Option<(u64, u64)> {
+    use std::os::unix::fs::MetadataExt;
+    std::fs::metadata(path).ok().map(|found| (found.dev(), found.ino()))
+}
+
+/// Other systems do not tell.
+#[cfg(not(unix))]
+fn file_number(_: &Path) -> Option<(u64, u64)> {
+    None
 }
 
 /// Writes to standard output.
