@@ -16,7 +16,7 @@ abbrev μ-loop : tie.MeasureT-loop
 μ-loop ranks s levels₀ behind₀ j₀ levels behind j = j
 
 loop-holds : tie.Need-loop-holds Inv-loop μ-loop
-loop-holds c = none-standing (now (c .before .before .before .args .ranks)) (now (c .before .before .before .args .s)) (replicate {A = ℕ} 4096 0) (c .if1 .left) (length-replicate {A = ℕ} 4096 0)
+loop-holds c = none-standing (now (c .before .before .before .args .ranks)) (now (c .before .before .before .args .s)) (replicate {A = ℕ} 4096 0) (omega (arith, c .if1 .left)) (length-replicate {A = ℕ} 4096 0)
 
 -- the levels that are noted
 few : tie.Need-cast-levels Inv-loop μ-loop
@@ -31,7 +31,7 @@ measure-output-spec =
     (tie.spec
     Inv-loop
     μ-loop
-    (λ c. too-long (c .if1 .taken))
+    (λ c. too-long (omega (arith, c .if1 .taken)))
     loop-holds
     (λ c. search needs)
     (λ c. omega (arith, c .before .before .loop .inv .inside))
