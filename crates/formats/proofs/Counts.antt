@@ -12,7 +12,7 @@ use lib.ListN.{length, getD}
 use borrow.Author.Count.{below-more}
 use borrow.Author.Tests.{eqb-true, eq-eqb}
 use Rattle.theory.proofs.Terms.{conflict}
-use Rattle.formats.specs.Inner.Layout.{offset, body, bodyNumber, bodyCount, countAt, Summed, Right, Starts, InBounds, Wholes}
+use Rattle.formats.specs.Inner.Layout.{offset, body, bodyNumber, bodyCount, countAt, Summed, Right, Starts, InBounds, Short, Wholes}
 use Rattle.trees.specs.Refusal.{Decides}
 use Rattle.formats.proofs.Offsets.{offset-ordered, offset-next, offset-most}
 use Rattle.formats.proofs.Pairs.{number-less}
@@ -60,6 +60,9 @@ module _ {ins counts bytes : List ℕ} {n : ℕ} (starts : List ℕ) (C : Right 
     ordered = λ j h. rw (S j (omega arith), S (j + 1) (omega arith)) (offset-ordered counts j);
     inside = λ j h. rw (S j h) (omega (arith, C .sums .all, offset-most counts j (bodyCount ins n) h));
   }
+
+  pub short-bodies : Short ins n starts
+  short-bodies j h = rw (S j (omega arith), S (j + 1) (omega arith)) (omega (arith, offset-next counts j (omega (arith, C .long)), C .sums .each j h .1))
 
   pub to-offsets : (outs : List ℕ) → Wholes ins outs n (λ j. getD starts j 0) bytes → Wholes ins outs n (offset counts) bytes
   unfolding body

@@ -1,9 +1,10 @@
--- Letters, Pairs, Offsets: what bytes say. Marks, Counts: the readers of bodies and counts.
+-- Letters, Pairs, Offsets: what bytes say. Marks, Behind, Counts: the readers of bodies and counts.
 -- Cuts, Lines, Sheets: bodies and their bytes, terms by number, the file of a transducer. Writing, Verdicts: what entry points answer. Laws: what the promises come to.
 pub mod Letters
 pub mod Pairs
 pub mod Offsets
 pub mod Marks
+pub mod Behind
 pub mod Counts
 pub mod Cuts
 pub mod Lines

@@ -1,27 +1,19 @@
 -- Laws of reading marks, at a position of a body.
 -- Assumes nothing.
-use Prim.Native.Nat.{ℕ, suc, _+_, _-_, _*_, _≤_, _<_}
+use Prim.Native.Nat.{ℕ, suc, _+_, _*_, _≤_, _<_}
 use native.Mathlib.Omega.{arith}
-use mathlib.Core.Bool.{Bool, false}
-use mathlib.Core.Path.{_≡_, sym, ap, ap₂, _∙_}
+use mathlib.Core.Bool.{Bool}
+use mathlib.Core.Path.{_≡_, sym, ap₂, _∙_}
 use mathlib.Core.List.{List, _∷_}
-use lib.Dec.{eqb}
 use lib.ListN.{length, getD, take}
-use lib.Seq.{length-take-le, length-slice}
+use lib.Seq.{length-take-le}
 use borrow.Author.Count.{below-more}
-use borrow.Author.Tests.{lt-ltb, le-ltb, le-leb, lt-leb, eqb-true, eq-eqb}
-use Rattle.theory.specs.Size.{levels}
-use Rattle.theory.proofs.Terms.{conflict}
-use Rattle.trees.specs.Inner.Decode.{call, symbol, unknown, forest, first, Whole}
-use Rattle.trees.specs.Inner.Measured.{measured}
+use borrow.Author.Tests.{lt-ltb, le-ltb, le-leb, lt-leb}
+use Rattle.trees.specs.Inner.Decode.{call, symbol, unknown, Whole}
 use Rattle.trees.specs.Inner.Symbols.{symbolOf}
-use Rattle.formats.specs.Inner.Layout.{markOf, pairs, body, bodyNumber, bodyCount, InBounds}
+use Rattle.formats.specs.Inner.Layout.{markOf, pairs, body, bodyNumber, bodyCount, InBounds, Short}
 use Rattle.formats.specs.Inner.Marked.{part}
 use Rattle.trees.specs.Refusal.{Decides}
-use Rattle.trees.specs.declared.tree.Extent.{Extent}
-use Rattle.trees.specs.declared.tree.Extent.the-variants as extent
-use Rattle.trees.proofs.Deciding.{decides-no}
-use Rattle.trees.proofs.Extents.{whole-end, whole-levels, whole-measured}
 use Rattle.formats.proofs.Pairs.{pairs-length, number-less, part-cons}
 
 -- ---- the letter of a mark
@@ -58,28 +50,6 @@ marks-length bytes to inside = length-take-le to (pairs bytes) (pairs-length byt
 pub next-mark : (bytes : List ℕ) (at to i x : ℕ) → at < to → 2 * to ≤ length bytes → i ≡ getD bytes (2 * at) 0 → x ≡ getD bytes (2 * at + 1) 0 → part bytes at to ≡ (i, x) ∷ part bytes (at + 1) to
 next-mark bytes at to i x less inside e f = part-cons bytes at to less inside ∙ ap₂ (λ a b. (a, b) ∷ part bytes (at + 1) to) (sym e) (sym f)
 
--- ---- a body, measured with room for as many levels as it has marks
-module _ (outs : List ℕ) (n r : ℕ) (bytes : List ℕ) (from to : ℕ) {x : Extent} (ordered : from ≤ to) (inside : 2 * to ≤ length bytes) (E : x ≡ measured (to - from) from (forest (markOf outs n r) (part bytes from to))) where
-  its-end : from + length (part bytes from to) ≡ to
-  its-end = omega (arith, length-slice from to (pairs bytes) (pairs-length bytes to inside))
-
-  -- one tree ends at its end
-  tree-ends : Whole (markOf outs n r) (part bytes from to) → x ≡ extent.Tree to (levels (first (forest (markOf outs n r) (part bytes from to))))
-  tree-ends W =
-      let b = part bytes from to in
-      let h = whole-levels (markOf outs n r) b W in
-      E ∙ whole-measured (markOf outs n r) b W (to - from) from (omega (arith, its-end)) ∙ ap (λ k. extent.Tree k (levels (first (forest (markOf outs n r) b)))) its-end
-
-  -- so what was measured decides whether it is one
-  pub tree-measured : {e l : ℕ} → x ≡ extent.Tree e l → Decides (Whole (markOf outs n r) (part bytes from to)) (eqb e to)
-  tree-measured {e} {l} q = record {
-    sound = λ t. whole-end (markOf outs n r) (0, 0) (part bytes from to) (to - from) from l (sym E ∙ q ∙ ap (λ k. extent.Tree k l) (eqb-true e to t ∙ sym its-end));
-    complete = λ W. let y = sym q ∙ tree-ends W in eq-eqb e to (cc);
-  }
-
-  pub none-measured : x ≡ extent.Bad → Decides (Whole (markOf outs n r) (part bytes from to)) false
-  none-measured q = decides-no (λ W. let y = sym q ∙ tree-ends W in conflict (cc))
-
 -- ---- one body after the other
 abbrev pub BodyOk : List ℕ → List ℕ → ℕ → (ℕ → ℕ) → List ℕ → ℕ → ℕ → Type 0
 BodyOk ins outs n start bytes q a = Whole (markOf outs n (getD ins a 0)) (body start bytes (bodyNumber ins q a))
@@ -99,5 +69,5 @@ next-state ins outs n start bytes q a h old new p b l m = below-more (λ p. Body
 pub bounds-fit : {ins starts bytes : List ℕ} {n q a : ℕ} → InBounds ins n starts bytes → q < n → a < length ins → bodyNumber ins q a + 1 < length starts
 bounds-fit {ins} {n = n} {q} {a} L h g = omega (arith, number-less ins q n a h g, L .long)
 
-pub bounds-part : {ins starts bytes : List ℕ} {n j from to : ℕ} → InBounds ins n starts bytes → j < bodyCount ins n → from ≡ getD starts j 0 → to ≡ getD starts (j + 1) 0 → (from ≤ to) × (2 * to ≤ length bytes)
-bounds-part {j = j} L h f g = (rw (f, g) (L .ordered j h), rw g (L .inside (j + 1) (omega arith)))
+pub bounds-part : {ins starts bytes : List ℕ} {n j from to : ℕ} → InBounds ins n starts bytes → Short ins n starts → j < bodyCount ins n → from ≡ getD starts j 0 → to ≡ getD starts (j + 1) 0 → (from ≤ to) × (to ≤ from + 64) × (2 * to ≤ length bytes)
+bounds-part {j = j} L S h f g = (rw (f, g) (L .ordered j h), rw (f, g) (S j h), rw g (L .inside (j + 1) (omega arith)))

@@ -3,13 +3,14 @@ ghost use mathlib.Core.Path.{_≡_};
 ghost use Prim.Native.Nat.{_+_, _*_, _≤_, _<_};
 ghost use lib.ListN.{length, getD};
 ghost use Rattle.trees.specs.Inner.Decode.{forest, Whole};
-ghost use Rattle.formats.specs.Inner.Layout.{offset, markOf, Summed, Starts, KeptBehind, InBounds, Wholes};
-ghost use Rattle.trees.specs.Inner.Measured.{measured};
+ghost use Rattle.formats.specs.Inner.Layout.{offset, markOf, Summed, Starts, KeptBehind, InBounds, Short, Wholes};
+ghost use Rattle.trees.specs.Inner.Measured.{measured, MeasuredWhole};
 ghost use Rattle.formats.specs.Inner.Marked.{part};
 ghost use Rattle.trees.specs.Refusal.{Decides};
 use trees::bytes::larger;
 use trees::bytes::number;
 use trees::bytes::wide;
+use trees::levels::most_levels;
 use trees::tree::Extent;
 
 // Whether the counts of `bodies` bodies are right, and the marks as many as they say.
@@ -104,20 +105,58 @@ pub fn measure_marks(
     Extent::Tree(p, deep + 1)
 }
 
-// Whether the marks number `from` up to `to` are one tree. It has at most as many levels as marks.
+// Measures the marks number `from` up to `to` as one tree: where it ends and how many levels it has. From the last mark back, each symbol takes its children from the trees
+// behind it, whose levels the table has; a call has none.
+fn measure_body(outs: &[u8], n: usize, r: usize, marks: &[u8], from: usize, to: usize) -> Extent
+    requires { ⌜ (from ≤ to) × (to ≤ from + 64) × (2 * to ≤ length (now marks)) ⌝ }
+    ensures { λ e. ⌜ MeasuredWhole (markOf (now (outs .entry)) n r) (part (now (marks .entry)) from to) from e ⌝ }
+{
+    let mut levels = [0u16; 64];
+    let mut behind: usize = 0;
+    let mut j = to;
+    while from < j {
+        j -= 1;
+        let i = wide(marks[2 * j]);
+        let x = wide(marks[2 * j + 1]);
+        if i > 0 {
+            if i > r || x >= n {
+                return Extent::Bad;
+            }
+            levels[behind] = 0;
+        } else {
+            if x >= outs.len() {
+                return Extent::Bad;
+            }
+            let m = wide(outs[x]);
+            if m > behind {
+                return Extent::Bad;
+            }
+            let deep = most_levels(&levels, behind, m);
+            behind -= m;
+            levels[behind] = (deep + 1) as u16;
+        }
+        behind += 1;
+    }
+    if behind != 1 {
+        return Extent::Bad;
+    }
+    Extent::Tree(to, number(levels[0]))
+}
+
+// Whether the marks number `from` up to `to` are one tree.
 fn one_body(outs: &[u8], n: usize, r: usize, marks: &[u8], from: usize, to: usize) -> bool
-    requires { ⌜ (from ≤ to) × (2 * to ≤ length (now marks)) ⌝ }
+    requires { ⌜ (from ≤ to) × (to ≤ from + 64) × (2 * to ≤ length (now marks)) ⌝ }
     ensures { λ b. ⌜ Decides (Whole (markOf (now (outs .entry)) n r) (part (now (marks .entry)) from to)) b ⌝ }
 {
-    match measure_marks(outs, n, r, marks, from, to, to - from) {
-        Extent::Tree(e, _) => e == to,
+    match measure_body(outs, n, r, marks, from, to) {
+        Extent::Tree(_, _) => true,
         Extent::Bad => false,
     }
 }
 
 // Whether every body is one tree of known marks.
 pub(crate) fn bodies_whole(ins: &[u8], outs: &[u8], n: usize, starts: &[u16], marks: &[u8]) -> bool
-    requires { ⌜ InBounds (now ins) n (now starts) (now marks) ⌝ }
+    requires { ⌜ InBounds (now ins) n (now starts) (now marks) × Short (now ins) n (now starts) ⌝ }
     ensures { λ b. ⌜ Decides (Wholes (now (ins .entry)) (now (outs .entry)) n (λ j. getD (now (starts .entry)) j 0) (now (marks .entry))) b ⌝ }
 {
     let first = number(starts[1]);

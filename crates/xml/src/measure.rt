@@ -1,28 +1,10 @@
 // Whether bytes are the code of one output tree (01: plan): where it ends and how many levels it has. They are read from the last symbol to the first, with a table
 // of the levels of each tree that stands behind: a tree may have 4,096 levels, and no function calls itself.
-ghost use Prim.Native.Nat.{_≤_};
-ghost use mathlib.Core.Path.{_≡_};
-ghost use Rattle.xml.specs.Inner.Measured.{MeasuredOutput, noted, most};
-use trees::bytes::larger;
+ghost use Rattle.xml.specs.Inner.Measured.{MeasuredOutput};
 use trees::bytes::number;
 use trees::bytes::wide;
+use trees::levels::most_levels;
 use trees::tree::Extent;
-
-// The most levels of the n trees that were noted last, of `behind`.
-fn most_levels(levels: &[u16; 4096], behind: usize, n: usize) -> usize
-    requires { ⌜ (n ≤ behind) × (behind ≤ 4096) ⌝ }
-    ensures { λ r. ⌜ r ≡ most n (noted (now (levels .entry)) behind) ⌝ }
-{
-    let mut deep = 0;
-    let mut at = behind;
-    let mut left = n;
-    while left > 0 {
-        at -= 1;
-        left -= 1;
-        deep = larger(deep, number(levels[at]));
-    }
-    deep
-}
 
 // Measures the bytes as one output tree of at most 4,096 nodes. A symbol takes as many of the trees behind it as its rank says, and is one, a level higher.
 pub(crate) fn measure_output(ranks: &[u8], s: &[u8]) -> Extent

@@ -93,3 +93,7 @@ pub record InBounds (ins : List ℕ) (n : ℕ) (starts bytes : List ℕ) : Type 
   pub long : bodyCount ins n < length starts
   pub ordered : (j : ℕ) → j < bodyCount ins n → getD starts j 0 ≤ getD starts (j + 1) 0
   pub inside : (j : ℕ) → j ≤ bodyCount ins n → 2 * getD starts j 0 ≤ length bytes
+
+-- no body has over 64 marks
+abbrev pub Short : List ℕ → ℕ → List ℕ → Type 0
+Short ins n starts = (j : ℕ) → j < bodyCount ins n → getD starts (j + 1) 0 ≤ getD starts j 0 + 64

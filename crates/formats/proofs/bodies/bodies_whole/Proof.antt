@@ -27,19 +27,19 @@ abbrev μ-loop : tie.MeasureT-loop
 μ-loop ins outs n starts marks first q₀ q = n - q
 
 shared-slice-read-number : tie.Need-shared-slice-read-number Inv-loop2 μ-loop2 Inv-loop μ-loop
-shared-slice-read-number c = omega (arith, c .before .before .before .before .before .pre .long)
+shared-slice-read-number c = omega (arith, c .before .before .before .before .before .pre .0 .long)
 
 number-requires : tie.Need-number-requires Inv-loop2 μ-loop2 Inv-loop μ-loop
 number-requires c κs = search needs
 
 shared-slice-read-number-2 : tie.Need-shared-slice-read-number-2 Inv-loop2 μ-loop2 Inv-loop μ-loop
-shared-slice-read-number-2 c = omega (arith, c .before .before .before .before .before .before .before .pre .long)
+shared-slice-read-number-2 c = omega (arith, c .before .before .before .before .before .before .before .pre .0 .long)
 
 number-requires-2 : tie.Need-number-requires-2 Inv-loop2 μ-loop2 Inv-loop μ-loop
 number-requires-2 c κs = search needs
 
 one-body-requires : tie.Need-one-body-requires Inv-loop2 μ-loop2 Inv-loop μ-loop
-one-body-requires c κs = bounds-part {j = 0} (c .before .before .before .before .before .before .before .before .pre) (omega arith) (c .number2 .ensures) (c .before .before .number .ensures)
+one-body-requires c κs = bounds-part {j = 0} (c .before .before .before .before .before .before .before .before .pre .0) (c .before .before .before .before .before .before .before .before .pre .1) (omega arith) (c .number2 .ensures) (c .before .before .number .ensures)
 
 returns : tie.Need-returns Inv-loop2 μ-loop2 Inv-loop μ-loop
 returns c =
@@ -57,31 +57,31 @@ loop2-holds : tie.Need-loop2-holds Inv-loop2 μ-loop2 Inv-loop μ-loop
 loop2-holds c = (omega arith, λ b h. absurd (omega arith))
 
 mul-b : tie.Need-mul-b Inv-loop2 μ-loop2 Inv-loop μ-loop
-mul-b c = omega (arith, bounds-fit {q = c .before .before .before .loop .q} {a = c .before .loop2 .a} (c .before .before .before .before .before .before .before .before .before .before .before .before .before .before .pre) (c .before .before .loop-test .taken) (c .loop2-test .taken), c .before .before .before .before .before .before .before .before .before .before .before .before .before .before .good)
+mul-b c = omega (arith, bounds-fit {q = c .before .before .before .loop .q} {a = c .before .loop2 .a} (c .before .before .before .before .before .before .before .before .before .before .before .before .before .before .pre .0) (c .before .before .loop-test .taken) (c .loop2-test .taken), c .before .before .before .before .before .before .before .before .before .before .before .before .before .before .good)
 
 add-b : tie.Need-add-b Inv-loop2 μ-loop2 Inv-loop μ-loop
-add-b c = omega (arith, bounds-fit {q = c .before .before .before .loop .q} {a = c .before .loop2 .a} (c .before .before .before .before .before .before .before .before .before .before .before .before .before .before .pre) (c .before .before .loop-test .taken) (c .loop2-test .taken), c .before .before .before .before .before .before .before .before .before .before .before .before .before .before .good)
+add-b c = omega (arith, bounds-fit {q = c .before .before .before .loop .q} {a = c .before .loop2 .a} (c .before .before .before .before .before .before .before .before .before .before .before .before .before .before .pre .0) (c .before .before .loop-test .taken) (c .loop2-test .taken), c .before .before .before .before .before .before .before .before .before .before .before .before .before .before .good)
 
 add-b-2 : tie.Need-add-b-2 Inv-loop2 μ-loop2 Inv-loop μ-loop
-add-b-2 c = omega (arith, bounds-fit {q = c .before .before .before .loop .q} {a = c .before .loop2 .a} (c .before .before .before .before .before .before .before .before .before .before .before .before .before .before .pre) (c .before .before .loop-test .taken) (c .loop2-test .taken), c .before .before .before .before .before .before .before .before .before .before .before .before .before .before .good)
+add-b-2 c = omega (arith, bounds-fit {q = c .before .before .before .loop .q} {a = c .before .loop2 .a} (c .before .before .before .before .before .before .before .before .before .before .before .before .before .before .pre .0) (c .before .before .loop-test .taken) (c .loop2-test .taken), c .before .before .before .before .before .before .before .before .before .before .before .before .before .before .good)
 
 mul-number : tie.Need-mul-number Inv-loop2 μ-loop2 Inv-loop μ-loop
-mul-number c = omega (arith, bounds-fit {q = c .before .before .before .loop .q} {a = c .before .loop2 .a} (c .before .before .before .before .before .before .before .before .before .before .before .before .before .before .pre) (c .before .before .loop-test .taken) (c .loop2-test .taken), c .before .before .before .before .before .before .before .before .before .before .before .before .before .before .good)
+mul-number c = omega (arith, bounds-fit {q = c .before .before .before .loop .q} {a = c .before .loop2 .a} (c .before .before .before .before .before .before .before .before .before .before .before .before .before .before .pre .0) (c .before .before .loop-test .taken) (c .loop2-test .taken), c .before .before .before .before .before .before .before .before .before .before .before .before .before .before .good)
 
 shared-slice-read-number-3 : tie.Need-shared-slice-read-number-3 Inv-loop2 μ-loop2 Inv-loop μ-loop
-shared-slice-read-number-3 c = omega (arith, bounds-fit {q = c .before .before .before .before .loop .q} {a = c .before .before .loop2 .a} (c .before .before .before .before .before .before .before .before .before .before .before .before .before .before .before .pre) (c .before .before .before .loop-test .taken) (c .before .loop2-test .taken), c .before .before .before .before .before .before .before .before .before .before .before .before .before .before .before .good)
+shared-slice-read-number-3 c = omega (arith, bounds-fit {q = c .before .before .before .before .loop .q} {a = c .before .before .loop2 .a} (c .before .before .before .before .before .before .before .before .before .before .before .before .before .before .before .pre .0) (c .before .before .before .loop-test .taken) (c .before .loop2-test .taken), c .before .before .before .before .before .before .before .before .before .before .before .before .before .before .before .good)
 
 number-requires-3 : tie.Need-number-requires-3 Inv-loop2 μ-loop2 Inv-loop μ-loop
 number-requires-3 c κs = search needs
 
 add-number : tie.Need-add-number Inv-loop2 μ-loop2 Inv-loop μ-loop
-add-number c = omega (arith, bounds-fit {q = c .before .before .before .before .before .loop .q} {a = c .before .before .before .loop2 .a} (c .before .before .before .before .before .before .before .before .before .before .before .before .before .before .before .before .pre) (c .before .before .before .before .loop-test .taken) (c .before .before .loop2-test .taken), c .before .before .before .before .before .before .before .before .before .before .before .before .before .before .before .before .good)
+add-number c = omega (arith, bounds-fit {q = c .before .before .before .before .before .loop .q} {a = c .before .before .before .loop2 .a} (c .before .before .before .before .before .before .before .before .before .before .before .before .before .before .before .before .pre .0) (c .before .before .before .before .loop-test .taken) (c .before .before .loop2-test .taken), c .before .before .before .before .before .before .before .before .before .before .before .before .before .before .before .before .good)
 
 mul-number-2 : tie.Need-mul-number-2 Inv-loop2 μ-loop2 Inv-loop μ-loop
-mul-number-2 c = omega (arith, bounds-fit {q = c .before .before .before .before .before .loop .q} {a = c .before .before .before .loop2 .a} (c .before .before .before .before .before .before .before .before .before .before .before .before .before .before .before .before .pre) (c .before .before .before .before .loop-test .taken) (c .before .before .loop2-test .taken), c .before .before .before .before .before .before .before .before .before .before .before .before .before .before .before .before .good)
+mul-number-2 c = omega (arith, bounds-fit {q = c .before .before .before .before .before .loop .q} {a = c .before .before .before .loop2 .a} (c .before .before .before .before .before .before .before .before .before .before .before .before .before .before .before .before .pre .0) (c .before .before .before .before .loop-test .taken) (c .before .before .loop2-test .taken), c .before .before .before .before .before .before .before .before .before .before .before .before .before .before .before .before .good)
 
 shared-slice-read-number-4 : tie.Need-shared-slice-read-number-4 Inv-loop2 μ-loop2 Inv-loop μ-loop
-shared-slice-read-number-4 c = omega (arith, bounds-fit {q = c .before .before .before .before .before .before .loop .q} {a = c .before .before .before .before .loop2 .a} (c .before .before .before .before .before .before .before .before .before .before .before .before .before .before .before .before .before .pre) (c .before .before .before .before .before .loop-test .taken) (c .before .before .before .loop2-test .taken), c .before .before .before .before .before .before .before .before .before .before .before .before .before .before .before .before .before .good)
+shared-slice-read-number-4 c = omega (arith, bounds-fit {q = c .before .before .before .before .before .before .loop .q} {a = c .before .before .before .before .loop2 .a} (c .before .before .before .before .before .before .before .before .before .before .before .before .before .before .before .before .before .pre .0) (c .before .before .before .before .before .loop-test .taken) (c .before .before .before .loop2-test .taken), c .before .before .before .before .before .before .before .before .before .before .before .before .before .before .before .before .before .good)
 
 number-requires-4 : tie.Need-number-requires-4 Inv-loop2 μ-loop2 Inv-loop μ-loop
 number-requires-4 c κs = search needs
@@ -93,7 +93,7 @@ wide-requires : tie.Need-wide-requires Inv-loop2 μ-loop2 Inv-loop μ-loop
 wide-requires c κs = search needs
 
 one-body-requires-2 : tie.Need-one-body-requires-2 Inv-loop2 μ-loop2 Inv-loop μ-loop
-one-body-requires-2 c κs = bounds-part {j = bodyNumber (now (c .before .before .before .before .before .before .before .before .before .before .before .before .before .before .before .before .before .before .before .before .args .ins)) (c .before .before .before .before .before .before .before .before .before .loop .q) (c .before .before .before .before .before .before .before .loop2 .a)} (c .before .before .before .before .before .before .before .before .before .before .before .before .before .before .before .before .before .before .before .before .pre) (number-less (now (c .before .before .before .before .before .before .before .before .before .before .before .before .before .before .before .before .before .before .before .before .args .ins)) (c .before .before .before .before .before .before .before .before .before .loop .q) (c .before .before .before .before .before .before .before .before .before .before .before .before .before .before .before .before .before .before .before .before .args .n) (c .before .before .before .before .before .before .before .loop2 .a) (c .before .before .before .before .before .before .before .before .loop-test .taken) (c .before .before .before .before .before .before .loop2-test .taken)) (c .before .before .before .before .number3 .ensures) (c .before .before .number4 .ensures)
+one-body-requires-2 c κs = bounds-part {j = bodyNumber (now (c .before .before .before .before .before .before .before .before .before .before .before .before .before .before .before .before .before .before .before .before .args .ins)) (c .before .before .before .before .before .before .before .before .before .loop .q) (c .before .before .before .before .before .before .before .loop2 .a)} (c .before .before .before .before .before .before .before .before .before .before .before .before .before .before .before .before .before .before .before .before .pre .0) (c .before .before .before .before .before .before .before .before .before .before .before .before .before .before .before .before .before .before .before .before .pre .1) (number-less (now (c .before .before .before .before .before .before .before .before .before .before .before .before .before .before .before .before .before .before .before .before .args .ins)) (c .before .before .before .before .before .before .before .before .before .loop .q) (c .before .before .before .before .before .before .before .before .before .before .before .before .before .before .before .before .before .before .before .before .args .n) (c .before .before .before .before .before .before .before .loop2 .a) (c .before .before .before .before .before .before .before .before .loop-test .taken) (c .before .before .before .before .before .before .loop2-test .taken)) (c .before .before .before .before .number3 .ensures) (c .before .before .number4 .ensures)
 
 returns-2 : tie.Need-returns-2 Inv-loop2 μ-loop2 Inv-loop μ-loop
 returns-2 c =

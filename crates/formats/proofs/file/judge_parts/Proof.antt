@@ -7,7 +7,7 @@ use lib.ListN.{length-replicate}
 use borrow.Author.Needs.{needs}
 use denote.Ref.{now}
 use Rattle.formats.specs.Inner.Layout.{Right}
-use Rattle.formats.proofs.Counts.{in-bounds, to-offsets, from-offsets}
+use Rattle.formats.proofs.Counts.{in-bounds, short-bodies, to-offsets, from-offsets}
 use Rattle.trees.proofs.Deciding.{refuted, held}
 use Rattle.formats.proofs.Verdicts.{few-symbols, few-bodies, many-states, wrong-length, wrong-sums, wrong-body, all-right}
 use Rattle.formats.proofs.file.judge_parts.Statement.{statement}
@@ -56,7 +56,7 @@ bodies-whole-requires c κs =
     let F = c .before .before .before .fill-starts in
     let S = held (c .before .before .before .before .before .before .counts-right .ensures) (c .before .before .before .before .before .if3 .left) in
     let R : Right (now (c .before .before .before .before .before .before .before .before .before .input-ranks .result)) (c .before .before .before .before .before .before .before .before .before .before .before .before .before .args .n) (now (c .before .before .before .before .before .before .before .before .before .before .before .before .before .args .counts)) (now (c .before .before .before .before .before .before .before .before .before .before .before .before .before .args .marks)) = record { symbols = few-symbols (c .before .before .before .before .before .before .before .before .before .before .before .before .before .pre) (c .before .before .before .before .before .before .before .before .before .input-ranks .ensures); states = omega (arith, c .before .before .before .before .before .before .before .before .if1 .left); long = c .before .before .before .before .before .before .before .if2 .left; sums = S } in
-    in-bounds (F .last .1 .1 .0) R (F .ensures .0) (F .kept .1 .1 .0 ∙ length-replicate {A = ℕ} 2050 0)
+    (in-bounds (F .last .1 .1 .0) R (F .ensures .0) (F .kept .1 .1 .0 ∙ length-replicate {A = ℕ} 2050 0), short-bodies (F .last .1 .1 .0) R (F .ensures .0) (F .kept .1 .1 .0 ∙ length-replicate {A = ℕ} 2050 0))
 
 returns-4 : tie.Need-returns-4
 returns-4 c =
