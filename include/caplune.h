@@ -26,9 +26,8 @@
  *
  * Stack. All work memory is local. Bytes of stack of one call, measured on x86-64 (docs/AREAS.md, which has the
  * local arrays of each function): translate 275,159, symbol_at 78,111 and read_tree 65,647 on a chain of 512 levels,
- * shorter 123,023, enter 121,407, compare 105,295, clean 100,831, earliest_form 66,735, join 59,903, is_linear
- * 18,335, read_xml 16,719, write_transducer 13,727, read_transducer 13,711, write_xml 12,575; the others under 250.
- * Mind this where a thread's stack is made small.
+ * shorter 123,023, enter 121,407, compare 105,295, clean 100,831, earliest_form 66,735, join 55,519, read_xml
+ * 16,719, write_xml 12,575, is_linear 9,207; the others under 4,600. Mind this where a thread's stack is made small.
  */
 #ifndef CAPLUNE_H
 #define CAPLUNE_H

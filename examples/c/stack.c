@@ -33,7 +33,7 @@ static uint8_t chain[LEVELS], address[LEVELS];
 /* A ring of states with the lines of T', which is equivalent to T. */
 static uint8_t ring[CAPLUNE_LONGEST_SHEET];
 static size_t ring_length;
-/* A constant of 63 symbols of rank 1 over a leaf, whose initial term has 64 levels; and, to join, a copy symbol by symbol. */
+/* To join: a constant of 63 symbols of rank 1 over a leaf, and a copy of it symbol by symbol. */
 static const uint8_t unary[] = {2, 1, 0, 2, 1, 0};
 static uint8_t deep[3 + 2 * 64];
 static const uint8_t unary_copy[] = {1, 0, 1, 0, 2, 0, 1, 1, 0, 0, 0, 1, 0, 0, 1};
@@ -61,18 +61,19 @@ static void read_alphabets(void)
 
 static void read_transducer(void)
 {
-    refused = caplune_read_transducer(unary, sizeof unary, deep, sizeof deep, numbers, numbers + 1, numbers + 2);
+    refused = caplune_read_transducer(stock, sizeof stock, ring, ring_length, numbers, numbers + 1, numbers + 2);
 }
 
 static void write_transducer(void)
 {
-    refused = caplune_write_transducer(unary, sizeof unary, 0, deep + 1, 2, deep + 3, sizeof deep - 3, area, sizeof area,
-                                       numbers);
+    const size_t counts = 2 * (1 + 2 * RING);
+    refused = caplune_write_transducer(stock, sizeof stock, RING, ring + 1, counts, ring + 1 + counts,
+                                       ring_length - 1 - counts, area, sizeof area, numbers);
 }
 
 static void is_linear(void)
 {
-    refused = caplune_is_linear(unary, sizeof unary, deep, sizeof deep, numbers);
+    refused = caplune_is_linear(stock, sizeof stock, ring, ring_length, numbers);
 }
 
 static void translate(void)
