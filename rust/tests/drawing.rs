@@ -350,22 +350,28 @@ fn folded_chains() {
     assert!(height < 1000.0 && picture.contains(">… (195 parts)</text>"), "{picture}");
 }
 
+/// A small transducer, with its alphabets and an input tree; nothing where the one that was drawn is refused.
+fn small_case(random: &mut Random) -> Option<(generate::Alphabets, Transducer, InputTree)> {
+    let alphabets = small_alphabets(random);
+    let read = Alphabets::read(&alphabets.file()).expect("they are alphabets");
+    let sheet = small_transducer(random, &alphabets, 4, 7).file();
+    let transducer = Transducer::read(&read, &sheet).ok()?;
+    let file = generate::tree(random, &alphabets.inputs, 12, 8, Growth::Even(14));
+    let tree = InputTree::read(&read, &file).expect("it is a tree");
+    Some((alphabets, transducer, tree))
+}
+
 /// Where a symbol of an output tree comes from, held against a translation that tells it.
 #[test]
 fn origins() {
     let mut random = Random::new(4);
     let (mut opened, mut found) = (0, 0);
     for round in 0..300 {
-        let alphabets = small_alphabets(&mut random);
-        let read = Alphabets::read(&alphabets.file()).expect("they are alphabets");
-        let sheet = small_transducer(&mut random, &alphabets, 4, 7).file();
-        let Ok(transducer) = Transducer::read(&read, &sheet) else { continue };
-        let file = generate::tree(&mut random, &alphabets.inputs, 12, 8, Growth::Even(14));
-        let tree = InputTree::read(&read, &file).expect("it is a tree");
+        let Some((alphabets, transducer, tree)) = small_case(&mut random) else { continue };
         if transducer.translate(&tree, 500).is_err() {
             continue;
         }
-        let built = Built::of(&mut file.iter(), &alphabets.inputs, vec![]);
+        let built = Built::of(&mut tree.as_bytes().iter(), &alphabets.inputs, vec![]);
         let written = written(&transducer, &transducer.initial_term(), None, &built);
         let symbols: Vec<u8> = written.iter().map(|(symbol, _)| *symbol).collect();
         for (node, (_, from)) in written.iter().enumerate() {
@@ -414,12 +420,7 @@ fn output_trees_around() {
     let mut random = Random::new(3);
     let (mut cut_above, mut cut_below) = (0, 0);
     for round in 0..600 {
-        let alphabets = small_alphabets(&mut random);
-        let read = Alphabets::read(&alphabets.file()).expect("they are alphabets");
-        let sheet = small_transducer(&mut random, &alphabets, 4, 7).file();
-        let Ok(transducer) = Transducer::read(&read, &sheet) else { continue };
-        let file = generate::tree(&mut random, &alphabets.inputs, 12, 8, Growth::Even(14));
-        let tree = InputTree::read(&read, &file).expect("it is a tree");
+        let Some((alphabets, transducer, tree)) = small_case(&mut random) else { continue };
         let Ok(output) = transducer.translate(&tree, 2_000) else { continue };
         let built = Built::of(&mut output.as_bytes().iter(), &alphabets.outputs, vec![]);
         let marked = address_of(output.as_bytes(), &alphabets.outputs, random.below(output.nodes()));
