@@ -22,12 +22,13 @@ use Rattle.forms.specs.declared.write.Formed.{Formed}
 use Rattle.forms.specs.declared.write.Formed.the-variants as formed
 use Rattle.canonical.specs.Answers.{NormalFile, Cleans}
 use Rattle.canonical.proofs.Laws.{clean-exact, sheets-alike, cleaned, all-alike}
-use Rattle.records.specs.Answers.{Kept, CleanFile, NotHeld, Room, HasPlace, Gives, numberOf}
-use Rattle.records.specs.Book.{recordAt, body, Chained}
-use Rattle.records.specs.Inner.Steps.{clean, Placed, Finds, Ready, Adds, Counts, refusedBy, refusedAsk, unchanged, Asks, StepsWith, Places}
+use Rattle.records.specs.Answers.{CleanFile, NotHeld, Room, HasPlace, Gets, Gives, Enters}
+use Rattle.records.specs.Book.{bodyRecord, recordAt, body, Chained}
+use Rattle.records.specs.Inner.Steps.{clean, Placed, Finds, Ready, Numbers, Granted, Decided, Fits, Fit, Puts, Settled, refusedBy, refusedAsk, unchanged, Asks, Places}
 use Rattle.records.specs.Inner.Writes.{added}
 use Rattle.records.specs.declared.book.Asked.{Asked}
 use Rattle.records.specs.declared.book.Entered.{Entered}
+use Rattle.records.specs.declared.book.Entered.the-variants.{Number, Refused}
 use Rattle.records.specs.declared.book.Entry.{Entry}
 use Rattle.records.specs.declared.book.Head.{Head}
 use Rattle.records.specs.declared.book.Record.{Record}
@@ -38,13 +39,13 @@ use Rattle.records.proofs.Chains.{body-end}
 -- the bodies of a registry lie within the area, and a number can be given
 module _ {h : Head} {rs : List Record} {area : List ℕ} (C : Chained h rs area) where
   pub chained-end : (i : ℕ) → i ≤ h .held → recordAt rs i .start + recordAt rs i .size ≤ length area
-  chained-end i g = omega (arith, body-end (C .follow) i g, C .inside)
+  chained-end i g = omega (arith, body-end (C .lies .follow) i g, C .lies .inside)
 
   chained-placed : Placed (h .held) rs area
-  chained-placed = record { few = C .few; there = λ i g k. omega (arith, C .few, C .many); ends = λ i g k. chained-end i k }
+  chained-placed = record { few = C .lies .few; there = λ i g k. omega (arith, C .lies .few, C .lies .many); ends = λ i g k. chained-end i k }
 
-  chained-ready : Ready h area
-  chained-ready = record { few = C .few; inside = C .inside; countable = C .countable }
+  chained-ready : Ready h (length area)
+  chained-ready = record { few = C .lies .few; inside = C .lies .inside }
 
 -- ---- the search, body after body
 none-found : {held : ℕ} {rs : List Record} {area x : List ℕ} {n : ℕ} → n ≡ 0 → Finds held rs area x n → NotHeld held rs area x
@@ -82,27 +83,22 @@ added-some : (rs : List Record) (e : Record) (k : ℕ) → added rs (k + 1) e �
 added-some rs e k = added-set rs e (k + 1) (omega arith)
 
 -- ---- the number of some bytes
-module _ {h : Head} {rs : List Record} {area x : List ℕ} (r : Entry) where
-  answers : {area′ : List ℕ} (a : Entered) → r .answer ≡ a → Judged (Kept h rs area (r .head) (added rs (r .number) (r .new)) area′) (λ m. Gives h rs area x m (r .head) (added rs (r .number) (r .new)) area′) (check 8 (HasPlace h rs area x) done) (numberOf a) → StepsWith x h rs area r area′
-  answers {area′} a e J = subst (λ (b : Entered). Judged (Kept h rs area (r .head) (added rs (r .number) (r .new)) area′) (λ m. Gives h rs area x m (r .head) (added rs (r .number) (r .new)) area′) (check 8 (HasPlace h rs area x) done) (numberOf b)) (sym e) J
+module _ {h : Head} {rs : List Record} {area x : List ℕ} where
+  gets-place : {n : ℕ} → Gets h rs area x n → HasPlace h rs area x
+  gets-place {n} G = ⊎-elim (λ L. inl (n, L)) (λ N. inr (N .room)) G
 
-module _ {h : Head} {rs : List Record} {area x : List ℕ} {n : ℕ} (r : Entry) where
-  -- they are held
-  pub found : (n ≡ 0 → ⊥) → Counts h n r → Finds (h .held) rs area x n → StepsWith x h rs area r area
-  found g C F = ⊎-elim (λ w. absurd (g (w .0))) (λ L. answers r _ (C .answer) (pass (inl (n, L)) (accept (inl (record { lowest = L; head = C .head; records = added-none rs (r .new) (C .number); bodies = refl }))))) F
+  module _ {n : ℕ} where
+    -- they are held
+    pub found : (n ≡ 0 → ⊥) → Finds (h .held) rs area x n → Gets h rs area x n
+    found g F = ⊎-elim (λ w. absurd (g (w .0))) (λ L. inl L) F
 
-  -- they are not, and there is no room
-  pub full : n ≡ 0 → (Room h area x → ⊥) → r ≡ unchanged h (refusedBy FullRegistry) → Finds (h .held) rs area x n → StepsWith x h rs area r area
-  unfolding added
-  full z no-room e F =
-      subst (λ (s : Entry). StepsWith x h rs area s area) (sym e)
-      (refuse (λ p. ⊎-elim (λ w. none-found z F .none (w .0) (w .1 .low) (w .1 .high) (w .1 .there)) no-room p) (refl, refl, refl))
+    -- they are not, and there is no room
+    pub full : n ≡ 0 → (Room h area x → ⊥) → Finds (h .held) rs area x n → HasPlace h rs area x → ⊥
+    full z no-room F p = ⊎-elim (λ w. none-found z F .none (w .0) (w .1 .low) (w .1 .high) (w .1 .there)) no-room p
 
-  -- they are not, and there is
-  pub appended : {area′ : List ℕ} → n ≡ 0 → Room h area x → Adds h area x r area′ → Finds (h .held) rs area x n → StepsWith x h rs area r area′
-  appended {area′} z R A F =
-      let e : added rs (r .number) (r .new) ≡ set rs (h .held + 1) (record { start = h .used; size = length x }) = ap₂ (added rs) (A .number) (A .new) ∙ added-some rs (record { start = h .used; size = length x }) (h .held) in
-      answers r _ (A .answer) (pass (inr R) (accept (inr (record { new = none-found z F; room = R; next = refl; head = A .head; records = e; bodies = A .bodies }))))
+    -- they are not, and there is
+    pub next : n ≡ 0 → Room h area x → Finds (h .held) rs area x n → Gets h rs area x (h .held + 1)
+    next z R F = inr (record { new = none-found z F; room = R; next = refl })
 
 -- ---- the file of the normal form is one
 pub clean-unique : {stock s x x′ : List ℕ} → CleanFile stock s x → CleanFile stock s x′ → x ≡ x′
@@ -117,13 +113,6 @@ pub passed : {A Kept : Type 0} {Good : A → Type 0} {k : ℕ} {P : Type 0} {res
 unfolding judged
 passed p J = record { verdict = ⊎-elim (λ w. absurd (w .0 p)) (λ w. w .1) (J .verdict) }
 
--- a last check may be said in other words
-other-check : {A Kept : Type 0} {Good Good′ : A → Type 0} {k : ℕ} {P P′ : Type 0} {r : Outcome A} → (P → P′) → (P′ → P) → ((a : A) → Good a → Good′ a) → Judged Kept Good (check k P done) r → Judged Kept Good′ (check k P′ done) r
-unfolding judged
-other-check {Kept} {Good} {Good′} {r} f g better J = record {
-  verdict = ⊎-elim (λ w. inl ((λ p. w .0 (g p)), w .1, w .2)) (λ w. inr (f (w .0), better-answer {Kept = Kept} {Good = Good} {Good′ = Good′} {checks = done} {r = r} better (record { verdict = w .1 }) .verdict)) (J .verdict);
-}
-
 -- ---- before the search
 module _ {s : List ℕ} {h : Head} {rs : List Record} {area : List ℕ} where
   -- no registry
@@ -133,7 +122,7 @@ module _ {s : List ℕ} {h : Head} {rs : List Record} {area : List ℕ} where
   module _ (C : Chained h rs area) {stock before after : List ℕ} (same : stock ≡ body rs area 0) (long : longest ≤ length before) (a : Formed) (J : Cleans stock s before after a) where
     -- what cleaning asks beyond the room and the alphabets
     asked : Judged (after ≡ before) (λ v. (counts : List ℕ) × ((bytes : List ℕ) × (NormalFile (body rs area 0) s (v .0) counts bytes × FileOf v counts bytes before after))) (sheetCheck (body rs area 0) s (formCheck (body rs area 0) s done)) (formOf a)
-    asked = passed (C .stock) (passed long (rw same at J))
+    asked = passed (C .lies .stock) (passed long (rw same at J))
 
     -- cleaning refuses
     pub not-clean : {x : List ℕ} (r : Asked) (q : Refusal) → a ≡ formed.Refused q → r ≡ refusedAsk q → Asks s h rs area x r
@@ -156,34 +145,77 @@ module _ {s : List ℕ} {h : Head} {rs : List Record} {area x : List ℕ} {a : A
   pub asked-placed : Placed (a .held) rs area
   asked-placed = ⊎-elim (λ c. rw (c .held) (chained-placed (c .chained))) (λ t. let z : a .held ≡ 0 = ap (λ b. b .held) (t .ask) in record { few = omega arith; there = λ i g k. absurd (omega arith); ends = λ i g k. absurd (omega arith) }) A
 
-  pub asked-ready : a .verdict ≡ clean → Ready h area
+  pub asked-ready : a .verdict ≡ clean → Ready h (length area)
   asked-ready v = ⊎-elim (λ c. chained-ready (c .chained)) (λ t. let e : _≡_ {A = Verdict} (deciding.Refused (t .refusal)) deciding.Clean = sym (ap (λ b. b .verdict) (t .ask)) ∙ v in conflict (cc)) A
 
--- ---- after the search
-module _ {s : List ℕ} {h : Head} {rs : List Record} {area x : List ℕ} {a : Asked} {r : Entry} where
+-- ---- after the search: the question
+module _ {s : List ℕ} {h : Head} {rs : List Record} {area x : List ℕ} where
+  -- an entry of s, where x is its clean file
+  module _ (C : Chained h rs area) (w : Holds (sheetCheck (body rs area 0) s (formCheck (body rs area 0) s done))) (f : CleanFile (body rs area 0) s x) where
+    no-place : (HasPlace h rs area x → ⊥) → Enters s h rs area h rs area (refusedBy FullRegistry)
+    unfolding Holds
+    no-place g = pass C (pass (w .0) (pass (w .1 .0) (pass (w .1 .1 .0) (refuse (λ u. g (rw (clean-unique (u .1 .0) f) at (u .1 .1))) (refl, refl, refl)))))
+
+    has-number : {n : ℕ} {h′ : Head} {rs′ : List Record} {area′ : List ℕ} → HasPlace h rs area x → Gives h rs area x n h′ rs′ area′ → Enters s h rs area h′ rs′ area′ (Number n)
+    unfolding Holds
+    has-number p g = pass C (pass (w .0) (pass (w .1 .0) (pass (w .1 .1 .0) (pass (x, (f, p)) (accept (x, (f, g)))))))
+
+    numbers-decided : (e : Entered) → Numbers h rs area x e → Decided s h rs area x e
+    numbers-decided (Number n) G = record { chained = C; checks = w; file = f; gets = G }
+    numbers-decided (Refused q) N = rw (N .0) (no-place (N .1))
+
   -- the clean file got a number or did not
-  pub numbered : {n : ℕ} {area′ : List ℕ} → a .verdict ≡ clean → r .number ≤ 32 → (Finds (h .held) rs area x n → StepsWith x h rs area r area′) → Asks s h rs area x a → Finds (a .held) rs area x n → Places s h rs area r area′
-  unfolding Holds
-  numbered v few K A F =
+  pub numbered : {a : Asked} {n : ℕ} (e : Entered) → a .verdict ≡ clean → (Finds (h .held) rs area x n → Numbers h rs area x e) → Asks s h rs area x a → Finds (a .held) rs area x n → Decided s h rs area x e
+  numbered e v K A F =
       ⊎-elim
-      (λ c.
-      let J = other-check (λ p. (x, (c .file, p))) (λ u. rw (clean-unique (u .1 .0) (c .file)) at (u .1 .1)) (λ m g. (x, (c .file, g))) (K (rw (c .held) at F)) in
-      let w = c .checks in
-      record { enters = pass (c .chained) (pass (w .0) (pass (w .1 .0) (pass (w .1 .1 .0) J))); inside = λ g. omega (arith, c .chained .many) })
+      (λ c. numbers-decided (c .chained) (c .checks) (c .file) e (K (rw (c .held) at F)))
       (λ t. let e : _≡_ {A = Verdict} (deciding.Refused (t .refusal)) deciding.Clean = sym (ap (λ b. b .verdict) (t .ask)) ∙ v in conflict (cc))
       A
 
   -- the refusal from before the search
-  pub turned-down : (q : Refusal) → a .verdict ≡ deciding.Refused q → r ≡ unchanged h (refusedBy q) → Asks s h rs area x a → Places s h rs area r area
-  unfolding added
-  turned-down q v e A =
+  pub turned-down : {a : Asked} (q : Refusal) → a .verdict ≡ deciding.Refused q → Asks s h rs area x a → Decided s h rs area x (Refused q)
+  turned-down q v A =
       ⊎-elim
       (λ c. let f : _≡_ {A = Verdict} (deciding.Refused q) deciding.Clean = sym v ∙ c .verdict in conflict (cc))
       (λ t.
       let f : _≡_ {A = Verdict} (deciding.Refused (t .refusal)) (deciding.Refused q) = sym (ap (λ b. b .verdict) (t .ask)) ∙ v in
       let z : t .refusal ≡ q = cc in
-      subst (λ (w : Entry). Places s h rs area w area) (sym e) (record { enters = rw z at (t .enters); inside = λ g. absurd (omega arith) }))
+      rw z at (t .enters))
       A
+
+-- ---- the commit
+module _ (s : List ℕ) (h : Head) (rs : List Record) (area x : List ℕ) where
+  granted-fits : {n : ℕ} → Granted s h rs area x n → Fits h area x n
+  granted-fits G = record { countable = G .chained .counts .countable; room = λ l. ⊎-elim (λ L. absurd (omega (arith, L .high))) (λ N. N .room) (G .gets) }
+
+  pub decided-fit : (e : Entered) → Decided s h rs area x e → Fit h area x e
+  decided-fit (Number n) D = granted-fits D
+  decided-fit (Refused q) D = tt
+
+module _ {h : Head} {rs : List Record} {area x : List ℕ} where
+  module _ {r : Entry} {area′ : List ℕ} where
+    put-gives : {n : ℕ} → Gets h rs area x n → Puts h n area x r area′ → (r .answer ≡ Number n) × Gives h rs area x n (r .head) (added rs (r .number) (r .new)) area′
+    put-gives {n} G P =
+        ⊎-elim
+        (λ k. ⊎-elim (λ L. (k .1 .answer, inl (record { lowest = L; head = k .1 .head; records = added-none rs (r .new) (k .1 .number); bodies = k .2 }))) (λ N. absurd (omega (arith, N .next, k .0))) G)
+        (λ k. ⊎-elim (λ L. absurd (omega (arith, L .high, k .0)))
+        (λ N.
+        let A = k .1 in
+        let e : added rs (r .number) (r .new) ≡ set rs n (bodyRecord (h .used) (length x)) = ap₂ (added rs) (A .number) (A .new) ∙ added-some rs (bodyRecord (h .used) (length x)) (h .held) ∙ ap (λ i. set rs i (bodyRecord (h .used) (length x))) (sym (N .next)) in
+        (A .answer ∙ ap (λ i. Number i) (sym (N .next)), inr (record { new = N .new; room = N .room; next = N .next; head = A .head; records = e; bodies = A .bodies })))
+        G)
+        P
+
+    put-inside : {n : ℕ} → Chained h rs area → Gets h rs area x n → Puts h n area x r area′ → 0 < r .number → r .number < length rs
+    put-inside C G P g = ⊎-elim (λ k. absurd (omega (arith, k .1 .number))) (λ k. ⊎-elim (λ L. absurd (omega (arith, L .high, k .0))) (λ N. omega (arith, k .1 .number, N .room .few, C .lies .many)) G) P
+
+-- question and commit make an entry
+pub settled : (s : List ℕ) (h : Head) (rs : List Record) (area x : List ℕ) (r : Entry) (area′ : List ℕ) (e : Entered) → Decided s h rs area x e → Settled h e area x r area′ → Places s h rs area r area′
+unfolding added
+settled s h rs area x r area′ (Number n) G P =
+    let w = put-gives (G .gets) P in
+    record { enters = subst (λ (o : Entered). Enters s h rs area (r .head) (added rs (r .number) (r .new)) area′ o) (sym (w .0)) (has-number (G .chained) (G .checks) (G .file) (gets-place (G .gets)) (w .1)); inside = put-inside (G .chained) (G .gets) P }
+settled s h rs area x r area′ (Refused q) E P = subst (λ (v : Entry). Places s h rs area v area′) (sym (P .0)) (subst (λ l. Places s h rs area (unchanged h (refusedBy q)) l) (sym (P .1)) (record { enters = E; inside = λ g. absurd (omega arith) }))
 
 -- the file of a normal form fits the area that it is cleaned into
 pub clean-fits : {stock s before after : List ℕ} (a : Formed) (k m size : ℕ) → Cleans stock s before after a → a ≡ formed.Form k m size → size ≤ length after

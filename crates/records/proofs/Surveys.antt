@@ -153,19 +153,19 @@ module _ {h : Head} {number : ℕ} {rs : List Record} {n : ℕ} {s : Survey} (S 
 
   module _ (many : length rs ≡ n) {area : List ℕ} (C : Chained h rs area) where
     chained-reach : min (min n 33) (suc (h .held)) ≡ suc (h .held)
-    chained-reach = reach (omega (arith, C .many)) (C .few)
+    chained-reach = reach (omega (arith, C .lies .many)) (C .lies .few)
 
     chained-right : s .right ≡ true
     chained-right =
-        let l : min n 33 ≡ 33 = min-eq-right (omega (arith, C .many)) in
+        let l : min n 33 ≡ 33 = min-eq-right (omega (arith, C .lies .many)) in
         S .right .complete (record {
-          starts = λ i g k. C .follow .starts i k;
-          inside = omega (arith, C .follow .sum, ap (total rs) chained-reach);
-          unused = λ i g k. C .unused .none i k (omega arith);
+          starts = λ i g k. C .lies .follow .starts i k;
+          inside = omega (arith, C .lies .follow .sum, ap (total rs) chained-reach);
+          unused = λ i g k. C .lies .unused .none i k (omega arith);
         })
 
     pub not-wrong : s .right ≡ false → ⊥
     not-wrong e = let t = chained-right in conflict (cc)
 
     pub chained-sum : s .end ≡ h .used
-    chained-sum = S .end chained-right ∙ ap (total rs) chained-reach ∙ sym (C .follow .sum)
+    chained-sum = S .end chained-right ∙ ap (total rs) chained-reach ∙ sym (C .lies .follow .sum)

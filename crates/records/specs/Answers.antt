@@ -10,7 +10,7 @@ use Rattle.trees.specs.Refusal.{refusalNumber, Outcome, accepted, refused, done
 use Rattle.formats.specs.Sheet.{file, sheetCheck}
 use Rattle.earliest.specs.Answers.{formCheck}
 use Rattle.canonical.specs.Answers.{NormalFile}
-use Rattle.records.specs.Book.{noRecord, body, Chained}
+use Rattle.records.specs.Book.{noRecord, stockRecord, bodyRecord, newHead, countedHead, grownHead, body, Chained}
 use Rattle.records.specs.declared.book.Head.{Head}
 use Rattle.records.specs.declared.book.Record.{Record}
 use Rattle.records.specs.declared.book.Entered.{Entered}
@@ -29,8 +29,8 @@ madeOf (making.Refused r) = refused (refusalNumber r)
 
 -- the head is new, the first 33 records are those of the alphabets and unused ones, and the area begins with the alphabets; the rest of both stays
 pub record Begun (stock : List ℕ) (rs : List Record) (area : List ℕ) (h′ : Head) (rs′ : List Record) (area′ : List ℕ) : Type 0 where
-  pub head : h′ ≡ record { held = 0; used = length stock; answered = 0 }
-  pub records : rs′ ≡ record { start = 0; size = length stock } ∷ (replicate 32 noRecord ++ drop 33 rs)
+  pub head : h′ ≡ newHead (length stock)
+  pub records : rs′ ≡ stockRecord (length stock) ∷ (replicate 32 noRecord ++ drop 33 rs)
   pub bodies : area′ ≡ sets area 0 stock
 
 abbrev pub Makes : List ℕ → Head → List Record → List ℕ → Head → List Record → List ℕ → Made → Type 0
@@ -68,10 +68,20 @@ pub record Room (h : Head) (area x : List ℕ) : Type 0 where
   pub few : h .held < 32
   pub fits : h .used + length x ≤ length area
 
+-- x is not held, there is room for it, and n is the next number
+pub record Next (h : Head) (rs : List Record) (area x : List ℕ) (n : ℕ) : Type 0 where
+  pub new : NotHeld (h .held) rs area x
+  pub room : Room h area x
+  pub next : n ≡ h .held + 1
+
+-- n is the number that x would get
+abbrev pub Gets : Head → List Record → List ℕ → List ℕ → ℕ → Type 0
+Gets h rs area x n = Lowest (h .held) rs area x n ⊎ Next h rs area x n
+
 -- x is held: its lowest number n is answered, which is counted, and nothing else changes
 pub record Known (h : Head) (rs : List Record) (area x : List ℕ) (n : ℕ) (h′ : Head) (rs′ : List Record) (area′ : List ℕ) : Type 0 where
   pub lowest : Lowest (h .held) rs area x n
-  pub head : h′ ≡ record { held = h .held; used = h .used; answered = h .answered + 1 }
+  pub head : h′ ≡ countedHead h
   pub records : rs′ ≡ rs
   pub bodies : area′ ≡ area
 
@@ -80,8 +90,8 @@ pub record Added (h : Head) (rs : List Record) (area x : List ℕ) (n : ℕ) (h�
   pub new : NotHeld (h .held) rs area x
   pub room : Room h area x
   pub next : n ≡ h .held + 1
-  pub head : h′ ≡ record { held = h .held + 1; used = h .used + length x; answered = h .answered + 1 }
-  pub records : rs′ ≡ set rs n (record { start = h .used; size = length x })
+  pub head : h′ ≡ grownHead h (length x)
+  pub records : rs′ ≡ set rs n (bodyRecord (h .used) (length x))
   pub bodies : area′ ≡ sets area (h .used) x
 
 -- refusal 8: x is not held, and there is no room for it

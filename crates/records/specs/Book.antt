@@ -7,9 +7,37 @@ use Rattle.trees.specs.Alphabets.{Alphabets}
 use Rattle.records.specs.declared.book.Head.{Head}
 use Rattle.records.specs.declared.book.Record.{Record}
 
--- an unused record
+-- ---- the head and its updates
+-- how many answers are counted
+abbrev pub answersOf : Head → ℕ
+answersOf h = h .answered
+
+-- as many answers can not be counted
+abbrev pub tooMany : ℕ
+tooMany = 18446744073709551615
+
+-- the head of a registry that holds nothing but alphabets of this size
+abbrev pub newHead : ℕ → Head
+newHead size = record { held = 0; used = size; answered = 0 }
+
+-- one answer more
+abbrev pub countedHead : Head → Head
+countedHead h = record { held = h .held; used = h .used; answered = h .answered + 1 }
+
+-- one body more, of this size, which is answered
+abbrev pub grownHead : Head → ℕ → Head
+grownHead h size = countedHead (record { held = h .held + 1; used = h .used + size; answered = h .answered })
+
+-- ---- the records and their updates
+-- an unused record, that of alphabets, and that of a body which is added
 abbrev pub noRecord : Record
 noRecord = record { start = 0; size = 0 }
+
+abbrev pub stockRecord : ℕ → Record
+stockRecord size = record { start = 0; size = size }
+
+abbrev pub bodyRecord : ℕ → ℕ → Record
+bodyRecord start size = record { start = start; size = size }
 
 -- the record with number i, and the body that it tells
 abbrev pub recordAt : List Record → ℕ → Record
@@ -32,12 +60,20 @@ pub record Follow (held used : ℕ) (rs : List Record) : Type 0 where
 pub record Unused (held : ℕ) (rs : List Record) : Type 0 where
   pub none : (i : ℕ) → held < i → i < 33 → recordAt rs i ≡ noRecord
 
--- head, records and area are a registry, with room for one more answer
-pub record Chained (h : Head) (rs : List Record) (area : List ℕ) : Type 0 where
+-- how the bodies lie
+pub record Lies (h : Head) (rs : List Record) (area : List ℕ) : Type 0 where
   pub many : 33 ≤ length rs
   pub few : h .held ≤ 32
   pub follow : Follow (h .held) (h .used) rs
   pub inside : h .used ≤ length area
   pub unused : Unused (h .held) rs
   pub stock : Alphabets (body rs area 0)
-  pub countable : h .answered < 18446744073709551615
+
+-- the counts are sound, with room for one more answer
+pub record Sound (h : Head) (rs : List Record) : Type 0 where
+  pub countable : answersOf h < tooMany
+
+-- head, records and area are a registry
+pub record Chained (h : Head) (rs : List Record) (area : List ℕ) : Type 0 where
+  pub lies : Lies h rs area
+  pub counts : Sound h rs

@@ -4,7 +4,7 @@ ghost use mathlib.Core.List.{List};
 ghost use mathlib.Core.Path.{_≡_};
 ghost use lib.ListN.{length};
 ghost use Rattle.trees.specs.Refusal.{Decides};
-ghost use Rattle.records.specs.Book.{noRecord, recordAt, Chained};
+ghost use Rattle.records.specs.Book.{noRecord, recordAt, Sound, Chained};
 ghost use Rattle.records.specs.Inner.Surveys.{Surveyed, Told, keptAt};
 ghost use Rattle.records.specs.declared.book.Head.{Head as Heads};
 ghost use Rattle.records.specs.declared.book.Record.{Record as Records};
@@ -75,6 +75,16 @@ pub fn look(s: Survey, i: usize, h: Head, number: usize, r: Record) -> Survey
     t
 }
 
+// Whether the counts are sound; n records told s.
+fn sound(h: Head) -> bool
+    ensures { λ b. ⌜ ((rs : List Records) → Decides (Sound h rs) b) ⌝ }
+{
+    if h.answered == 18446744073709551615 {
+        return false;
+    }
+    true
+}
+
 // Whether the head, the n records that told s and the area are a registry.
 pub(crate) fn chained(h: Head, n: usize, s: Survey, area: &[u8]) -> bool
     requires { ⌜ ((k : ℕ) × Told h k n s) ⌝ }
@@ -89,7 +99,7 @@ pub(crate) fn chained(h: Head, n: usize, s: Survey, area: &[u8]) -> bool
     if h.used > area.len() {
         return false;
     }
-    if h.answered == 18446744073709551615 {
+    if !sound(h) {
         return false;
     }
     if !s.right {

@@ -5,7 +5,8 @@ ghost use mathlib.Core.Path.{_≡_};
 ghost use lib.ListN.{length, take};
 ghost use Rattle.formats.specs.Sheet.{longest};
 ghost use Rattle.records.specs.Answers.{Room};
-ghost use Rattle.records.specs.Inner.Steps.{clean, Finds, Ready, Adds, Counts, refusedBy, refusedAsk, unchanged, Asks, StepsWith, Places};
+ghost use Rattle.records.specs.Book.{answersOf, countedHead};
+ghost use Rattle.records.specs.Inner.Steps.{clean, Finds, Ready, Numbers, Decided, Fits, Fit, Adds, Counts, Puts, Settled, Searched, refusedBy, refusedAsk, unchanged, Asks, Places};
 ghost use Rattle.records.specs.Inner.Surveys.{Surveyed, Told};
 ghost use Rattle.records.specs.declared.book.Record.{Record as Records};
 use crate::book::Asked;
@@ -59,9 +60,51 @@ pub fn beginning(file: &[u8], size: usize) -> &[u8]
     &file[0..size]
 }
 
-// The commit: these bytes are put behind what is held, and get the next number.
+// The number that bytes of this size would get, which the search found at n, 0 for not at all; the area has `room` bytes.
+fn number_for(h: Head, n: usize, room: usize, size: usize) -> Entered
+    requires { ⌜ Ready h room ⌝ }
+    ensures { λ e. ⌜ ((rs : List Records) (area x : List ℕ) → length area ≡ room → length x ≡ size → Finds (h .held) rs area x n → Numbers h rs area x e) ⌝ }
+{
+    if n != 0 {
+        return Entered::Number(n);
+    }
+    if h.held == 32 {
+        return Entered::Refused(Refusal::FullRegistry);
+    }
+    if size > room - h.used {
+        return Entered::Refused(Refusal::FullRegistry);
+    }
+    Entered::Number(h.held + 1)
+}
+
+// The question: what an entry would answer. It changes nothing.
+pub fn decide(h: Head, a: Asked, n: usize, room: usize, size: usize) -> Entered
+    requires { ⌜ (a .verdict ≡ clean → Ready h room) ⌝ }
+    ensures { λ e. ⌜ ((s : List ℕ) (rs : List Records) (area x : List ℕ) → length area ≡ room → length x ≡ size → Asks s h rs area x a → Finds (a .held) rs area x n → Decided s h rs area x e) ⌝ }
+{
+    let verdict = a.verdict;
+    match verdict {
+        Verdict::Clean => number_for(h, n, room, size),
+        Verdict::Refused(r) => Entered::Refused(r),
+    }
+}
+
+// The head with one answer more.
+fn count_answer(h: Head) -> Head
+    requires { ⌜ answersOf h < 18446744073709551615 ⌝ }
+    ensures { λ r. ⌜ r ≡ countedHead h ⌝ }
+{
+    let answered = h.answered + 1;
+    Head {
+        held: h.held,
+        used: h.used,
+        answered: answered,
+    }
+}
+
+// These bytes are put behind what is held, and get the next number.
 fn append(h: Head, area: &mut [u8], bytes: &[u8]) -> Entry
-    requires { ⌜ Room h (now area) (now bytes) × (h .answered < 18446744073709551615) ⌝ }
+    requires { ⌜ Room h (now area) (now bytes) × (answersOf h < 18446744073709551615) ⌝ }
     ensures { λ r. ⌜ Adds h (now (area .entry)) (now (bytes .entry)) r (now (area .exit)) ⌝ }
 {
     let used = h.used;
@@ -74,10 +117,10 @@ fn append(h: Head, area: &mut [u8], bytes: &[u8]) -> Entry
     let head = Head {
         held: n,
         used: used + bytes.len(),
-        answered: h.answered + 1,
+        answered: h.answered,
     };
     Entry {
-        head: head,
+        head: count_answer(head),
         number: n,
         new: new,
         answer: Entered::Number(n),
@@ -86,17 +129,11 @@ fn append(h: Head, area: &mut [u8], bytes: &[u8]) -> Entry
 
 // The answer n is counted.
 fn count(h: Head, n: usize) -> Entry
-    requires { ⌜ h .answered < 18446744073709551615 ⌝ }
+    requires { ⌜ answersOf h < 18446744073709551615 ⌝ }
     ensures { λ r. ⌜ Counts h n r ⌝ }
 {
-    let answered = h.answered + 1;
-    let head = Head {
-        held: h.held,
-        used: h.used,
-        answered: answered,
-    };
     Entry {
-        head: head,
+        head: count_answer(h),
         number: 0,
         new: Record { start: 0, size: 0 },
         answer: Entered::Number(n),
@@ -115,31 +152,33 @@ fn refuse(h: Head, r: Refusal) -> Entry
     }
 }
 
-// Gives these bytes a number: n where that is not 0, else the next where there is room.
-fn number_bytes(h: Head, n: usize, area: &mut [u8], bytes: &[u8]) -> Entry
-    requires { ⌜ Ready h (now area) ⌝ }
-    ensures { λ r. ⌜ (r .number ≤ 32) × ((rs : List Records) → Finds (h .held) rs (now (area .entry)) (now (bytes .entry)) n → StepsWith (now (bytes .entry)) h rs (now (area .entry)) r (now (area .exit))) ⌝ }
+// The commit of the number n for these bytes: they are held at n, or n is the next.
+fn put(h: Head, n: usize, area: &mut [u8], bytes: &[u8]) -> Entry
+    requires { ⌜ Fits h (now area) (now bytes) n ⌝ }
+    ensures { λ r. ⌜ Puts h n (now (area .entry)) (now (bytes .entry)) r (now (area .exit)) ⌝ }
 {
-    if n != 0 {
+    if n <= h.held {
         return count(h, n);
-    }
-    if h.held == 32 {
-        return refuse(h, Refusal::FullRegistry);
-    }
-    if bytes.len() > area.len() - h.used {
-        return refuse(h, Refusal::FullRegistry);
     }
     append(h, area, bytes)
 }
 
-// The end of an entry: the refusal, or a number for the clean file `bytes`, which the search found at n, 0 for not at all.
+// The commit of what the question answered.
+pub fn settle(h: Head, answer: Entered, area: &mut [u8], bytes: &[u8]) -> Entry
+    requires { ⌜ Fit h (now area) (now bytes) answer ⌝ }
+    ensures { λ r. ⌜ Settled h answer (now (area .entry)) (now (bytes .entry)) r (now (area .exit)) ⌝ }
+{
+    match answer {
+        Entered::Number(n) => put(h, n, area, bytes),
+        Entered::Refused(r) => refuse(h, r),
+    }
+}
+
+// The end of an entry, after the search, which found the clean file `bytes` at n, 0 for not at all: question and commit.
 pub fn place(h: Head, a: Asked, n: usize, area: &mut [u8], bytes: &[u8]) -> Entry
-    requires { ⌜ (a .verdict ≡ clean → Ready h (now area)) ⌝ }
+    requires { ⌜ Searched h a n (now area) (now bytes) ⌝ }
     ensures { λ r. ⌜ ((s : List ℕ) (rs : List Records) → Asks s h rs (now (area .entry)) (now (bytes .entry)) a → Finds (a .held) rs (now (area .entry)) (now (bytes .entry)) n → Places s h rs (now (area .entry)) r (now (area .exit))) ⌝ }
 {
-    let verdict = a.verdict;
-    match verdict {
-        Verdict::Clean => number_bytes(h, n, area, bytes),
-        Verdict::Refused(r) => refuse(h, r),
-    }
+    let answer = decide(h, a, n, area.len(), bytes.len());
+    settle(h, answer, area, bytes)
 }

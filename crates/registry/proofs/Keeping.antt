@@ -15,7 +15,7 @@ use Rattle.theory.proofs.Lists.{get-lt}
 use Rattle.trees.specs.Refusal.{Holds}
 use Rattle.trees.proofs.Judging.{accepted-holds, refused-fails}
 use Rattle.records.specs.Answers.{Enters, CleanFile, Added, Gives}
-use Rattle.records.specs.Book.{noRecord, recordAt, body, Chained}
+use Rattle.records.specs.Book.{answersOf, noRecord, bodyRecord, recordAt, body, Chained}
 use Rattle.records.specs.declared.book.Entered.{Entered}
 use Rattle.records.specs.declared.book.Entered.the-variants.{Number, Refused}
 use Rattle.records.specs.declared.book.Head.{Head}
@@ -81,15 +81,15 @@ bodyOf b n = body (b .records) (b .area) n
 module _ {h : Head} {rs : List Record} {area x : List ℕ} {n : ℕ} {h′ : Head} {rs′ : List Record} {area′ : List ℕ} (C : Chained h rs area) (A : Added h rs area x n h′ rs′ area′) where
   -- the other records stay, and the new one tells where x stands
   pub added-other : (m : ℕ) → m ≢ n → recordAt rs′ m ≡ recordAt rs m
-  added-other m o = ap (λ w. recordAt w m) (A .records) ∙ getD-set-other rs n m (record { start = h .used; size = length x }) noRecord o
+  added-other m o = ap (λ w. recordAt w m) (A .records) ∙ getD-set-other rs n m (bodyRecord (h .used) (length x)) noRecord o
 
-  pub added-record : recordAt rs′ n ≡ record { start = h .used; size = length x }
-  added-record = ap (λ w. recordAt w n) (A .records) ∙ getD-set-same rs n (record { start = h .used; size = length x }) noRecord (omega (arith, A .next, A .room .few, C .many))
+  pub added-record : recordAt rs′ n ≡ bodyRecord (h .used) (length x)
+  added-record = ap (λ w. recordAt w n) (A .records) ∙ getD-set-same rs n (bodyRecord (h .used) (length x)) noRecord (omega (arith, A .next, A .room .few, C .lies .many))
 
   pub added-stays : (m : ℕ) → m ≤ h .held → body rs′ area′ m ≡ body rs area m
   added-stays m g =
       ap₂ (λ (w : Record) (l : List ℕ). take (w .size) (drop (w .start) l)) (added-other m (λ e. omega (arith, A .next))) (A .bodies)
-      ∙ before-stays area x (h .used) (A .room .fits) (recordAt rs m .start) (recordAt rs m .size) (body-end (C .follow) m g)
+      ∙ before-stays area x (h .used) (A .room .fits) (recordAt rs m .start) (recordAt rs m .size) (body-end (C .lies .follow) m g)
 
   pub added-there : body rs′ area′ n ≡ x
   added-there = ap₂ (λ (w : Record) (l : List ℕ). take (w .size) (drop (w .start) l)) added-record (A .bodies) ∙ put-there area x (h .used) (A .room .fits)
@@ -121,8 +121,8 @@ module _ {b : Book} {s : List ℕ} {a : Option ℕ} {b′ : Book} where
       (A .gives)
 
   -- an answer is counted
-  pub accepted-counted : (A : Accepted b s a b′) → b′ .head .answered ≡ suc (b .head .answered)
-  accepted-counted A = ⊎-elim (λ k. ap (λ w. w .answered) (k .head) ∙ add-one (b .head .answered)) (λ k. ap (λ w. w .answered) (k .head) ∙ add-one (b .head .answered)) (A .gives)
+  pub accepted-counted : (A : Accepted b s a b′) → answersOf (b′ .head) ≡ suc (answersOf (b .head))
+  accepted-counted A = ⊎-elim (λ k. ap answersOf (k .head) ∙ add-one (answersOf (b .head))) (λ k. ap answersOf (k .head) ∙ add-one (answersOf (b .head))) (A .gives)
 
 -- ---- the items: the bodies from 1 on
 unfoldable pub items : List Record → List ℕ → ℕ → ℕ → List (List ℕ)

@@ -13,6 +13,7 @@ use Rattle.theory.proofs.Terms.{conflict}
 use Rattle.canonical.specs.Answers.{SewAlike}
 use Rattle.canonical.proofs.Laws.{clean-exact, sheets-alike}
 use Rattle.records.specs.Answers.{CleanFile}
+use Rattle.records.specs.Book.{answersOf}
 use Rattle.registry.specs.Calls.{Book, MadeWith, EntersFile, Entries, acceptances, Orderly, Stays}
 use Rattle.registry.proofs.Keeping.{answered-by, bodyOf, stays-refl, stays-trans, unchanged-stays, accepted-there, accepted-counted, items, itemsOf, same-items, accepted-enters}
 use Rattle.registry.proofs.Standing.{made-head, entry-stays, stock-stays, still-chained}
@@ -30,12 +31,12 @@ record Numbered (stock : List ℕ) (b : Book) (s : List ℕ) (n : ℕ) : Type 0 
 
 module _ {stock : List ℕ} where
   -- the count is that of the entries accepted
-  pub counted : {log : List (List ℕ × Option ℕ)} {b : Book} → Entries stock log b → b .head .answered ≡ acceptances log
+  pub counted : {log : List (List ℕ × Option ℕ)} {b : Book} → Entries stock log b → answersOf (b .head) ≡ acceptances log
   unfolding acceptances
-  counted (begun M) = ap (λ w. w .answered) (made-head M)
+  counted (begun M) = ap answersOf (made-head M)
   counted (entered {log} {t} h E) =
       ⊎-elim
-      (λ U. ap (λ w. w .answered) (U .head) ∙ counted h ∙ ap (λ o. acceptances ((t, o) ∷ log)) (sym (U .answer)))
+      (λ U. ap answersOf (U .head) ∙ counted h ∙ ap (λ o. acceptances ((t, o) ∷ log)) (sym (U .answer)))
       (λ A. accepted-counted A ∙ ap suc (counted h) ∙ ap (λ o. acceptances ((t, o) ∷ log)) (sym (A .answer)))
       (answered-by E)
 

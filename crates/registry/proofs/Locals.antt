@@ -65,6 +65,10 @@ ptrB = tyRef erased mut (tyInt w8)
 abbrev pub slB : Ty
 slB = sliceTy ptrB
 
+-- how many bytes a record has in memory
+abbrev pub recordBytes : ℕ
+recordBytes = 16
+
 -- the records, as they are lent alone: for reading, and for writing
 abbrev pub recordsI : Ty
 recordsI = sliceTy (tyRef (named 0) imm (pointee (R.the-row .written)))

@@ -18,7 +18,7 @@ use Rattle.formats.proofs.Sheets.{sheet-counted}
 use Rattle.earliest.specs.Answers.{EarliestFile, formCheck}
 use Rattle.canonical.specs.Answers.{NormalFile}
 use Rattle.records.specs.Answers.{CleanFile, Lowest, NotHeld, Room, HasPlace, Known, Added, Gives, numberOf}
-use Rattle.records.specs.Book.{noRecord, recordAt, body, Follow, Unused, Chained}
+use Rattle.records.specs.Book.{answersOf, tooMany, newHead, countedHead, grownHead, noRecord, stockRecord, bodyRecord, recordAt, body, Follow, Unused, Chained}
 use Rattle.records.specs.declared.book.Entered.{Entered}
 use Rattle.records.specs.declared.book.Entered.the-variants.{Number, Refused}
 use Rattle.records.specs.declared.book.Head.{Head}
@@ -30,7 +30,7 @@ use Rattle.registry.proofs.Keeping.{Accepted, answered-by, bodyOf, unch
 
 -- ---- an accepted making
 module _ {stock : List ℕ} {b : Book} (M : MadeWith stock b) where
-  pub made-head : b .head ≡ record { held = 0; used = length stock; answered = 0 }
+  pub made-head : b .head ≡ newHead (length stock)
   made-head = accepted-holds (M .call) .1 .head
 
   pub made-stock : bodyOf b 0 ≡ stock
@@ -76,42 +76,46 @@ unfolding Holds
 made-chained {stock} {b} M e =
     let w = accepted-holds (M .call) in
     let B = w .1 in
-    let r : Record = record { start = 0; size = length stock } in
+    let r : Record = stockRecord (length stock) in
     let rs = drop 33 (M .before .records) in
     chained-same (B .head) (B .records) refl (record {
-      many = fresh-many r rs;
-      few = omega arith;
-      follow = fresh-follow r rs refl;
-      inside = omega (arith, w .0 .1 .1 .0, ap length (B .bodies), length-sets (M .before .area) 0 stock);
-      unused = fresh-unused r rs;
-      stock = subst Alphabets (sym (ap (λ v. body v (b .area) 0) (sym (B .records)) ∙ e)) (w .0 .1 .0);
-      countable = omega arith;
+      lies = record {
+        many = fresh-many r rs;
+        few = omega arith;
+        follow = fresh-follow r rs refl;
+        inside = omega (arith, w .0 .1 .1 .0, ap length (B .bodies), length-sets (M .before .area) 0 stock);
+        unused = fresh-unused r rs;
+        stock = subst Alphabets (sym (ap (λ v. body v (b .area) 0) (sym (B .records)) ∙ e)) (w .0 .1 .0);
+      };
+      counts = record { countable = omega arith };
     })
 
 -- ---- an entry
 module _ {h : Head} {rs : List Record} {area x : List ℕ} {n : ℕ} {h′ : Head} {rs′ : List Record} {area′ : List ℕ} (C : Chained h rs area) where
-  known-chained : Known h rs area x n h′ rs′ area′ → h′ .answered < 18446744073709551615 → Chained h′ rs′ area′
-  known-chained K g = chained-same (K .head) (K .records) (K .bodies) (record { many = C .many; few = C .few; follow = C .follow; inside = C .inside; unused = C .unused; stock = C .stock; countable = omega (arith, ap (λ w. w .answered) (K .head)) })
+  known-chained : Known h rs area x n h′ rs′ area′ → answersOf h′ < tooMany → Chained h′ rs′ area′
+  known-chained K g = chained-same (K .head) (K .records) (K .bodies) (record { lies = record { many = C .lies .many; few = C .lies .few; follow = C .lies .follow; inside = C .lies .inside; unused = C .lies .unused; stock = C .lies .stock }; counts = record { countable = omega (arith, ap answersOf (K .head)) } })
 
   module _ (A : Added h rs area x n h′ rs′ area′) where
     added-follow : Follow (h .held + 1) (h .used + length x) rs′
     added-follow =
-        let P : Passed rs′ (suc (h .held)) (h .used) = passed-same (λ i g. added-other C A i (λ e. omega (arith, A .next))) (follow-passed (C .follow)) in
+        let P : Passed rs′ (suc (h .held)) (h .used) = passed-same (λ i g. added-other C A i (λ e. omega (arith, A .next))) (follow-passed (C .lies .follow)) in
         let z : suc (h .held) ≡ n = omega (arith, A .next) in
         all-passed (passed-more P (sym (ap (recordAt rs′) z ∙ added-record C A)) refl) (omega arith) refl
 
     added-unused : Unused (h .held + 1) rs′
-    added-unused = record { none = λ i g l. added-other C A i (λ e. omega (arith, A .next)) ∙ C .unused .none i (omega arith) l }
+    added-unused = record { none = λ i g l. added-other C A i (λ e. omega (arith, A .next)) ∙ C .lies .unused .none i (omega arith) l }
 
-    added-chained : h′ .answered < 18446744073709551615 → Chained h′ rs′ area′
+    added-chained : answersOf h′ < tooMany → Chained h′ rs′ area′
     added-chained g = chained-same (A .head) refl refl (record {
-      many = omega (arith, C .many, ap length (A .records), length-set rs n (record { start = h .used; size = length x }));
-      few = omega (arith, A .room .few);
-      follow = added-follow;
-      inside = omega (arith, A .room .fits, ap length (A .bodies), length-sets area (h .used) x);
-      unused = added-unused;
-      stock = subst Alphabets (sym (added-stays C A 0 (omega arith))) (C .stock);
-      countable = omega (arith, ap (λ w. w .answered) (A .head));
+      lies = record {
+        many = omega (arith, C .lies .many, ap length (A .records), length-set rs n (bodyRecord (h .used) (length x)));
+        few = omega (arith, A .room .few);
+        follow = added-follow;
+        inside = omega (arith, A .room .fits, ap length (A .bodies), length-sets area (h .used) x);
+        unused = added-unused;
+        stock = subst Alphabets (sym (added-stays C A 0 (omega arith))) (C .lies .stock);
+      };
+      counts = record { countable = omega (arith, ap answersOf (A .head)) };
     })
 
 gives-area : {h : Head} {rs : List Record} {area x : List ℕ} {n : ℕ} {h′ : Head} {rs′ : List Record} {area′ : List ℕ} → Gives h rs area x n h′ rs′ area′ → length area′ ≡ length area
@@ -123,13 +127,13 @@ module _ {b : Book} {s : List ℕ} {a : Option ℕ} {b′ : Book} where
   pub area-kept : EntersFile b s a b′ → length (b′ .area) ≡ length (b .area)
   area-kept E = ⊎-elim (λ U. ap length (U .bodies)) (λ A. gives-area (A .gives)) (answered-by E)
 
-  accepted-chained : Accepted b s a b′ → b′ .head .answered < 18446744073709551615 → Chained (b′ .head) (b′ .records) (b′ .area)
+  accepted-chained : Accepted b s a b′ → answersOf (b′ .head) < tooMany → Chained (b′ .head) (b′ .records) (b′ .area)
   accepted-chained A g = ⊎-elim (λ K. known-chained (A .chained) K g) (λ N. added-chained (A .chained) N g) (A .gives)
 
 -- What a making and any entries leave is a registry, until no more answer can be counted: no entry before is refused by 9.
-pub still-chained : {stock : List ℕ} {log : List (List ℕ × Option ℕ)} {b : Book} → Entries stock log b → b .head .answered < 18446744073709551615 → Chained (b .head) (b .records) (b .area)
+pub still-chained : {stock : List ℕ} {log : List (List ℕ × Option ℕ)} {b : Book} → Entries stock log b → answersOf (b .head) < tooMany → Chained (b .head) (b .records) (b .area)
 still-chained (begun M) g = made-chained M (stock-stays (begun M))
-still-chained (entered h E) g = ⊎-elim (λ U. chained-same (U .head) (U .records) (U .bodies) (still-chained h (omega (arith, ap (λ w. w .answered) (U .head))))) (λ A. accepted-chained A g) (answered-by E)
+still-chained (entered h E) g = ⊎-elim (λ U. chained-same (U .head) (U .records) (U .bodies) (still-chained h (omega (arith, ap answersOf (U .head))))) (λ A. accepted-chained A g) (answered-by E)
 
 -- ---- an entry whose clean file is known
 -- the file s is accepted for cleaning under the alphabets, and x is its clean file
@@ -177,9 +181,9 @@ module _ {stock : List ℕ} {b : Book} {s x : List ℕ} {a : Option ℕ} {b′ :
 -- ---- there are such calls
 pub makes : {stock : List ℕ} (room : ℕ) → Alphabets stock → length stock ≤ room → (b : Book) × (MadeWith stock b × (length (b .area) ≡ room))
 makes {stock} room A h =
-    let before : Book = record { head = record { held = 0; used = 0; answered = 0 }; records = replicate 33 noRecord; area = replicate room 0 } in
+    let before : Book = record { head = newHead 0; records = replicate 33 noRecord; area = replicate room 0 } in
     let z : length (before .area) ≡ room = length-replicate room 0 in
-    let b : Book = record { head = record { held = 0; used = length stock; answered = 0 }; records = fresh (record { start = 0; size = length stock }) (drop 33 (before .records)); area = sets (before .area) 0 stock } in
+    let b : Book = record { head = newHead (length stock); records = fresh (stockRecord (length stock)) (drop 33 (before .records)); area = sets (before .area) 0 stock } in
     (b, (record { before = before; call = pass (omega (arith, length-replicate 33 noRecord)) (pass A (pass (omega arith) (accept (record { head = refl; records = refl; bodies = refl })))) }, length-sets (before .area) 0 stock ∙ z))
 
 module _ {stock : List ℕ} {b : Book} {s x : List ℕ} (C : Chained (b .head) (b .records) (b .area)) (same : bodyOf b 0 ≡ stock) (k : CleansTo stock s x) where
@@ -192,11 +196,11 @@ module _ {stock : List ℕ} {b : Book} {s x : List ℕ} (C : Chained (b .head) (
 
   pub enters-known : {n : ℕ} → Lowest (b .head .held) (b .records) (b .area) x n → (b′ : Book) × EntersFile b s (some n) b′
   enters-known {n} L =
-      let b′ : Book = record { head = record { held = b .head .held; used = b .head .used; answered = b .head .answered + 1 }; records = b .records; area = b .area } in
+      let b′ : Book = record { head = countedHead (b .head); records = b .records; area = b .area } in
       (b′, gave n b′ (inl (n, L)) (inl (record { lowest = L; head = refl; records = refl; bodies = refl })))
 
   pub enters-new : NotHeld (b .head .held) (b .records) (b .area) x → Room (b .head) (b .area) x → (b′ : Book) × EntersFile b s (some (b .head .held + 1)) b′
   enters-new N R =
       let n = b .head .held + 1 in
-      let b′ : Book = record { head = record { held = n; used = b .head .used + length x; answered = b .head .answered + 1 }; records = set (b .records) n (record { start = b .head .used; size = length x }); area = sets (b .area) (b .head .used) x } in
+      let b′ : Book = record { head = grownHead (b .head) (length x); records = set (b .records) n (bodyRecord (b .head .used) (length x)); area = sets (b .area) (b .head .used) x } in
       (b′, gave n b′ (inr R) (inr (record { new = N; room = R; next = refl; head = refl; records = refl; bodies = refl })))

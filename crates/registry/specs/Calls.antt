@@ -7,7 +7,7 @@ use mathlib.Core.Path.{_≡_}
 use Rattle.theory.specs.Registry.{History}
 use Rattle.canonical.specs.Answers.{SewAlike}
 use Rattle.records.specs.Answers.{Makes, CleanFile, Enters}
-use Rattle.records.specs.Book.{body, Chained}
+use Rattle.records.specs.Book.{answersOf, tooMany, body, Chained}
 use Rattle.records.specs.declared.book.Head.{Head}
 use Rattle.records.specs.declared.book.Record.{Record}
 use Rattle.records.specs.declared.book.Entered.{Entered}
@@ -53,11 +53,11 @@ pub record Orderly (stock : List ℕ) (log : List (List ℕ × Option ℕ)) (b :
   -- whatever was accepted is still held at the number answered
   pub there : (s : List ℕ) (n : ℕ) → List·Memᴰ (s, some n) log → (1 ≤ n) × (n ≤ b .head .held) × CleanFile stock s (body (b .records) (b .area) n)
   -- the count is that of the entries accepted
-  pub answered : b .head .answered ≡ acceptances log
+  pub answered : answersOf (b .head) ≡ acceptances log
   -- the alphabets are those of the making
   pub alphabets : body (b .records) (b .area) 0 ≡ stock
   -- what is left is a registry: no entry is refused by 9 before as many entries are answered as can be counted
-  pub stands : b .head .answered < 18446744073709551615 → Chained (b .head) (b .records) (b .area)
+  pub stands : answersOf (b .head) < tooMany → Chained (b .head) (b .records) (b .area)
 
 -- what stays of b₀ in b, which other entries led to: each body at its number
 pub record Stays (b₀ b : Book) : Type 0 where

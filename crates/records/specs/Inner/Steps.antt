@@ -5,12 +5,13 @@ use mathlib.Core.Logic.{_⊎_}
 use mathlib.Core.Path.{_≡_}
 use lib.ListN.{length}
 use lib.Seq.{sets}
-use Rattle.trees.specs.Refusal.{done, check, Holds, Judged}
+use Rattle.trees.specs.Refusal.{done, Holds}
 use Rattle.formats.specs.Sheet.{sheetCheck}
 use Rattle.trees.specs.declared.refusal.Refusal.{Refusal}
+use Rattle.trees.specs.declared.refusal.Refusal.the-variants as refusing
 use Rattle.earliest.specs.Answers.{formCheck}
-use Rattle.records.specs.Answers.{Kept, CleanFile, Lowest, NotHeld, HasPlace, Gives, Enters, numberOf}
-use Rattle.records.specs.Book.{noRecord, recordAt, body, Chained}
+use Rattle.records.specs.Answers.{CleanFile, Lowest, NotHeld, Room, HasPlace, Gets, Enters}
+use Rattle.records.specs.Book.{answersOf, tooMany, noRecord, bodyRecord, countedHead, grownHead, recordAt, body, Chained}
 use Rattle.records.specs.Inner.Writes.{added}
 use Rattle.records.specs.declared.book.Asked.{Asked}
 use Rattle.records.specs.declared.book.Entered.{Entered}
@@ -58,33 +59,55 @@ pub record TurnedDown (s : List ℕ) (h : Head) (rs : List Record) (area : List 
 abbrev pub Asks : List ℕ → Head → List Record → List ℕ → List ℕ → Asked → Type 0
 Asks s h rs area x a = Cleaned s h rs area x a ⊎ TurnedDown s h rs area a
 
--- ---- after the search
--- what giving a number asks of the head and the area
-pub record Ready (h : Head) (area : List ℕ) : Type 0 where
+-- ---- the question
+-- what giving a number asks of the head, where the area has `room` bytes
+pub record Ready (h : Head) (room : ℕ) : Type 0 where
   pub few : h .held ≤ 32
-  pub inside : h .used ≤ length area
-  pub countable : h .answered < 18446744073709551615
+  pub inside : h .used ≤ room
 
--- the bytes x are given a number, or there is no room for them
-abbrev pub StepsWith : List ℕ → Head → List Record → List ℕ → Entry → List ℕ → Type 0
-StepsWith x h rs area r area′ =
-    Judged (Kept h rs area (r .head) (added rs (r .number) (r .new)) area′) (λ n. Gives h rs area x n (r .head) (added rs (r .number) (r .new)) area′)
-    (check 8 (HasPlace h rs area x) done)
-    (numberOf (r .answer))
+-- the number that x would get, or refusal 8
+abbrev pub Numbers : Head → List Record → List ℕ → List ℕ → Entered → Type 0
+Numbers h rs area x (entering.Number n) = Gets h rs area x n
+Numbers h rs area x (entering.Refused q) = (q ≡ refusing.FullRegistry) × (HasPlace h rs area x → ⊥)
 
--- the commit: x is put behind what is held, with the next number
+-- n is the number that the clean file x of s would get
+pub record Granted (s : List ℕ) (h : Head) (rs : List Record) (area x : List ℕ) (n : ℕ) : Type 0 where
+  pub chained : Chained h rs area
+  pub checks : Holds (sheetCheck (body rs area 0) s (formCheck (body rs area 0) s done))
+  pub file : CleanFile (body rs area 0) s x
+  pub gets : Gets h rs area x n
+
+-- that number, or the refusal of an entry of s
+abbrev pub Decided : List ℕ → Head → List Record → List ℕ → List ℕ → Entered → Type 0
+Decided s h rs area x (entering.Number n) = Granted s h rs area x n
+Decided s h rs area x (entering.Refused q) = Enters s h rs area h rs area (entering.Refused q)
+
+-- ---- the commit of the number n for the bytes x
+-- what it asks of the head and the area
+pub record Fits (h : Head) (area x : List ℕ) (n : ℕ) : Type 0 where
+  pub countable : answersOf h < tooMany
+  pub room : h .held < n → Room h area x
+
+abbrev pub Fit : Head → List ℕ → List ℕ → Entered → Type 0
+Fit h area x (entering.Number n) = Fits h area x n
+Fit h area x (entering.Refused q) = Unit {0}
+
+-- x is put behind what is held, with the next number
 pub record Adds (h : Head) (area x : List ℕ) (r : Entry) (area′ : List ℕ) : Type 0 where
-  pub head : r .head ≡ record { held = h .held + 1; used = h .used + length x; answered = h .answered + 1 }
+  pub head : r .head ≡ grownHead h (length x)
   pub number : r .number ≡ h .held + 1
-  pub new : r .new ≡ record { start = h .used; size = length x }
+  pub new : r .new ≡ bodyRecord (h .used) (length x)
   pub bodies : area′ ≡ sets area (h .used) x
   pub answer : r .answer ≡ entering.Number (h .held + 1)
 
 -- the answer n is counted, and nothing else changes
 pub record Counts (h : Head) (n : ℕ) (r : Entry) : Type 0 where
-  pub head : r .head ≡ record { held = h .held; used = h .used; answered = h .answered + 1 }
+  pub head : r .head ≡ countedHead h
   pub number : r .number ≡ 0
   pub answer : r .answer ≡ entering.Number n
+
+abbrev pub Puts : Head → ℕ → List ℕ → List ℕ → Entry → List ℕ → Type 0
+Puts h n area x r area′ = ((n ≤ h .held) × Counts h n r × (area′ ≡ area)) ⊎ ((h .held < n) × Adds h area x r area′)
 
 -- a refusal as an answer, which changes nothing
 abbrev pub refusedBy : Refusal → Entered
@@ -92,6 +115,18 @@ refusedBy r = entering.Refused r
 
 abbrev pub unchanged : Head → Entered → Entry
 unchanged h a = record { head = h; number = 0; new = noRecord; answer = a }
+
+-- the commit of a number, or of a refusal
+abbrev pub Settled : Head → Entered → List ℕ → List ℕ → Entry → List ℕ → Type 0
+Settled h (entering.Number n) area x r area′ = Puts h n area x r area′
+Settled h (entering.Refused q) area x r area′ = (r ≡ unchanged h (entering.Refused q)) × (area′ ≡ area)
+
+-- after the search, which found x at n
+pub record Searched (h : Head) (a : Asked) (n : ℕ) (area x : List ℕ) : Type 0 where
+  pub file : List ℕ
+  pub records : List Record
+  pub asks : Asks file h records area x a
+  pub finds : Finds (a .held) records area x n
 
 -- an entry of the file s, with what is left of the records
 pub record Places (s : List ℕ) (h : Head) (rs : List Record) (area : List ℕ) (r : Entry) (area′ : List ℕ) : Type 0 where

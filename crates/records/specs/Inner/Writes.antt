@@ -2,12 +2,12 @@
 use Prim.Native.Nat.{ℕ, zero, suc}
 use mathlib.Core.List.{List, _∷_}
 use lib.ListN.{set, replicate}
-use Rattle.records.specs.Book.{noRecord, recordAt}
+use Rattle.records.specs.Book.{noRecord, stockRecord, recordAt}
 use Rattle.records.specs.declared.book.Record.{Record}
 
 -- the first 33 records of a registry that holds nothing but alphabets of this size
 abbrev pub freshRecords : ℕ → List Record
-freshRecords size = record { start = 0; size = size } ∷ replicate 32 noRecord
+freshRecords size = stockRecord size ∷ replicate 32 noRecord
 
 -- rs with the first n of ts in it
 unfoldable pub written : List Record → List Record → ℕ → List Record

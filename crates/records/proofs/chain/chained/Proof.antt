@@ -4,7 +4,7 @@ use native.Mathlib.Omega.{arith}
 use mathlib.Core.Path.{ap}
 use denote.Ref.{now}
 use borrow.Author.Tests.{not-true, not-false}
-use Rattle.trees.proofs.Deciding.{decides-no, decides-same}
+use Rattle.trees.proofs.Deciding.{decides-no, decides-same, refuted, held}
 use Rattle.records.proofs.Chains.{body-end, stock-part}
 use Rattle.records.proofs.Surveys.{first-is, told-follow, told-unused, not-wrong, chained-sum}
 use borrow.Author.Needs.{needs}
@@ -12,16 +12,19 @@ use Rattle.records.proofs.chain.chained.Statement.{statement}
 use Rattle.records.proofs.chain.chained.Tie as tie
 
 returns : tie.Need-returns
-returns c = λ k rs l S. decides-no (λ C. omega (arith, C .many, c .if1 .taken))
+returns c = λ k rs l S. decides-no (λ C. omega (arith, C .lies .many, c .if1 .taken))
 
 returns-2 : tie.Need-returns-2
-returns-2 c = λ k rs l S. decides-no (λ C. omega (arith, C .few, c .if2 .taken))
+returns-2 c = λ k rs l S. decides-no (λ C. omega (arith, C .lies .few, c .if2 .taken))
 
 returns-3 : tie.Need-returns-3
-returns-3 c = λ k rs l S. decides-no (λ C. omega (arith, C .inside, c .if3 .taken))
+returns-3 c = λ k rs l S. decides-no (λ C. omega (arith, C .lies .inside, c .if3 .taken))
+
+sound-requires : tie.Need-sound-requires
+sound-requires c κs = search needs
 
 returns-4 : tie.Need-returns-4
-returns-4 c = λ k rs l S. decides-no (λ C. omega (arith, C .countable, c .if4 .taken))
+returns-4 c = λ k rs l S. decides-no (λ C. refuted (c .before .sound .ensures rs) (c .if4 .taken) (C .counts))
 
 returns-5 : tie.Need-returns-5
 returns-5 c = λ k rs l S. decides-no (λ C. not-wrong S l C (not-true _ (c .if5 .taken)))
@@ -49,8 +52,8 @@ returns-7 c = λ k rs l S.
     let F = told-follow S n few right (c .before .before .if6 .left) in
     let e = stock-part (now (c .before .before .before .before .before .before .before .before .before .before .before .before .before .before .before .args .area)) F (first-is S n) in
     decides-same
-    (λ A. record { many = omega (arith, l); few = few; follow = F; inside = c .before .before .before .before .before .before .before .before .before .if3 .left; unused = told-unused S n few right; stock = rw e at A; countable = omega (arith, c .before .before .before .before .before .before .before .if4 .left, c .before .before .before .before .before .before .before .before .struct-known3 .given) })
-    (λ C. rw e (C .stock))
+    (λ A. record { lies = record { many = omega (arith, l); few = few; follow = F; inside = c .before .before .before .before .before .before .before .before .before .if3 .left; unused = told-unused S n few right; stock = rw e at A }; counts = held (c .before .before .before .before .before .before .before .before .sound .ensures rs) (c .before .before .before .before .before .before .before .if4 .left) })
+    (λ C. rw e (C .lies .stock))
     (c .alphabets-right .ensures)
 
 pub chained-spec : {M : Type 1} → statement M
@@ -60,6 +63,7 @@ chained-spec =
     returns
     returns-2
     returns-3
+    sound-requires
     returns-4
     returns-5
     returns-6

@@ -1,38 +1,22 @@
--- `place` meets its contract: the refusal from before the search, or the number of the clean file. Assumes nothing.
-use Rattle.records.proofs.Entering.{numbered, turned-down}
+use mathlib.Core.Path.{refl}
+use denote.Ref.{now}
+-- `place` meets its contract: question and commit. Assumes nothing.
+use Rattle.records.proofs.Entering.{asked-ready, decided-fit, settled}
 use borrow.Author.Needs.{needs}
 use Rattle.records.proofs.entry.place.Statement.{statement}
 use Rattle.records.proofs.entry.place.Tie as tie
 
-enum-told : tie.Need-enum-told
-enum-told c = search needs
+decide-requires : tie.Need-decide-requires
+decide-requires c κs = asked-ready (c .before .before .pre .asks)
 
-number-bytes-requires : tie.Need-number-bytes-requires
-number-bytes-requires c κs = c .before .before .before .before .before .pre (c .before .enum-told .given .1)
-
-enum-known-verdict : tie.Need-enum-known-verdict
-enum-known-verdict c = search needs
-
-refuse-requires : tie.Need-refuse-requires
-refuse-requires c κs = search needs
+settle-requires : tie.Need-settle-requires
+settle-requires c κs = let S = c .before .before .before .before .pre in decided-fit (S .file) (c .before .before .before .before .args .h) (S .records) (now (c .before .before .before .before .args .area)) (now (c .before .before .before .before .args .bytes)) (c .before .decide .result) (c .before .decide .ensures (S .file) (S .records) (now (c .before .before .before .before .args .area)) (now (c .before .before .before .before .args .bytes)) refl refl (S .asks) (S .finds))
 
 same-length : tie.Need-same-length
 same-length c = search needs
 
 returns : tie.Need-returns
-returns c = λ s rs. numbered (c .before .before .before .before .enum-told .given .1) (c .before .before .number-bytes .ensures .0) (c .before .before .number-bytes .ensures .1 rs)
-
-returns-2 : tie.Need-returns-2
-returns-2 c = λ s rs A F. turned-down (c .before .before .verdict .given .0 .0) (c .before .before .verdict .given .1) (c .refuse .ensures) A
+returns c = λ s rs A F. settled s (c .before .before .before .before .before .before .before .args .h) rs (now (c .before .before .before .before .before .before .before .args .area)) (now (c .before .before .before .before .before .before .before .args .bytes)) (c .before .before .settle .result) (c .before .before .settle .last .1 .1 .0) (c .before .before .before .before .decide .result) (c .before .before .before .before .decide .ensures s rs (now (c .before .before .before .before .before .before .before .args .area)) (now (c .before .before .before .before .before .before .before .args .bytes)) refl refl A F) (c .before .before .settle .ensures)
 
 pub place-spec : {M : Type 1} → statement M
-place-spec =
-    tie.close
-    (tie.spec
-    enum-told
-    number-bytes-requires
-    enum-known-verdict
-    refuse-requires
-    same-length
-    returns
-    returns-2)
+place-spec = tie.close (tie.spec decide-requires settle-requires same-length returns)

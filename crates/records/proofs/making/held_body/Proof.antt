@@ -52,10 +52,10 @@ returns-3 : tie.Need-returns-3
 returns-3 c = λ rs l S. inr ((λ w. omega (arith, w .2, c .before .if3 .taken)), refl)
 
 body-of-requires : tie.Need-body-of-requires
-body-of-requires c κs = let t = c .before .before .before .before .before .before .pre in let C = held (c .before .before .before .before .chained .ensures _ (t .records) (t .many) (t .told)) (c .before .before .before .if1 .left) in let e = wanted-is (t .told) (omega (arith, C .many, t .many)) (omega (arith, C .few, c .if3 .left)) in omega (arith, chained-end C (c .before .before .before .before .before .before .args .number) (omega (arith, c .if3 .left)), ap (λ w. w .start) e, ap (λ w. w .size) e)
+body-of-requires c κs = let t = c .before .before .before .before .before .before .pre in let C = held (c .before .before .before .before .chained .ensures _ (t .records) (t .many) (t .told)) (c .before .before .before .if1 .left) in let e = wanted-is (t .told) (omega (arith, C .lies .many, t .many)) (omega (arith, C .lies .few, c .if3 .left)) in omega (arith, chained-end C (c .before .before .before .before .before .before .args .number) (omega (arith, c .if3 .left)), ap (λ w. w .start) e, ap (λ w. w .size) e)
 
 returns-4 : tie.Need-returns-4
-returns-4 c = λ rs l S. let C = held (c .before .before .before .before .before .chained .ensures _ rs l S) (c .before .before .before .before .if1 .left) in inl ((C, omega (arith, c .before .before .before .if2 .left), omega (arith, c .before .if3 .left)), c .body-of .ensures ∙ ap (λ (w : Record). take (w .size) (drop (w .start) (now (c .before .before .before .before .before .before .before .args .area)))) (wanted-is S (omega (arith, C .many, l)) (omega (arith, C .few, c .before .if3 .left))))
+returns-4 c = λ rs l S. let C = held (c .before .before .before .before .before .chained .ensures _ rs l S) (c .before .before .before .before .if1 .left) in inl ((C, omega (arith, c .before .before .before .if2 .left), omega (arith, c .before .if3 .left)), c .body-of .ensures ∙ ap (λ (w : Record). take (w .size) (drop (w .start) (now (c .before .before .before .before .before .before .before .args .area)))) (wanted-is S (omega (arith, C .lies .many, l)) (omega (arith, C .lies .few, c .before .if3 .left))))
 
 pub held-body-spec : {M : Type 1} → statement M
 held-body-spec =

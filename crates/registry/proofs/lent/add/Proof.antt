@@ -49,7 +49,7 @@ use Rattle.records.specs.declared.book.Record.{Record}
 use Rattle.records.proofs.book.Record as R
 use Rattle.records.proofs.book.Record.Laws as R′
 use Rattle.records.proofs.Entering.{added-none, added-set}
-use Rattle.registry.proofs.Locals.{word, recordsM as slice}
+use Rattle.registry.proofs.Locals.{recordBytes, word, recordsM as slice}
 use Rattle.registry.proofs.lent.add.Key.{name as #registry·lent·add}
 use Rattle.registry.proofs.lent.add as this
 use Rattle.registry.proofs.lent.add.Statement as stated
@@ -115,9 +115,9 @@ module _ {M : Type 1} (𝓤 : URA M) (H : Heap 𝓤) (A : Atoms 𝓤) (W : Given
         rewrite ! 4 (λ (y : Bool). ‵ (fat fullShare tyBool l₄ 0 (vbool y))) (lt-ltb 0 n g) refl $
         first ! $ branches ! (load ! (from ! (stop !)) (look ! 4 refl))
         (λ _.
-        assigns ! (bin ! (load ! (from ! (stop !)) (look ! 8 refl)) (lit ! tt) (scaled-fits n (length ys) 16 (inside g) (gn .1))) (from ! (stop !)) (init ! 2 refl (tt, scaled-fits n (length ys) 16 (inside g) (gn .1))) $
+        assigns ! (bin ! (load ! (from ! (stop !)) (look ! 8 refl)) (lit ! tt) (scaled-fits n (length ys) recordBytes (inside g) (gn .1))) (from ! (stop !)) (init ! 2 refl (tt, scaled-fits n (length ys) recordBytes (inside g) (gn .1))) $
         assigns ! (bin ! (load ! (from ! (fld ! refl (stop !))) (look-in ! 10 (sub ! 0 refl (whole !)))) (load ! (from ! (stop !)) (look ! 2 refl)) tt) (from ! (stop !)) (init ! 0 refl (tt, tt)) $
-        rewrite ! 0 (λ (p : ℕ). ‵ (fat fullShare tyPtr l₆ 0 (vptr b p))) (sym (place-is 16 o n)) refl $ move ! (14 ∷ []) $
+        rewrite ! 0 (λ (p : ℕ). ‵ (fat fullShare tyPtr l₆ 0 (vptr b p))) (sym (place-is recordBytes o n)) refl $ move ! (14 ∷ []) $
         elem-out ! R.the-row (Is R.the-row) (shows 𝓤 H A R.the-row) (LL.vals R.the-type R′.the-laws) (LL.tells R.the-type R′.the-laws) fullShare ys n noRecord b o (inside g) (λ _.
         -- [rs[n]; what it owns; the others; the locals; the open borrow; obs; auth; rs's fact]
         assigns-last ! (of-opd ! (load ! (from ! (stop !)) (look ! 9 refl))) (from ! (hop ! (look ! 3 refl) (stop !))) (store-raw ! 0 refl (LL.lawful R.the-type R′.the-laws 𝓤 H A W .typed r _ gr .0)) $

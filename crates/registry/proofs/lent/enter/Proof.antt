@@ -46,7 +46,7 @@ use denote.Triple.Table.{entered, cited}
 use denote.Triple.Walked.{says, walkOf, Walks, ends-at, walked, walk-meets}
 use Rattle.formats.specs.Sheet.{longest}
 use Rattle.records.specs.Answers.{Enters}
-use Rattle.records.specs.Inner.Steps.{clean, Placed, Finds, Ready, Asks, Places}
+use Rattle.records.specs.Inner.Steps.{Placed, Finds, Searched, Asks, Places}
 use Rattle.records.specs.Inner.Surveys.{Surveyed}
 use Rattle.records.specs.Inner.Writes.{added}
 use Rattle.records.specs.declared.book.Asked.{Asked}
@@ -54,7 +54,7 @@ use Rattle.records.specs.declared.book.Entry.{Entry}
 use Rattle.records.specs.declared.book.Head.{Head}
 use Rattle.records.specs.declared.book.Record.{Record}
 use Rattle.records.specs.declared.book.Survey.{Survey}
-use Rattle.records.proofs.Entering.{asked-placed, asked-ready}
+use Rattle.records.proofs.Entering.{asked-placed}
 use Rattle.records.proofs.book.Entered as En′
 use Rattle.records.proofs.book.Entered.Laws as En″
 use Rattle.records.proofs.book.Head as Hd
@@ -242,10 +242,10 @@ module _ {M : Type 1} (𝓤 : URA M) (H : Heap 𝓤) (A : Atoms 𝓤) (W : Given
   abbrev to-place : Asked → ℕ → ℕ → RefT (List ℕ) → Val → PlaceC 𝓤 H A at-mem run .Ghost
   to-place a n ν r w = (((κ₂, (ν ∷ [], tt)), (q₂, (fullShare, tt)), tt, (h, (a, (n, (x₂ γ₂, (r, tt))))), (machH ∷ [], (LL.vals As.the-type As′.the-laws a, (vint w64 n ∷ [], (s₂ ∷ [], (w ∷ [], tt)))))), tt)
 
-  goes-place : (a : Asked) (n ν : ℕ) (r : RefT (List ℕ)) (w : Val) → n < 2 ^ 64 → Is Hd.the-row h (machH ∷ []) → Is As.the-row a (LL.vals As.the-type As′.the-laws a) → (a .verdict ≡ clean → Ready h ar)
+  goes-place : (a : Asked) (n ν : ℕ) (r : RefT (List ℕ)) (w : Val) → n < 2 ^ 64 → Is Hd.the-row h (machH ∷ []) → Is As.the-row a (LL.vals As.the-type As′.the-laws a) → Searched h a n ar (now r)
       → ent 𝓤 (⋆ 𝓤 H A (‵ (flft κ₂ q₂) ∷ ‵ (flft (ν ∷ []) fullShare) ∷ ‵ O₂ ∷ ‵ (SB ν r w) ∷ [])) (PlaceC 𝓤 H A at-mem run .pre (to-place a n ν r w))
-  goes-place a n ν r w fits gh ga ready =
-      qed W (‵ (flft κ₂ q₂) ∷ ‵ (flft (ν ∷ []) fullShare) ∷ ‵ O₂ ∷ ‵ (SB ν r w) ∷ []) ∵ says ! ready $ nothing ! $ move ! (2 ∷ 0 ∷ []) $ join ! $ move ! (1 ∷ 0 ∷ []) $ join ! $ frame ! $
+  goes-place a n ν r w fits gh ga searched =
+      qed W (‵ (flft κ₂ q₂) ∷ ‵ (flft (ν ∷ []) fullShare) ∷ ‵ O₂ ∷ ‵ (SB ν r w) ∷ []) ∵ says ! searched $ nothing ! $ move ! (2 ∷ 0 ∷ []) $ join ! $ move ! (1 ∷ 0 ∷ []) $ join ! $ frame ! $
       nothing ! $ move ! (2 ∷ 0 ∷ []) $ fjoin ! $ move ! (1 ∷ 0 ∷ []) $ fjoin ! $ owned ! usize (Is usize) (uint-makes 𝓤 H A W w64) n _ (refl, fits) $ fjoin ! $ owned ! As.the-row (Is As.the-row) (LL.makes As.the-type As′.the-plain 𝓤 H A) a _ ga $ fjoin ! $ owned ! Hd.the-row (Is Hd.the-row) (LL.makes Hd.the-type Hd′.the-plain 𝓤 H A) h _ gh $ fjoin ! $ done !
 
   abbrev to-add : ℕ → Record → AddC 𝓤 H A at-mem run .Ghost
@@ -362,7 +362,7 @@ module _ {M : Type 1} (𝓤 : URA M) (H : Heap 𝓤) (A : Atoms 𝓤) (W : Given
     fourth v₆ a v w₉ n ν₄ r zs gh ia fits long aa f =
         assigns ! (addr ! (from ! (fld ! refl (hop ! (look-in ! 55 (sub ! 0 refl (whole !))) (stop !))))) (from ! (stop !)) (init ! 12 refl (tt, tt)) $
         assigns ! (agg ! (and-then ! (load ! (from ! (stop !)) (look ! 12 refl)) (and-then ! (load ! (from ! (fld ! refl (stop !))) (look-in ! 55 (sub ! 1 refl (whole !)))) (no-more !)))) (from ! (stop !)) (init ! 10 refl (tt, (tt, (record { fits = g₂ .0 }, tt)))) $
-        move ! (65 ∷ 70 ∷ []) $ join ! $ move ! (69 ∷ 0 ∷ []) $ join ! $ move ! (66 ∷ 0 ∷ []) $ join ! $ use1 W (raw (PlaceC 𝓤 H A at-mem run .pre (to-place a n ν₄ r w₉))) (goes-place a n ν₄ r w₉ fits gh (asked-is a ia) (asked-ready aa)) $
+        move ! (65 ∷ 70 ∷ []) $ join ! $ move ! (69 ∷ 0 ∷ []) $ join ! $ move ! (66 ∷ 0 ∷ []) $ join ! $ use1 W (raw (PlaceC 𝓤 H A at-mem run .pre (to-place a n ν₄ r w₉))) (goes-place a n ν₄ r w₉ fits gh (asked-is a ia) (record { file = ss; records = ys; asks = aa; finds = f })) $
         calls-at ! fm (PlaceC 𝓤 H A at-mem run) known-places (to-place a n ν₄ r w₉) (and-then ! (load ! (from ! (stop !)) (look ! 52 refl)) (and-then ! (load ! (from ! (stop !)) (look ! 47 refl)) (and-then ! (load ! (from ! (stop !)) (look ! 43 refl)) (and-then ! (load ! (from ! (stop !)) (look ! 11 refl)) (and-then ! (load ! (from ! (stop !)) (look ! 45 refl)) (no-more !)))))) (λ w.
         use1 W (later (some (λ (e′ : Entry). ((‵ (flft κ₂ q₂) ⊛ ‵ (flft (ν₄ ∷ []) fullShare) ⊛ ‵ ftrue) ⊛ ‵ (Ey.the-row .own e′ (w ∷ []))) ⊛ raw (ensured 𝓤 H A places.ended (places.clauses 𝓤 H A at-mem run) (κ₂, (ν₄ ∷ [], tt)) (h, (a, (n, (x₂ γ₂, (r, tt))))) tt e′)))) (id⊢ 𝓤 _) $ await ! tt $ pick ! (λ e′.
         split ! $ move ! (1 ∷ []) $ use1 W (some (λ (bs : Unit {0} × (Unit {0} × (Unit {0} × (List ℕ × (Unit {0} × Unit {0}))))). ‵ (lasts places.ended (κ₂, (ν₄ ∷ [], tt)) (h, (a, (n, (x₂ γ₂, (r, tt))))) bs) ⊛ raw (fact 𝓤 (Placing h a n ar (now r) e′ (bs .1 .1 .1 .0))))) (id⊢ 𝓤 _) $ pick ! (λ bs.

@@ -61,7 +61,7 @@ use Rattle.records.proofs.search.first_of.Symbol as firsts-def
 use Rattle.records.proofs.search.first_of.Symbol.{name as #records·search·first-of}
 use Rattle.records.proofs.search.first_of.Met as firsts-thm
 use Rattle.registry.proofs.Loans.{hears}
-use Rattle.registry.proofs.Locals.{word, recordsI as slice}
+use Rattle.registry.proofs.Locals.{recordBytes, word, recordsI as slice}
 use Rattle.registry.proofs.lent.find.Key.{name as #registry·lent·find}
 use Rattle.registry.proofs.lent.find as this
 use Rattle.registry.proofs.lent.find.Statement as stated
@@ -115,7 +115,7 @@ module _ {M : Type 1} (𝓤 : URA M) (H : Heap 𝓤) (A : Atoms 𝓤) (W : Given
 
   -- the machine value of record i
   abbrev mach : ℕ → Val
-  mach i = vstruct (vcons (vint w64 (recordAt ys i .start)) (vcons (vint w64 (recordAt ys i .size)) vnil))
+  mach i = LL.val R.the-type R′.the-laws (recordAt ys i)
 
   abbrev bound : walkOf 𝓤 H A this.ended stayed (this.clauses 𝓤 H A at-mem run) .Ghost
   bound = (((κ₁, (κ₂, (κ₃, tt))), (q₁, (q₂, (q₃, tt))), tt, x, at), tt)
@@ -205,9 +205,9 @@ module _ {M : Type 1} (𝓤 : URA M) (H : Heap 𝓤) (A : Atoms 𝓤) (W : Given
     more s small =
         assigns ! (bin ! (load ! (from ! (stop !)) (look ! 8 refl)) (load ! (from ! (stop !)) (look ! 16 refl)) tt) (from ! (stop !)) (init ! 6 refl (tt, tt)) $
         rewrite ! 6 (λ (y : Bool). ‵ (fat fullShare tyBool l₇ 0 (vbool y))) (le-leb (s .m + 1) n (add-one-le small)) refl $ stays ! (load ! (from ! (stop !)) (look ! 6 refl)) $
-        assigns ! (bin ! (load ! (from ! (stop !)) (look ! 8 refl)) (lit ! tt) (scaled-fits (s .m + 1) (length ys) 16 within (gn .1))) (from ! (stop !)) (init ! 4 refl (tt, scaled-fits (s .m + 1) (length ys) 16 within (gn .1))) $
+        assigns ! (bin ! (load ! (from ! (stop !)) (look ! 8 refl)) (lit ! tt) (scaled-fits (s .m + 1) (length ys) recordBytes within (gn .1))) (from ! (stop !)) (init ! 4 refl (tt, scaled-fits (s .m + 1) (length ys) recordBytes within (gn .1))) $
         assigns ! (bin ! (load ! (from ! (fld ! refl (stop !))) (look-in ! 18 (sub ! 0 refl (whole !)))) (load ! (from ! (stop !)) (look ! 4 refl)) tt) (from ! (stop !)) (init ! 2 refl (tt, tt)) $
-        rewrite ! 2 (λ (p : ℕ). ‵ (fat fullShare tyPtr l₉ 0 (vptr b p))) (sym (place-is 16 o (s .m + 1))) refl $
+        rewrite ! 2 (λ (p : ℕ). ‵ (fat fullShare tyPtr l₉ 0 (vptr b p))) (sym (place-is recordBytes o (s .m + 1))) refl $
         move ! (23 ∷ []) $ fsplit ! $ move ! (1 ∷ []) $ fsplit ! $ move ! (1 ∷ 25 ∷ []) $
         looks-slice ! tt R.the-row (Is R.the-row) (shows 𝓤 H A R.the-row) (LL.vals R.the-type R′.the-laws) (LL.tells R.the-type R′.the-laws) (LL.copy R.the-type R′.the-copy 𝓤 H A W) ys b o (λ q′.
         elem-out ! R.the-row (Is R.the-row) (shows 𝓤 H A R.the-row) (LL.vals R.the-type R′.the-laws) (LL.tells R.the-type R′.the-laws) q′ ys (s .m + 1) noRecord b o within (λ g.

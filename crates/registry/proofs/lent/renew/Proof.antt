@@ -62,7 +62,7 @@ use Rattle.records.proofs.making.fresh.Symbol as fresh-def
 use Rattle.records.proofs.making.fresh.Symbol.{name as #records·making·fresh}
 use Rattle.records.proofs.making.fresh.Met as fresh-thm
 use Rattle.registry.proofs.Loans.{hears}
-use Rattle.registry.proofs.Locals.{word, recordsM as slice}
+use Rattle.registry.proofs.Locals.{recordBytes, word, recordsM as slice}
 use Rattle.registry.proofs.lent.renew.Key.{name as #registry·lent·renew}
 use Rattle.registry.proofs.lent.renew as this
 use Rattle.registry.proofs.lent.renew.Statement as stated
@@ -178,9 +178,9 @@ module _ {M : Type 1} (𝓤 : URA M) (H : Heap 𝓤) (A : Atoms 𝓤) (W : Given
         split ! $ move ! (1 ∷ []) $ hears ! fresh.ended tt (z, (s .i, tt)) (r ≡ recordAt (freshRecords z) (s .i)) (λ e. split ! $ drop ! $
         facts ! R.the-row (Is R.the-row) (shows 𝓤 H A R.the-row) r (w ∷ []) (λ is.
         land ! (from ! (stop !)) (init ! 4 refl (LL.lawful R.the-type R′.the-laws 𝓤 H A W .typed r _ is .0)) $
-        assigns ! (bin ! (load ! (from ! (stop !)) (look ! 8 refl)) (lit ! tt) (scaled-fits (s .i) (length ys) 16 within (gn .1))) (from ! (stop !)) (init ! 2 refl (tt, scaled-fits (s .i) (length ys) 16 within (gn .1))) $
+        assigns ! (bin ! (load ! (from ! (stop !)) (look ! 8 refl)) (lit ! tt) (scaled-fits (s .i) (length ys) recordBytes within (gn .1))) (from ! (stop !)) (init ! 2 refl (tt, scaled-fits (s .i) (length ys) recordBytes within (gn .1))) $
         assigns ! (bin ! (load ! (from ! (fld ! refl (stop !))) (look-in ! 14 (sub ! 0 refl (whole !)))) (load ! (from ! (stop !)) (look ! 2 refl)) tt) (from ! (stop !)) (init ! 0 refl (tt, tt)) $
-        rewrite ! 0 (λ (p : ℕ). ‵ (fat fullShare tyPtr l₇ 0 (vptr b p))) (sym (place-is 16 o (s .i))) refl $ move ! (18 ∷ []) $
+        rewrite ! 0 (λ (p : ℕ). ‵ (fat fullShare tyPtr l₇ 0 (vptr b p))) (sym (place-is recordBytes o (s .i))) refl $ move ! (18 ∷ []) $
         elem-out ! R.the-row (Is R.the-row) (shows 𝓤 H A R.the-row) (LL.vals R.the-type R′.the-laws) (LL.tells R.the-type R′.the-laws) fullShare (s .zs) (s .i) noRecord b o within′ (λ _.
         -- [rs[i]; what it owns; the others; _7; …; _6; …; _5; …; _4; …; _3; …; _2; …; _1; …; _0; …; the open borrow; obs; auth; rs's fact]
         assigns ! (of-opd ! (load ! (from ! (stop !)) (look ! 7 refl))) (from ! (hop ! (look ! 3 refl) (stop !))) (store-raw ! 0 refl (LL.lawful R.the-type R′.the-laws 𝓤 H A W .typed r _ is .0)) $

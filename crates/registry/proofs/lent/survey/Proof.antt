@@ -70,7 +70,7 @@ use Rattle.records.proofs.chain.look.Symbol as looks-def
 use Rattle.records.proofs.chain.look.Symbol.{name as #records·chain·look}
 use Rattle.records.proofs.chain.look.Met as looks-thm
 use Rattle.registry.proofs.Loans.{hears}
-use Rattle.registry.proofs.Locals.{word, recordsI as slice}
+use Rattle.registry.proofs.Locals.{recordBytes, word, recordsI as slice}
 use Rattle.registry.proofs.lent.at_most_33 as most
 use Rattle.registry.proofs.lent.at_most_33.Symbol as most-def
 use Rattle.registry.proofs.lent.at_most_33.Symbol.{name as #registry·lent·at-most-33}
@@ -114,7 +114,7 @@ module _ {M : Type 1} (𝓤 : URA M) (H : Heap 𝓤) (A : Atoms 𝓤) (W : Given
 
   -- the machine value of record i
   abbrev mach : ℕ → Val
-  mach i = vstruct (vcons (vint w64 (recordAt ys i .start)) (vcons (vint w64 (recordAt ys i .size)) vnil))
+  mach i = LL.val R.the-type R′.the-laws (recordAt ys i)
 
   abbrev Post : Val → SProp 𝓤
   Post = walkOf 𝓤 H A this.ended stayed (this.clauses 𝓤 H A at-mem run) .post (((κ, tt), (q, tt), tt, x, at), tt)
@@ -201,9 +201,9 @@ module _ {M : Type 1} (𝓤 : URA M) (H : Heap 𝓤) (A : Atoms 𝓤) (W : Given
       more s small =
           assigns ! (bin ! (load ! (from ! (stop !)) (look ! 10 refl)) (load ! (from ! (stop !)) (look ! 14 refl)) tt) (from ! (stop !)) (init ! 6 refl (tt, tt)) $
           rewrite ! 6 (λ (y : Bool). ‵ (fat fullShare tyBool l₈ 0 (vbool y))) (lt-ltb (s .i) n small) refl $ stays ! (load ! (from ! (stop !)) (look ! 6 refl)) $
-          assigns ! (bin ! (load ! (from ! (stop !)) (look ! 10 refl)) (lit ! tt) (scaled-fits (s .i) (length ys) 16 within (gn .1))) (from ! (stop !)) (init ! 4 refl (tt, scaled-fits (s .i) (length ys) 16 within (gn .1))) $
+          assigns ! (bin ! (load ! (from ! (stop !)) (look ! 10 refl)) (lit ! tt) (scaled-fits (s .i) (length ys) recordBytes within (gn .1))) (from ! (stop !)) (init ! 4 refl (tt, scaled-fits (s .i) (length ys) recordBytes within (gn .1))) $
           assigns ! (bin ! (load ! (from ! (fld ! refl (stop !))) (look-in ! 20 (sub ! 0 refl (whole !)))) (load ! (from ! (stop !)) (look ! 4 refl)) tt) (from ! (stop !)) (init ! 2 refl (tt, tt)) $
-          rewrite ! 2 (λ (p : ℕ). ‵ (fat fullShare tyPtr l₁₀ 0 (vptr b p))) (sym (place-is 16 o (s .i))) refl $
+          rewrite ! 2 (λ (p : ℕ). ‵ (fat fullShare tyPtr l₁₀ 0 (vptr b p))) (sym (place-is recordBytes o (s .i))) refl $
           move ! (25 ∷ []) $ fsplit ! $ move ! (1 ∷ []) $ fsplit ! $ move ! (1 ∷ 27 ∷ []) $
           looks-slice ! tt R.the-row (Is R.the-row) (shows 𝓤 H A R.the-row) (LL.vals R.the-type R′.the-laws) (LL.tells R.the-type R′.the-laws) (LL.copy R.the-type R′.the-copy 𝓤 H A W) ys b o (λ q′.
           elem-out ! R.the-row (Is R.the-row) (shows 𝓤 H A R.the-row) (LL.vals R.the-type R′.the-laws) (LL.tells R.the-type R′.the-laws) q′ ys (s .i) noRecord b o within (λ g.
