@@ -95,7 +95,7 @@ impl Registry {
     /// The bytes of its file (docs/FORMATS.md).
     #[must_use]
     pub fn to_bytes(&self) -> Vec<u8> {
-        let records = self.records.iter().flat_map(|record| [record.start as u64, record.size as u64]);
+        let records = self.records.iter().flat_map(|record| [record.start as u64, record.size as u64, record.count]);
         let numbers = [self.area.len() as u64, self.head.held as u64, self.head.used as u64, self.head.answered];
         let mut bytes = FIRST_LINE.to_vec();
         bytes.extend(numbers.into_iter().chain(records).flat_map(u64::to_be_bytes));
@@ -126,7 +126,7 @@ impl Registry {
         // a number that no address can be is none of a registry
         let size = |number: u64| usize::try_from(number).unwrap_or(usize::MAX);
         let head = Head { held: size(held), used: size(used), answered };
-        let records = std::array::from_fn(|_| Record { start: size(next()), size: size(next()) });
+        let records = std::array::from_fn(|_| Record { start: size(next()), size: size(next()), count: next() });
         let stored = rest.len().checked_sub(8).ok_or(DamagedRegistry::Cut)?;
         if used != stored as u64 {
             return Err(if used > stored as u64 { DamagedRegistry::Cut } else { DamagedRegistry::Altered });
@@ -157,11 +157,11 @@ impl Registry {
 }
 
 /// How the file of a registry begins: what it is, and which make.
-const FIRST_LINE: &[u8] = b"caplune book 1\n";
+const FIRST_LINE: &[u8] = b"caplune book 2\n";
 /// That of every make.
 const FIRST_WORDS: &[u8] = b"caplune book ";
-/// The numbers of the file: the length of the area, the head's three, and two of each record.
-const NUMBERS: usize = 4 + 2 * RECORDS;
+/// The numbers of the file: the length of the area, the head's three, and three of each record.
+const NUMBERS: usize = 4 + 3 * RECORDS;
 
 /// The length of the longest file: the first line, the numbers, the longest area, and the sum.
 pub(crate) const LONGEST_FILE: u64 = (FIRST_LINE.len() + 8 * (NUMBERS + 1) + Registry::LONGEST_AREA) as u64;
@@ -192,7 +192,7 @@ pub enum DamagedRegistry {
 impl fmt::Display for DamagedRegistry {
     fn fmt(&self, f: &mut fmt::Formatter) -> fmt::Result {
         f.write_str(match self {
-            DamagedRegistry::NotARegistry => "not the file of a book: it does not begin with `caplune book 1`",
+            DamagedRegistry::NotARegistry => "not the file of a book: it does not begin with `caplune book 2`",
             DamagedRegistry::Cut => "the file of the book ends too early",
             DamagedRegistry::Altered => "the file of the book has been altered since it was written",
         })

@@ -169,7 +169,8 @@ pub struct Head {
     pub answered: u64,
 }
 
-/// Where a registry has the stock or a normal form in its area; unused ones are 0 and 0.
+/// Where a registry has the stock or a normal form in its area, and how often it answered with that number; unused
+/// ones are 0, 0 and 0.
 #[repr(C)]
 #[derive(Clone, Copy, Debug, Default, PartialEq, Eq)]
 pub struct Record {
@@ -177,6 +178,8 @@ pub struct Record {
     pub start: usize,
     /// How many bytes it has.
     pub size: usize,
+    /// The entries answered with its number; 0 for the stock.
+    pub count: u64,
 }
 
 /// Reads two alphabets.
