@@ -54,7 +54,11 @@ fn record_at(records: &[Record], i: usize) -> Record
     if i < records.len() {
         return records[i];
     }
-    Record { start: 0, size: 0 }
+    Record {
+        start: 0,
+        size: 0,
+        count: 0,
+    }
 }
 
 // Makes a registry with the alphabets `stock`.

@@ -59,6 +59,16 @@ passed-same {rs} {rs′} {n} f P = record {
 pub follow-passed : {held used : ℕ} {rs : List Record} → Follow held used rs → Passed rs (suc held) used
 follow-passed F = record { starts = λ i h. F .starts i (omega arith); sum = F .sum }
 
+-- records that tell the same places follow one another alike
+module _ (rs rs′ : List Record) (f : (i : ℕ) → (recordAt rs′ i .start ≡ recordAt rs i .start) × (recordAt rs′ i .size ≡ recordAt rs i .size)) where
+  total-places : (n : ℕ) → total rs′ n ≡ total rs n
+  unfolding total
+  total-places zero = refl
+  total-places (suc n) = ap₂ _+_ (total-places n) (f n .1)
+
+  pub follow-places : {held used : ℕ} → Follow held used rs → Follow held used rs′
+  follow-places {held} F = record { starts = λ i h. f i .0 ∙ F .starts i h ∙ sym (total-places i); sum = F .sum ∙ sym (total-places (suc held)) }
+
 -- where a body ends
 module _ {held used : ℕ} {rs : List Record} (F : Follow held used rs) where
   pub body-end : (i : ℕ) → i ≤ held → recordAt rs i .start + recordAt rs i .size ≤ used
@@ -68,9 +78,9 @@ module _ {held used : ℕ} {rs : List Record} (F : Follow held used rs) where
   unfolding total
   first-start = F .starts 0 (omega arith)
 
--- a record with two zeros is unused
-pub unused-one : {e : Record} → e .start ≡ 0 → e .size ≡ 0 → e ≡ noRecord
-unused-one {e} s z = ap₂ (λ (a b : ℕ). record { start = a; size = b }) s z
+-- a record with three zeros is unused
+pub unused-one : {e : Record} → e .start ≡ 0 → e .size ≡ 0 → e .count ≡ 0 → e ≡ noRecord
+unused-one {e} s z c = ap₂ (λ (a b : ℕ). record { start = a; size = b; count = e .count }) s z ∙ ap (λ n. record { start = 0; size = 0; count = n }) c
 
 -- the bytes from 0 to the end of body 0 are body 0
 pub stock-part : {held used : ℕ} {rs : List Record} (area : List ℕ) {e : Record} → Follow held used rs → e ≡ recordAt rs 0 → take (e .size - 0) (drop 0 area) ≡ body rs area 0

@@ -2,7 +2,7 @@
 -- Assumes nothing.
 use Prim.Native.Nat.{ℕ, zero, suc, _+_, _-_, _≤_, _<_}
 use native.Mathlib.Decide.{decLt}
-use native.Mathlib.Omega.{arith}
+use native.Mathlib.Omega.{arith, by-contra}
 use mathlib.Core.List.{List}
 use mathlib.Core.Logic.{_⊎_, inl, inr, ⊎-elim}
 use mathlib.Core.Path.{_≡_, refl, sym, ap, ap₂, subst, _∙_}
@@ -22,8 +22,8 @@ use Rattle.forms.specs.declared.write.Formed.{Formed}
 use Rattle.forms.specs.declared.write.Formed.the-variants as formed
 use Rattle.canonical.specs.Answers.{NormalFile, Cleans}
 use Rattle.canonical.proofs.Laws.{clean-exact, sheets-alike, cleaned, all-alike}
-use Rattle.records.specs.Answers.{CleanFile, NotHeld, Room, HasPlace, Gets, Gives, Enters}
-use Rattle.records.specs.Book.{bodyRecord, recordAt, body, Chained}
+use Rattle.records.specs.Answers.{CleanFile, Lowest, NotHeld, Room, HasPlace, Gets, Gives, Enters}
+use Rattle.records.specs.Book.{bodyRecord, countedRecord, recordAt, body, tally, Chained}
 use Rattle.records.specs.Inner.Steps.{clean, Placed, Finds, Ready, Numbers, Granted, Decided, Fits, Fit, Puts, Settled, refusedBy, refusedAsk, unchanged, Asks, Places}
 use Rattle.records.specs.Inner.Writes.{added}
 use Rattle.records.specs.declared.book.Asked.{Asked}
@@ -31,6 +31,7 @@ use Rattle.records.specs.declared.book.Entered.{Entered}
 use Rattle.records.specs.declared.book.Entered.the-variants.{Number, Refused}
 use Rattle.records.specs.declared.book.Entry.{Entry}
 use Rattle.records.specs.declared.book.Head.{Head}
+use Rattle.records.specs.declared.book.Located.{Located}
 use Rattle.records.specs.declared.book.Record.{Record}
 use Rattle.records.specs.declared.book.Verdict.{Verdict}
 use Rattle.records.specs.declared.book.Verdict.the-variants as deciding
@@ -48,26 +49,33 @@ module _ {h : Head} {rs : List Record} {area : List ℕ} (C : Chained h rs area)
   chained-ready = record { few = C .lies .few; inside = C .lies .inside }
 
 -- ---- the search, body after body
-none-found : {held : ℕ} {rs : List Record} {area x : List ℕ} {n : ℕ} → n ≡ 0 → Finds held rs area x n → NotHeld held rs area x
-none-found e F = ⊎-elim (λ w. w .1) (λ L. absurd (omega (arith, L .low))) F
+none-found : {held : ℕ} {rs : List Record} {area x : List ℕ} {f : Located} → f .number ≡ 0 → Finds held rs area x f → NotHeld held rs area x
+none-found e F = ⊎-elim (λ w. w .1) (λ L. absurd (omega (arith, L .0 .low))) F
 
 module _ {rs : List Record} {area x : List ℕ} where
-  pub none-yet : Finds 0 rs area x 0
-  none-yet = inl (refl, record { none = λ m g h. absurd (omega arith) })
+  pub none-yet : {f : Located} → f .number ≡ 0 → Finds 0 rs area x f
+  none-yet e = inl (e, record { none = λ m g h. absurd (omega arith) })
 
-  module _ {i n : ℕ} (low : 1 ≤ i) where
+  module _ {i : ℕ} {f : Located} (low : 1 ≤ i) where
     -- the number stays
-    pub found-before : (n ≡ 0 → ⊥) → Finds (i - 1) rs area x n → Finds i rs area x n
-    found-before g F = ⊎-elim (λ w. absurd (g (w .0))) (λ L. inr (record { low = L .low; high = omega (arith, L .high); there = L .there; first = L .first })) F
+    pub found-before : (f .number ≡ 0 → ⊥) → Finds (i - 1) rs area x f → Finds i rs area x f
+    found-before g F = ⊎-elim (λ w. absurd (g (w .0))) (λ L. inr (record { low = L .0 .low; high = omega (arith, L .0 .high); there = L .0 .there; first = L .0 .first }, L .1)) F
 
-    pub found-here : n ≡ 0 → body rs area i ≡ x → Finds (i - 1) rs area x n → Finds i rs area x i
-    found-here e b F = inr (record { low = low; high = omega arith; there = b; first = λ m g h. none-found e F .none m g (omega arith) })
+    pub found-here : {r : Record} → f .number ≡ 0 → body rs area i ≡ x → r ≡ recordAt rs i → Finds (i - 1) rs area x f → Finds i rs area x (record { number = i; its = r })
+    found-here e b q F = inr (record { low = low; high = omega arith; there = b; first = λ m g h. none-found e F .none m g (omega arith) }, q)
 
-    pub not-here : n ≡ 0 → (body rs area i ≡ x → ⊥) → Finds (i - 1) rs area x n → Finds i rs area x 0
-    not-here e b F = inl (refl, record { none = λ m g h. ⊎-elim (λ k. none-found e F .none m g k) (λ z f. b (ap (body rs area) (sym z) ∙ f)) (last-or m h) })
+    pub not-here : {f′ : Located} → f .number ≡ 0 → (body rs area i ≡ x → ⊥) → Finds 0 rs area x f′ → Finds (i - 1) rs area x f → Finds i rs area x f′
+    not-here e b N F = inl (⊎-elim (λ w. w .0) (λ L. absurd (omega (arith, L .0 .low, L .0 .high))) N, record { none = λ m g h. ⊎-elim (λ k. none-found e F .none m g k) (λ z y. b (ap (body rs area) (sym z) ∙ y)) (last-or m h) })
       where
         last-or : (m : ℕ) → m ≤ i → (m ≤ i - 1) ⊎ (m ≡ i)
         last-or m h = elim (decLt m i) [ yes l ↦ inl (omega arith) | no l ↦ inr (omega arith) ]
+
+-- a lowest number is one, and its record is found
+pub lowest-unique : {held : ℕ} {rs : List Record} {area x : List ℕ} {m n : ℕ} → Lowest held rs area x m → Lowest held rs area x n → m ≡ n
+lowest-unique {m = m} {n = n} L K = omega (arith, by-contra m n (λ g. L .first n (K .low) g (K .there)), by-contra n m (λ g. K .first m (L .low) g (L .there)))
+
+found-record : {held : ℕ} {rs : List Record} {area x : List ℕ} {f : Located} {n : ℕ} → Finds held rs area x f → Lowest held rs area x n → f .its ≡ recordAt rs n
+found-record {rs = rs} {n = n} F L = ⊎-elim (λ w. absurd (w .1 .none n (L .low) (L .high) (L .there))) (λ w. w .1 ∙ ap (recordAt rs) (lowest-unique (w .0) L)) F
 
 -- ---- a record that is added
 pub added-none : (rs : List Record) (e : Record) {n : ℕ} → n ≡ 0 → added rs n e ≡ rs
@@ -87,17 +95,17 @@ module _ {h : Head} {rs : List Record} {area x : List ℕ} where
   gets-place : {n : ℕ} → Gets h rs area x n → HasPlace h rs area x
   gets-place {n} G = ⊎-elim (λ L. inl (n, L)) (λ N. inr (N .room)) G
 
-  module _ {n : ℕ} where
+  module _ {f : Located} where
     -- they are held
-    pub found : (n ≡ 0 → ⊥) → Finds (h .held) rs area x n → Gets h rs area x n
-    found g F = ⊎-elim (λ w. absurd (g (w .0))) (λ L. inl L) F
+    pub found : (f .number ≡ 0 → ⊥) → Finds (h .held) rs area x f → Gets h rs area x (f .number)
+    found g F = ⊎-elim (λ w. absurd (g (w .0))) (λ L. inl (L .0)) F
 
     -- they are not, and there is no room
-    pub full : n ≡ 0 → (Room h area x → ⊥) → Finds (h .held) rs area x n → HasPlace h rs area x → ⊥
+    pub full : f .number ≡ 0 → (Room h area x → ⊥) → Finds (h .held) rs area x f → HasPlace h rs area x → ⊥
     full z no-room F p = ⊎-elim (λ w. none-found z F .none (w .0) (w .1 .low) (w .1 .high) (w .1 .there)) no-room p
 
     -- they are not, and there is
-    pub next : n ≡ 0 → Room h area x → Finds (h .held) rs area x n → Gets h rs area x (h .held + 1)
+    pub next : f .number ≡ 0 → Room h area x → Finds (h .held) rs area x f → Gets h rs area x (h .held + 1)
     next z R F = inr (record { new = none-found z F; room = R; next = refl })
 
 -- ---- the file of the normal form is one
@@ -160,21 +168,21 @@ module _ {s : List ℕ} {h : Head} {rs : List Record} {area x : List ℕ} where
     unfolding Holds
     has-number p g = pass C (pass (w .0) (pass (w .1 .0) (pass (w .1 .1 .0) (pass (x, (f, p)) (accept (x, (f, g)))))))
 
-    numbers-decided : (e : Entered) → Numbers h rs area x e → Decided s h rs area x e
-    numbers-decided (Number n) G = record { chained = C; checks = w; file = f; gets = G }
-    numbers-decided (Refused q) N = rw (N .0) (no-place (N .1))
+    numbers-decided : {l : Located} (e : Entered) → Finds (h .held) rs area x l → Numbers h rs area x e → Decided s h rs area x (l .its) e
+    numbers-decided (Number n) F G = record { chained = C; checks = w; file = f; gets = G; its = λ g. ⊎-elim (λ L. found-record F L) (λ N. absurd (omega (arith, N .next))) G }
+    numbers-decided (Refused q) F N = rw (N .0) (no-place (N .1))
 
   -- the clean file got a number or did not
-  pub numbered : {a : Asked} {n : ℕ} (e : Entered) → a .verdict ≡ clean → (Finds (h .held) rs area x n → Numbers h rs area x e) → Asks s h rs area x a → Finds (a .held) rs area x n → Decided s h rs area x e
+  pub numbered : {a : Asked} {f : Located} (e : Entered) → a .verdict ≡ clean → (Finds (h .held) rs area x f → Numbers h rs area x e) → Asks s h rs area x a → Finds (a .held) rs area x f → Decided s h rs area x (f .its) e
   numbered e v K A F =
       ⊎-elim
-      (λ c. numbers-decided (c .chained) (c .checks) (c .file) e (K (rw (c .held) at F)))
+      (λ c. let F′ = rw (c .held) at F in numbers-decided (c .chained) (c .checks) (c .file) e F′ (K F′))
       (λ t. let e : _≡_ {A = Verdict} (deciding.Refused (t .refusal)) deciding.Clean = sym (ap (λ b. b .verdict) (t .ask)) ∙ v in conflict (cc))
       A
 
   -- the refusal from before the search
-  pub turned-down : {a : Asked} (q : Refusal) → a .verdict ≡ deciding.Refused q → Asks s h rs area x a → Decided s h rs area x (Refused q)
-  turned-down q v A =
+  pub turned-down : {a : Asked} (r : Record) (q : Refusal) → a .verdict ≡ deciding.Refused q → Asks s h rs area x a → Decided s h rs area x r (Refused q)
+  turned-down r q v A =
       ⊎-elim
       (λ c. let f : _≡_ {A = Verdict} (deciding.Refused q) deciding.Clean = sym v ∙ c .verdict in conflict (cc))
       (λ t.
@@ -184,38 +192,58 @@ module _ {s : List ℕ} {h : Head} {rs : List Record} {area x : List ℕ} where
       A
 
 -- ---- the commit
-module _ (s : List ℕ) (h : Head) (rs : List Record) (area x : List ℕ) where
-  granted-fits : {n : ℕ} → Granted s h rs area x n → Fits h area x n
-  granted-fits G = record { countable = G .chained .counts .countable; room = λ l. ⊎-elim (λ L. absurd (omega (arith, L .high))) (λ N. N .room) (G .gets) }
+-- a record counts at most as much as all
+tally-more : (rs : List Record) (i n : ℕ) → i < n → recordAt rs i .count ≤ tally rs n
+unfolding tally
+tally-more rs i zero h = absurd (omega arith)
+tally-more rs i (suc n) h = elim (decLt i n) [ yes l ↦ omega (arith, tally-more rs i n l) | no l ↦ let e : i ≡ n = omega arith in omega (arith, ap (λ k. recordAt rs k .count) e) ]
 
-  pub decided-fit : (e : Entered) → Decided s h rs area x e → Fit h area x e
-  decided-fit (Number n) D = granted-fits D
-  decided-fit (Refused q) D = tt
+module _ {s : List ℕ} {h : Head} {rs : List Record} {area x : List ℕ} {r : Record} where
+  granted-fits : {n : ℕ} → Granted s h rs area x r n → Fits h n r area x
+  granted-fits {n} G =
+      let C = G .chained in
+      record {
+        countable = C .counts .countable;
+        count = λ l. omega (arith, ap (λ w. w .count) (G .its l), tally-more rs n 33 (omega (arith, C .lies .few)), C .counts .sum, C .counts .countable);
+        room = λ l. ⊎-elim (λ L. absurd (omega (arith, L .high))) (λ N. N .room) (G .gets);
+      }
 
-module _ {h : Head} {rs : List Record} {area x : List ℕ} where
-  module _ {r : Entry} {area′ : List ℕ} where
-    put-gives : {n : ℕ} → Gets h rs area x n → Puts h n area x r area′ → (r .answer ≡ Number n) × Gives h rs area x n (r .head) (added rs (r .number) (r .new)) area′
-    put-gives {n} G P =
-        ⊎-elim
-        (λ k. ⊎-elim (λ L. (k .1 .answer, inl (record { lowest = L; head = k .1 .head; records = added-none rs (r .new) (k .1 .number); bodies = k .2 }))) (λ N. absurd (omega (arith, N .next, k .0))) G)
-        (λ k. ⊎-elim (λ L. absurd (omega (arith, L .high, k .0)))
-        (λ N.
-        let A = k .1 in
-        let e : added rs (r .number) (r .new) ≡ set rs n (bodyRecord (h .used) (length x)) = ap₂ (added rs) (A .number) (A .new) ∙ added-some rs (bodyRecord (h .used) (length x)) (h .held) ∙ ap (λ i. set rs i (bodyRecord (h .used) (length x))) (sym (N .next)) in
-        (A .answer ∙ ap (λ i. Number i) (sym (N .next)), inr (record { new = N .new; room = N .room; next = N .next; head = A .head; records = e; bodies = A .bodies })))
-        G)
-        P
+pub decided-fit : (s : List ℕ) (h : Head) (rs : List Record) (area x : List ℕ) (r : Record) (e : Entered) → Decided s h rs area x r e → Fit h e r area x
+decided-fit s h rs area x r (Number n) D = granted-fits D
+decided-fit s h rs area x r (Refused q) D = tt
 
-    put-inside : {n : ℕ} → Chained h rs area → Gets h rs area x n → Puts h n area x r area′ → 0 < r .number → r .number < length rs
-    put-inside C G P g = ⊎-elim (λ k. absurd (omega (arith, k .1 .number))) (λ k. ⊎-elim (λ L. absurd (omega (arith, L .high, k .0))) (λ N. omega (arith, k .1 .number, N .room .few, C .lies .many)) G) P
+module _ {h : Head} {rs : List Record} {area x : List ℕ} {o : Record} {r : Entry} {area′ : List ℕ} where
+  put-gives : {n : ℕ} → (n ≤ h .held → o ≡ recordAt rs n) → Gets h rs area x n → Puts h n o area x r area′ → (r .answer ≡ Number n) × Gives h rs area x n (r .head) (added rs (r .number) (r .new)) area′
+  put-gives {n} q G P =
+      ⊎-elim
+      (λ k. ⊎-elim
+      (λ L.
+      let e : added rs (r .number) (r .new) ≡ set rs n (countedRecord (recordAt rs n)) = ap₂ (added rs) (k .1 .number) (k .1 .new ∙ ap countedRecord (q (k .0))) ∙ added-set rs (countedRecord (recordAt rs n)) n (omega (arith, L .low)) in
+      (k .1 .answer, inl (record { lowest = L; head = k .1 .head; records = e; bodies = k .2 })))
+      (λ N. absurd (omega (arith, N .next, k .0)))
+      G)
+      (λ k. ⊎-elim
+      (λ L. absurd (omega (arith, L .high, k .0)))
+      (λ N.
+      let A = k .1 in
+      let e : added rs (r .number) (r .new) ≡ set rs n (bodyRecord (h .used) (length x)) = ap₂ (added rs) (A .number) (A .new) ∙ added-some rs (bodyRecord (h .used) (length x)) (h .held) ∙ ap (λ i. set rs i (bodyRecord (h .used) (length x))) (sym (N .next)) in
+      (A .answer ∙ ap (λ i. Number i) (sym (N .next)), inr (record { new = N .new; room = N .room; next = N .next; head = A .head; records = e; bodies = A .bodies })))
+      G)
+      P
+
+  put-inside : {n : ℕ} → Chained h rs area → Gets h rs area x n → Puts h n o area x r area′ → r .number < length rs
+  put-inside C G P = ⊎-elim (λ k. omega (arith, k .0, k .1 .number, C .lies .few, C .lies .many)) (λ k. ⊎-elim (λ L. absurd (omega (arith, L .high, k .0))) (λ N. omega (arith, k .1 .number, N .room .few, C .lies .many)) G) P
 
 -- question and commit make an entry
-pub settled : (s : List ℕ) (h : Head) (rs : List Record) (area x : List ℕ) (r : Entry) (area′ : List ℕ) (e : Entered) → Decided s h rs area x e → Settled h e area x r area′ → Places s h rs area r area′
+pub settled : (s : List ℕ) (h : Head) (rs : List Record) (area x : List ℕ) (o : Record) (r : Entry) (area′ : List ℕ) (e : Entered) → Decided s h rs area x o e → Settled h e o area x r area′ → Places s h rs area r area′
 unfolding added
-settled s h rs area x r area′ (Number n) G P =
-    let w = put-gives (G .gets) P in
-    record { enters = subst (λ (o : Entered). Enters s h rs area (r .head) (added rs (r .number) (r .new)) area′ o) (sym (w .0)) (has-number (G .chained) (G .checks) (G .file) (gets-place (G .gets)) (w .1)); inside = put-inside (G .chained) (G .gets) P }
-settled s h rs area x r area′ (Refused q) E P = subst (λ (v : Entry). Places s h rs area v area′) (sym (P .0)) (subst (λ l. Places s h rs area (unchanged h (refusedBy q)) l) (sym (P .1)) (record { enters = E; inside = λ g. absurd (omega arith) }))
+settled s h rs area x o r area′ (Number n) G P =
+    let w = put-gives (G .its) (G .gets) P in
+    record {
+      enters = subst (λ (v : Entered). Enters s h rs area (r .head) (added rs (r .number) (r .new)) area′ v) (sym (w .0)) (has-number (G .chained) (G .checks) (G .file) (gets-place (G .gets)) (w .1));
+      inside = λ _. put-inside (G .chained) (G .gets) P;
+    }
+settled s h rs area x o r area′ (Refused q) E P = subst (λ (v : Entry). Places s h rs area v area′) (sym (P .0)) (subst (λ l. Places s h rs area (unchanged h (refusedBy q)) l) (sym (P .1)) (record { enters = E; inside = λ g. absurd (omega arith) }))
 
 -- the file of a normal form fits the area that it is cleaned into
 pub clean-fits : {stock s before after : List ℕ} (a : Formed) (k m size : ℕ) → Cleans stock s before after a → a ≡ formed.Form k m size → size ≤ length after

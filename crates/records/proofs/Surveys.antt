@@ -3,10 +3,11 @@
 use Prim.Native.Nat.{ℕ, suc, _+_, _-_, _≤_, _<_, min}
 use native.Mathlib.Decide.{decLt}
 use native.Mathlib.Nat.{min-eq-left, min-eq-right}
+use native.Mathlib.Numerals.{add-one}
 use native.Mathlib.Omega.{arith}
 use mathlib.Core.Bool.{Bool, true, false}
 use mathlib.Core.List.{List}
-use mathlib.Core.Path.{_≡_, refl, sym, ap, _∙_}
+use mathlib.Core.Path.{_≡_, refl, sym, ap, ap₂, subst, _∙_}
 use lib.Dec.{eqb}
 use lib.ListN.{length}
 use borrow.Author.Count.{below-more}
@@ -14,7 +15,7 @@ use borrow.Author.Tests.{eqb-true, eq-eqb}
 use Rattle.theory.proofs.Terms.{conflict}
 use Rattle.trees.specs.Refusal.{Decides}
 use Rattle.trees.proofs.Deciding.{decides-no, decides-yes, decides-same}
-use Rattle.records.specs.Book.{noRecord, recordAt, total, Follow, Unused, Chained}
+use Rattle.records.specs.Book.{answersOf, noRecord, tooMany, recordAt, total, tally, Follow, Unused, Sound, Chained}
 use Rattle.records.specs.Inner.Surveys.{Right, Surveyed, keptAt}
 use Rattle.records.specs.declared.book.Head.{Head}
 use Rattle.records.specs.declared.book.Record.{Record}
@@ -64,6 +65,23 @@ module _ {held used : ℕ} {rs : List Record} {i : ℕ} where
     unused = below-more (λ k. held < k → recordAt rs k ≡ noRecord) i (R .unused) (λ _. e);
   }
 
+-- ---- what they count, up to a bound
+min-plus : (a c t : ℕ) → min (min a t + c) t ≡ min (a + c) t
+min-plus a c t = elim (decLt a t) [
+  | yes g ↦ let e : min a t ≡ a = min-eq-left (omega arith) in ap (λ m. min (m + c) t) e
+  | no g ↦ let e : min a t ≡ t = min-eq-right (omega arith) in ap (λ m. min (m + c) t) e ∙ min-eq-right (omega arith) ∙ sym (min-eq-right (omega arith))
+]
+
+min-zero : (t : ℕ) → min 0 t ≡ 0
+min-zero t = min-eq-left (omega arith)
+
+tally-next : (rs : List Record) (n : ℕ) → tally rs (n + 1) ≡ tally rs n + recordAt rs n .count
+unfolding tally
+tally-next rs n = ap (tally rs) (add-one n)
+
+counts-more : (rs : List Record) (i : ℕ) {c c′ : ℕ} {r : Record} → c ≡ min (tally rs i) tooMany → r ≡ recordAt rs i → c′ ≡ min (c + r .count) tooMany → c′ ≡ min (tally rs (i + 1)) tooMany
+counts-more rs i {c} {c′} {r} e q u = u ∙ ap₂ (λ (m k : ℕ). min (m + k) tooMany) e (ap (λ w. w .count) q) ∙ min-plus (tally rs i) (recordAt rs i .count) tooMany ∙ ap (λ m. min m tooMany) (sym (tally-next rs i))
+
 -- ---- what is kept of them
 kept-more : (rs : List Record) (i k : ℕ) (e : Record) {e′ r : Record} → (k < i → e ≡ recordAt rs k) → r ≡ recordAt rs i → e′ ≡ keptAt e i k r → k < i + 1 → e′ ≡ recordAt rs k
 kept-more rs i k e {e′} {r} f q z h = z ∙ go (eqb i k) refl
@@ -76,36 +94,39 @@ kept-more rs i k e {e′} {r} f q z h = z ∙ go (eqb i k) refl
         by-cases w = conflict (let u : eqb i k ≡ true = eq-eqb i k w in cc)
 
 module _ {h : Head} {number : ℕ} {rs : List Record} where
-  pub surveyed-none : (s : Survey) → s .right ≡ true → s .end ≡ 0 → Surveyed h number rs 0 s
-  unfolding total
-  surveyed-none s e z = let l : min 0 (suc (h .held)) ≡ 0 = min-eq-left (omega arith) in record {
+  pub surveyed-none : (s : Survey) → s .right ≡ true → s .end ≡ 0 → s .counted ≡ 0 → Surveyed h number rs 0 s
+  unfolding total tally
+  surveyed-none s e z y = let l : min 0 (suc (h .held)) ≡ 0 = min-eq-left (omega arith) in record {
     right = record { sound = λ _. right-none; complete = λ _. e };
     end = λ _. z ∙ sym (ap (total rs) l);
     inside = omega arith;
+    counts = y ∙ sym (min-zero tooMany);
     first = λ g. absurd (omega arith);
     wanted = λ g. absurd (omega arith);
   }
 
-  module _ {i : ℕ} {s : Survey} {r first wanted : Record} (q : r ≡ recordAt rs i) (S : Surveyed h number rs i s) (f : first ≡ keptAt (s .first) i 0 r) (w : wanted ≡ keptAt (s .wanted) i number r) where
+  module _ {i : ℕ} {s : Survey} {r first wanted : Record} {counted : ℕ} (q : r ≡ recordAt rs i) (S : Surveyed h number rs i s) (u : counted ≡ min (s .counted + r .count) tooMany) (f : first ≡ keptAt (s .first) i 0 r) (w : wanted ≡ keptAt (s .wanted) i number r) where
     -- these records are not a registry's
-    surveyed-wrong : (Right (h .held) (h .used) rs (i + 1) → ⊥) → Surveyed h number rs (i + 1) (record { right = false; end = s .end; first = first; wanted = wanted })
+    surveyed-wrong : (Right (h .held) (h .used) rs (i + 1) → ⊥) → Surveyed h number rs (i + 1) (record { right = false; end = s .end; counted = counted; first = first; wanted = wanted })
     surveyed-wrong g = record {
       right = decides-no g;
       end = λ e. conflict (cc);
       inside = S .inside;
+      counts = counts-more rs i (S .counts) q u;
       first = kept-more rs i 0 (s .first) (S .first) q f;
       wanted = kept-more rs i number (s .wanted) (S .wanted) q w;
     }
 
-    pub wrong-before : s .right ≡ false → Surveyed h number rs (i + 1) (record { right = false; end = s .end; first = first; wanted = wanted })
+    pub wrong-before : s .right ≡ false → Surveyed h number rs (i + 1) (record { right = false; end = s .end; counted = counted; first = first; wanted = wanted })
     wrong-before e = surveyed-wrong (λ R. let t : s .right ≡ true = S .right .complete (right-less R) in conflict (cc))
 
     module _ (right : s .right ≡ true) where
-      pub surveyed-behind : h .held < i → {b : Bool} → Decides (r ≡ noRecord) b → Surveyed h number rs (i + 1) (record { right = b; end = s .end; first = first; wanted = wanted })
+      pub surveyed-behind : h .held < i → {b : Bool} → Decides (r ≡ noRecord) b → Surveyed h number rs (i + 1) (record { right = b; end = s .end; counted = counted; first = first; wanted = wanted })
       surveyed-behind g D = record {
         right = decides-same (λ e. right-unused g (S .right .sound right) (sym q ∙ e)) (λ R. q ∙ R .unused i (omega arith) g) D;
         end = λ _. S .end right ∙ ap (total rs) (behind g ∙ sym (behind-next g));
         inside = S .inside;
+        counts = counts-more rs i (S .counts) q u;
         first = kept-more rs i 0 (s .first) (S .first) q f;
         wanted = kept-more rs i number (s .wanted) (S .wanted) q w;
       }
@@ -114,26 +135,45 @@ module _ {h : Head} {number : ℕ} {rs : List Record} where
         here : s .end ≡ total rs i
         here = S .end right ∙ ap (total rs) (up-to g)
 
-        pub wrong-start : (r .start ≡ s .end → ⊥) → Surveyed h number rs (i + 1) (record { right = false; end = s .end; first = first; wanted = wanted })
+        pub wrong-start : (r .start ≡ s .end → ⊥) → Surveyed h number rs (i + 1) (record { right = false; end = s .end; counted = counted; first = first; wanted = wanted })
         wrong-start n = surveyed-wrong (λ R. n (ap (λ e. e .start) q ∙ R .starts i (omega arith) g ∙ sym here))
 
-        pub wrong-size : h .used - s .end < r .size → Surveyed h number rs (i + 1) (record { right = false; end = s .end; first = first; wanted = wanted })
+        pub wrong-size : h .used - s .end < r .size → Surveyed h number rs (i + 1) (record { right = false; end = s .end; counted = counted; first = first; wanted = wanted })
         wrong-size n = surveyed-wrong (λ R. omega (arith, R .inside, ap (total rs) (up-to-next g), total-next rs i, here, ap (λ e. e .size) q))
 
-        pub surveyed-body : r .start ≡ s .end → r .size ≤ h .used - s .end → Surveyed h number rs (i + 1) (record { right = true; end = s .end + r .size; first = first; wanted = wanted })
+        pub surveyed-body : r .start ≡ s .end → r .size ≤ h .used - s .end → Surveyed h number rs (i + 1) (record { right = true; end = s .end + r .size; counted = counted; first = first; wanted = wanted })
         surveyed-body e l = record {
           right = decides-yes (right-body g (S .right .sound right) (sym (ap (λ u. u .start) q) ∙ e ∙ here) (omega (arith, here, ap (λ u. u .size) q, S .inside)));
           end = λ _. omega (arith, here, ap (λ u. u .size) q, ap (total rs) (up-to-next g), total-next rs i);
           inside = omega (arith, S .inside);
+          counts = counts-more rs i (S .counts) q u;
           first = kept-more rs i 0 (s .first) (S .first) q f;
           wanted = kept-more rs i number (s .wanted) (S .wanted) q w;
         }
+
+-- ---- what 33 of them count
+module _ {h : Head} {number : ℕ} {rs : List Record} {s : Survey} (T : Surveyed h number rs 33 s) where
+  pub counts-told : Sound h rs → s .counted ≡ answersOf h
+  counts-told S = T .counts ∙ ap (λ m. min m tooMany) (S .sum) ∙ min-eq-left (omega (arith, S .countable))
+
+  pub counts-tell : answersOf h < tooMany → s .first .count ≡ 0 → s .counted ≡ answersOf h → Sound h rs
+  counts-tell g z e = record {
+    countable = g;
+    stock = sym (ap (λ w. w .count) (T .first (omega arith))) ∙ z;
+    sum = elim (decLt (tally rs 33) tooMany) [
+      | yes l ↦ sym (min-eq-left (omega arith)) ∙ sym (T .counts) ∙ e
+      | no l ↦ absurd (omega (arith, T .counts ∙ min-eq-right (omega arith)))
+    ];
+  }
 
 -- ---- what 33 of them tell
 module _ {h : Head} {number : ℕ} {rs : List Record} {n : ℕ} {s : Survey} (S : Surveyed h number rs (min n 33) s) where
   module _ (enough : 33 ≤ n) where
     all-33 : min n 33 ≡ 33
     all-33 = min-eq-right enough
+
+    pub all-told : Surveyed h number rs 33 s
+    all-told = subst (λ m. Surveyed h number rs m s) all-33 S
 
     pub first-is : s .first ≡ recordAt rs 0
     first-is = S .first (omega (arith, all-33))

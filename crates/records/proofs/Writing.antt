@@ -10,7 +10,7 @@ use Rattle.trees.specs.Alphabets.{Alphabets}
 use Rattle.trees.specs.declared.refusal.Refusal.the-variants.{BadAlphabets, FullRegistry, BadRegistry}
 use Rattle.trees.proofs.Judging.{refuse, pass, accept}
 use Rattle.records.specs.Answers.{Makes}
-use Rattle.records.specs.Book.{noRecord, recordAt}
+use Rattle.records.specs.Book.{noRecord, stockRecord, newHead, recordAt}
 use Rattle.records.specs.Inner.Steps.{refusedMade, notStarted}
 use Rattle.records.specs.Inner.Writes.{freshRecords, written}
 use Rattle.records.specs.declared.book.Head.{Head}
@@ -19,7 +19,7 @@ use Rattle.records.specs.declared.book.Record.{Record}
 use Rattle.records.specs.declared.book.Started.{Started}
 
 -- ---- the records of a new registry
-pub fresh-first : {size i : ℕ} → i ≡ 0 → record { start = 0; size = size } ≡ recordAt (freshRecords size) i
+pub fresh-first : {size i : ℕ} → i ≡ 0 → stockRecord size ≡ recordAt (freshRecords size) i
 fresh-first {size} e = ap (recordAt (freshRecords size)) (sym e)
 
 pub fresh-other : (size i : ℕ) → (i ≡ 0 → ⊥) → i < 33 → noRecord ≡ recordAt (freshRecords size) i
@@ -37,7 +37,7 @@ unfolding written
 written-is rs ts zero h g = refl
 written-is rs ts (suc n) h g = ap (λ x. set x n (recordAt ts n)) (written-is rs ts n (omega arith) (omega arith)) ∙ over-suc ts rs n h g
 
-written-fresh : (rs : List Record) (size : ℕ) → 33 ≤ length rs → written rs (freshRecords size) 33 ≡ record { start = 0; size = size } ∷ (replicate 32 noRecord ++ drop 33 rs)
+written-fresh : (rs : List Record) (size : ℕ) → 33 ≤ length rs → written rs (freshRecords size) 33 ≡ stockRecord size ∷ (replicate 32 noRecord ++ drop 33 rs)
 written-fresh rs size g =
     let l : length (freshRecords size) ≡ 33 = ap suc (length-replicate 32 noRecord) in
     written-is rs (freshRecords size) 33 (omega arith) g ∙ ap (λ w. w ++ drop 33 rs) (take-all 33 (freshRecords size) (omega arith))
@@ -58,5 +58,5 @@ module _ {stock : List ℕ} {h : Head} {rs : List Record} {area : List ℕ} wher
     no-room g A f e = subst (λ (r : Started). Makes stock h rs area (r .head) (written rs (freshRecords (length stock)) (r .fresh)) area (r .answer)) (sym e) (pass g (pass A (refuse f (refl, refl, refl))))
 
   pub started : {area′ : List ℕ} → 33 ≤ length rs → Alphabets stock → length stock ≤ length area → area′ ≡ sets area 0 stock
-      → Makes stock h rs area (record { held = 0; used = length stock; answered = 0 }) (written rs (freshRecords (length stock)) 33) area′ making.Empty
+      → Makes stock h rs area (newHead (length stock)) (written rs (freshRecords (length stock)) 33) area′ making.Empty
   started g A f w = pass g (pass A (pass f (accept (record { head = refl; records = written-fresh rs (length stock) g; bodies = w }))))

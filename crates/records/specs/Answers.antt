@@ -10,7 +10,7 @@ use Rattle.trees.specs.Refusal.{refusalNumber, Outcome, accepted, refused, done
 use Rattle.formats.specs.Sheet.{file, sheetCheck}
 use Rattle.earliest.specs.Answers.{formCheck}
 use Rattle.canonical.specs.Answers.{NormalFile}
-use Rattle.records.specs.Book.{noRecord, stockRecord, bodyRecord, newHead, countedHead, grownHead, body, Chained}
+use Rattle.records.specs.Book.{noRecord, stockRecord, bodyRecord, countedRecord, newHead, countedHead, grownHead, recordAt, body, Chained}
 use Rattle.records.specs.declared.book.Head.{Head}
 use Rattle.records.specs.declared.book.Record.{Record}
 use Rattle.records.specs.declared.book.Entered.{Entered}
@@ -78,11 +78,11 @@ pub record Next (h : Head) (rs : List Record) (area x : List ℕ) (n : ℕ) : Ty
 abbrev pub Gets : Head → List Record → List ℕ → List ℕ → ℕ → Type 0
 Gets h rs area x n = Lowest (h .held) rs area x n ⊎ Next h rs area x n
 
--- x is held: its lowest number n is answered, which is counted, and nothing else changes
+-- x is held: its lowest number n is answered, which is counted in the head and in its record, and nothing else changes
 pub record Known (h : Head) (rs : List Record) (area x : List ℕ) (n : ℕ) (h′ : Head) (rs′ : List Record) (area′ : List ℕ) : Type 0 where
   pub lowest : Lowest (h .held) rs area x n
   pub head : h′ ≡ countedHead h
-  pub records : rs′ ≡ rs
+  pub records : rs′ ≡ set rs n (countedRecord (recordAt rs n))
   pub bodies : area′ ≡ area
 
 -- x is not held: it is put behind what is held, gets the next number n, and that is counted; the other records and bytes stay

@@ -29,15 +29,18 @@ abbrev pub grownHead : Head → ℕ → Head
 grownHead h size = countedHead (record { held = h .held + 1; used = h .used + size; answered = h .answered })
 
 -- ---- the records and their updates
--- an unused record, that of alphabets, and that of a body which is added
+-- an unused record, that of alphabets, that of a body which is added and answered, and one with an answer more
 abbrev pub noRecord : Record
-noRecord = record { start = 0; size = 0 }
+noRecord = record { start = 0; size = 0; count = 0 }
 
 abbrev pub stockRecord : ℕ → Record
-stockRecord size = record { start = 0; size = size }
+stockRecord size = record { start = 0; size = size; count = 0 }
 
 abbrev pub bodyRecord : ℕ → ℕ → Record
-bodyRecord start size = record { start = start; size = size }
+bodyRecord start size = record { start = start; size = size; count = 1 }
+
+abbrev pub countedRecord : Record → Record
+countedRecord r = record { start = r .start; size = r .size; count = r .count + 1 }
 
 -- the record with number i, and the body that it tells
 abbrev pub recordAt : List Record → ℕ → Record
@@ -69,9 +72,16 @@ pub record Lies (h : Head) (rs : List Record) (area : List ℕ) : Type 0 where
   pub unused : Unused (h .held) rs
   pub stock : Alphabets (body rs area 0)
 
--- the counts are sound, with room for one more answer
+-- what the first n records count together
+unfoldable pub tally : List Record → ℕ → ℕ
+tally rs zero = 0
+tally rs (suc n) = tally rs n + recordAt rs n .count
+
+-- the counts are sound: the records count all that is answered, that of the alphabets nothing (nor do unused ones), and one more answer can be counted
 pub record Sound (h : Head) (rs : List Record) : Type 0 where
   pub countable : answersOf h < tooMany
+  pub stock : recordAt rs 0 .count ≡ 0
+  pub sum : tally rs 33 ≡ answersOf h
 
 -- head, records and area are a registry
 pub record Chained (h : Head) (rs : List Record) (area : List ℕ) : Type 0 where

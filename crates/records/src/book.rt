@@ -9,11 +9,12 @@ pub struct Head {
     pub answered: u64,
 }
 
-// Where a body starts in the area, and how many bytes it has.
+// Where a body starts in the area, how many bytes it has, and how many entries were answered with its number.
 #[repr(C)]
 pub struct Record {
     pub start: usize,
     pub size: usize,
+    pub count: u64,
 }
 
 // The number that an entry gets, or the refusal.
@@ -28,10 +29,11 @@ pub enum Made {
     Refused(Refusal),
 }
 
-// What the records passed tell: whether they are as a registry's, where the next body starts, the first record and the wanted one.
+// What the records passed tell: whether they lie as a registry's, where the next body starts, what they count together (18,446,744,073,709,551,615 for as many and more), the first record and the wanted one.
 pub struct Survey {
     pub right: bool,
     pub end: usize,
+    pub counted: u64,
     pub first: Record,
     pub wanted: Record,
 }
@@ -49,7 +51,13 @@ pub struct Asked {
     pub size: usize,
 }
 
-// What an entry leaves and answers: the head, and the record that is added with its number, which is 0 where none is.
+// What the search found: the number of the bytes and its record; 0 and an unused one where they are not held.
+pub struct Located {
+    pub number: usize,
+    pub its: Record,
+}
+
+// What an entry leaves and answers: the head, and the record that is written with its number, which is 0 where none is.
 pub struct Entry {
     pub head: Head,
     pub number: usize,

@@ -4,7 +4,7 @@ ghost use mathlib.Core.List.{List};
 ghost use mathlib.Core.Path.{_≡_};
 ghost use lib.ListN.{length};
 ghost use Rattle.trees.specs.Refusal.{Decides};
-ghost use Rattle.records.specs.Book.{noRecord, recordAt, Sound, Chained};
+ghost use Rattle.records.specs.Book.{noRecord, recordAt, tooMany, Sound, Chained};
 ghost use Rattle.records.specs.Inner.Surveys.{Surveyed, Told, keptAt};
 ghost use Rattle.records.specs.declared.book.Head.{Head as Heads};
 ghost use Rattle.records.specs.declared.book.Record.{Record as Records};
@@ -17,10 +17,15 @@ use trees::alphabet::alphabets_right;
 pub fn begin() -> Survey
     ensures { λ s. ⌜ ((h : Heads) (number : ℕ) (rs : List Records) → Surveyed h number rs 0 s) ⌝ }
 {
-    let none = Record { start: 0, size: 0 };
+    let none = Record {
+        start: 0,
+        size: 0,
+        count: 0,
+    };
     Survey {
         right: true,
         end: 0,
+        counted: 0,
         first: none,
         wanted: none,
     }
@@ -40,7 +45,20 @@ fn is_unused(r: Record) -> bool
     if r.start != 0 {
         return false;
     }
-    r.size == 0
+    if r.size != 0 {
+        return false;
+    }
+    r.count == 0
+}
+
+// The sum, and 18,446,744,073,709,551,615 where it is as much or more.
+fn plus(a: u64, b: u64) -> u64
+    ensures { λ r. ⌜ r ≡ min (a + b) tooMany ⌝ }
+{
+    if b > 18446744073709551615 - a {
+        return 18446744073709551615;
+    }
+    a + b
 }
 
 // Record i is r: a body that is held starts where the one before ends, and the records behind are unused.
@@ -51,9 +69,11 @@ pub fn look(s: Survey, i: usize, h: Head, number: usize, r: Record) -> Survey
     let end = s.end;
     let first = keep_at(s.first, i, 0, r);
     let wanted = keep_at(s.wanted, i, number, r);
+    let counted = plus(s.counted, r.count);
     let mut t = Survey {
         right: false,
         end: end,
+        counted: counted,
         first: first,
         wanted: wanted,
     };
@@ -75,14 +95,17 @@ pub fn look(s: Survey, i: usize, h: Head, number: usize, r: Record) -> Survey
     t
 }
 
-// Whether the counts are sound; n records told s.
-fn sound(h: Head) -> bool
-    ensures { λ b. ⌜ ((rs : List Records) → Decides (Sound h rs) b) ⌝ }
+// Whether the counts are sound, of a head and records that told s.
+fn sound(h: Head, s: Survey) -> bool
+    ensures { λ b. ⌜ ((k : ℕ) (rs : List Records) → Surveyed h k rs 33 s → Decides (Sound h rs) b) ⌝ }
 {
     if h.answered == 18446744073709551615 {
         return false;
     }
-    true
+    if s.first.count != 0 {
+        return false;
+    }
+    s.counted == h.answered
 }
 
 // Whether the head, the n records that told s and the area are a registry.
@@ -99,7 +122,7 @@ pub(crate) fn chained(h: Head, n: usize, s: Survey, area: &[u8]) -> bool
     if h.used > area.len() {
         return false;
     }
-    if !sound(h) {
+    if !sound(h, s) {
         return false;
     }
     if !s.right {

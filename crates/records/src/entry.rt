@@ -13,6 +13,7 @@ use crate::book::Asked;
 use crate::book::Entered;
 use crate::book::Entry;
 use crate::book::Head;
+use crate::book::Located;
 use crate::book::Record;
 use crate::book::Survey;
 use crate::book::Verdict;
@@ -60,13 +61,13 @@ pub fn beginning(file: &[u8], size: usize) -> &[u8]
     &file[0..size]
 }
 
-// The number that bytes of this size would get, which the search found at n, 0 for not at all; the area has `room` bytes.
-fn number_for(h: Head, n: usize, room: usize, size: usize) -> Entered
+// The number that bytes of this size would get, of which the search found f; the area has `room` bytes.
+fn number_for(h: Head, f: Located, room: usize, size: usize) -> Entered
     requires { ⌜ Ready h room ⌝ }
-    ensures { λ e. ⌜ ((rs : List Records) (area x : List ℕ) → length area ≡ room → length x ≡ size → Finds (h .held) rs area x n → Numbers h rs area x e) ⌝ }
+    ensures { λ e. ⌜ ((rs : List Records) (area x : List ℕ) → length area ≡ room → length x ≡ size → Finds (h .held) rs area x f → Numbers h rs area x e) ⌝ }
 {
-    if n != 0 {
-        return Entered::Number(n);
+    if f.number != 0 {
+        return Entered::Number(f.number);
     }
     if h.held == 32 {
         return Entered::Refused(Refusal::FullRegistry);
@@ -78,13 +79,13 @@ fn number_for(h: Head, n: usize, room: usize, size: usize) -> Entered
 }
 
 // The question: what an entry would answer. It changes nothing.
-pub fn decide(h: Head, a: Asked, n: usize, room: usize, size: usize) -> Entered
+pub fn decide(h: Head, a: Asked, f: Located, room: usize, size: usize) -> Entered
     requires { ⌜ (a .verdict ≡ clean → Ready h room) ⌝ }
-    ensures { λ e. ⌜ ((s : List ℕ) (rs : List Records) (area x : List ℕ) → length area ≡ room → length x ≡ size → Asks s h rs area x a → Finds (a .held) rs area x n → Decided s h rs area x e) ⌝ }
+    ensures { λ e. ⌜ ((s : List ℕ) (rs : List Records) (area x : List ℕ) → length area ≡ room → length x ≡ size → Asks s h rs area x a → Finds (a .held) rs area x f → Decided s h rs area x (f .its) e) ⌝ }
 {
     let verdict = a.verdict;
     match verdict {
-        Verdict::Clean => number_for(h, n, room, size),
+        Verdict::Clean => number_for(h, f, room, size),
         Verdict::Refused(r) => Entered::Refused(r),
     }
 }
@@ -109,33 +110,39 @@ fn append(h: Head, area: &mut [u8], bytes: &[u8]) -> Entry
 {
     let used = h.used;
     copy_at(bytes, area, used);
-    let n = h.held + 1;
+    let next = h.held + 1;
     let new = Record {
         start: used,
         size: bytes.len(),
+        count: 1,
     };
     let head = Head {
-        held: n,
+        held: next,
         used: used + bytes.len(),
         answered: h.answered,
     };
     Entry {
         head: count_answer(head),
-        number: n,
+        number: next,
         new: new,
-        answer: Entered::Number(n),
+        answer: Entered::Number(next),
     }
 }
 
-// The answer n is counted.
-fn count(h: Head, n: usize) -> Entry
-    requires { ⌜ answersOf h < 18446744073709551615 ⌝ }
-    ensures { λ r. ⌜ Counts h n r ⌝ }
+// The answer n, whose record is r, is counted.
+fn count(h: Head, n: usize, r: Record) -> Entry
+    requires { ⌜ (answersOf h < 18446744073709551615) × (r .count < 18446744073709551615) ⌝ }
+    ensures { λ e. ⌜ Counts h n r e ⌝ }
 {
+    let new = Record {
+        start: r.start,
+        size: r.size,
+        count: r.count + 1,
+    };
     Entry {
         head: count_answer(h),
-        number: 0,
-        new: Record { start: 0, size: 0 },
+        number: n,
+        new: new,
         answer: Entered::Number(n),
     }
 }
@@ -147,38 +154,42 @@ fn refuse(h: Head, r: Refusal) -> Entry
     Entry {
         head: h,
         number: 0,
-        new: Record { start: 0, size: 0 },
+        new: Record {
+            start: 0,
+            size: 0,
+            count: 0,
+        },
         answer: Entered::Refused(r),
     }
 }
 
-// The commit of the number n for these bytes: they are held at n, or n is the next.
-fn put(h: Head, n: usize, area: &mut [u8], bytes: &[u8]) -> Entry
-    requires { ⌜ Fits h (now area) (now bytes) n ⌝ }
-    ensures { λ r. ⌜ Puts h n (now (area .entry)) (now (bytes .entry)) r (now (area .exit)) ⌝ }
+// The commit of the number n for these bytes: they are held at n, with the record r, or n is the next.
+fn put(h: Head, n: usize, r: Record, area: &mut [u8], bytes: &[u8]) -> Entry
+    requires { ⌜ Fits h n r (now area) (now bytes) ⌝ }
+    ensures { λ e. ⌜ Puts h n r (now (area .entry)) (now (bytes .entry)) e (now (area .exit)) ⌝ }
 {
     if n <= h.held {
-        return count(h, n);
+        return count(h, n, r);
     }
     append(h, area, bytes)
 }
 
-// The commit of what the question answered.
-pub fn settle(h: Head, answer: Entered, area: &mut [u8], bytes: &[u8]) -> Entry
-    requires { ⌜ Fit h (now area) (now bytes) answer ⌝ }
-    ensures { λ r. ⌜ Settled h answer (now (area .entry)) (now (bytes .entry)) r (now (area .exit)) ⌝ }
+// The commit of what the question answered; r is the record of bytes that are held.
+pub fn settle(h: Head, answer: Entered, r: Record, area: &mut [u8], bytes: &[u8]) -> Entry
+    requires { ⌜ Fit h answer r (now area) (now bytes) ⌝ }
+    ensures { λ e. ⌜ Settled h answer r (now (area .entry)) (now (bytes .entry)) e (now (area .exit)) ⌝ }
 {
     match answer {
-        Entered::Number(n) => put(h, n, area, bytes),
-        Entered::Refused(r) => refuse(h, r),
+        Entered::Number(n) => put(h, n, r, area, bytes),
+        Entered::Refused(x) => refuse(h, x),
     }
 }
 
-// The end of an entry, after the search, which found the clean file `bytes` at n, 0 for not at all: question and commit.
-pub fn place(h: Head, a: Asked, n: usize, area: &mut [u8], bytes: &[u8]) -> Entry
-    requires { ⌜ Searched h a n (now area) (now bytes) ⌝ }
-    ensures { λ r. ⌜ ((s : List ℕ) (rs : List Records) → Asks s h rs (now (area .entry)) (now (bytes .entry)) a → Finds (a .held) rs (now (area .entry)) (now (bytes .entry)) n → Places s h rs (now (area .entry)) r (now (area .exit))) ⌝ }
+// The end of an entry, after the search for the clean file `bytes`, which found f: question and commit.
+pub fn place(h: Head, a: Asked, f: Located, area: &mut [u8], bytes: &[u8]) -> Entry
+    requires { ⌜ Searched h a f (now area) (now bytes) ⌝ }
+    ensures { λ r. ⌜ ((s : List ℕ) (rs : List Records) → Asks s h rs (now (area .entry)) (now (bytes .entry)) a → Finds (a .held) rs (now (area .entry)) (now (bytes .entry)) f → Places s h rs (now (area .entry)) r (now (area .exit))) ⌝ }
 {
-    let answer = decide(h, a, n, area.len(), bytes.len());
-    settle(h, answer, area, bytes)
+    let answer = decide(h, a, f, area.len(), bytes.len());
+    settle(h, answer, f.its, area, bytes)
 }

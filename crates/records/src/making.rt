@@ -40,9 +40,14 @@ pub fn fresh(size: usize, i: usize) -> Record
         return Record {
             start: 0,
             size: size,
+            count: 0,
         };
     }
-    Record { start: 0, size: 0 }
+    Record {
+        start: 0,
+        size: 0,
+        count: 0,
+    }
 }
 
 // Begins a registry with the alphabets `stock`; n is how many records there are.

@@ -1,6 +1,7 @@
 -- What one call leaves: the bodies that are held stay where they are, and an entry is one of the theory's registry.
 -- Assumes nothing.
 use Prim.Native.Nat.{ℕ, zero, suc, _+_, _-_, _≤_, _<_}
+use native.Mathlib.Decide.{ℕ-discrete}
 use native.Mathlib.Nat.{add-zero}
 use native.Mathlib.Numerals.{add-one}
 use native.Mathlib.Omega.{arith}
@@ -14,8 +15,8 @@ use Rattle.theory.specs.Registry.{Enter, found, added}
 use Rattle.theory.proofs.Lists.{get-lt}
 use Rattle.trees.specs.Refusal.{Holds}
 use Rattle.trees.proofs.Judging.{accepted-holds, refused-fails}
-use Rattle.records.specs.Answers.{Enters, CleanFile, Added, Gives}
-use Rattle.records.specs.Book.{answersOf, noRecord, bodyRecord, recordAt, body, Chained}
+use Rattle.records.specs.Answers.{Enters, CleanFile, Known, Added, Gives}
+use Rattle.records.specs.Book.{answersOf, noRecord, bodyRecord, countedRecord, recordAt, body, tally, Chained}
 use Rattle.records.specs.declared.book.Entered.{Entered}
 use Rattle.records.specs.declared.book.Entered.the-variants.{Number, Refused}
 use Rattle.records.specs.declared.book.Head.{Head}
@@ -77,6 +78,25 @@ module _ {b : Book} {s : List ℕ} {a : Option ℕ} {b′ : Book} where
 abbrev pub bodyOf : Book → ℕ → List ℕ
 bodyOf b n = body (b .records) (b .area) n
 
+-- ---- what a number that is given changes: its own record
+module _ {h : Head} {rs : List Record} {area x : List ℕ} {n : ℕ} {h′ : Head} {rs′ : List Record} {area′ : List ℕ} (C : Chained h rs area) where
+  -- an answer is counted in the record, and nothing else in it changes
+  module _ (K : Known h rs area x n h′ rs′ area′) where
+    pub known-record : recordAt rs′ n ≡ countedRecord (recordAt rs n)
+    known-record = ap (λ w. recordAt w n) (K .records) ∙ getD-set-same rs n (countedRecord (recordAt rs n)) noRecord (omega (arith, K .lowest .high, C .lies .few, C .lies .many))
+
+    pub known-other : (m : ℕ) → m ≢ n → recordAt rs′ m ≡ recordAt rs m
+    known-other m o = ap (λ w. recordAt w m) (K .records) ∙ getD-set-other rs n m (countedRecord (recordAt rs n)) noRecord o
+
+    pub known-places : (m : ℕ) → (recordAt rs′ m .start ≡ recordAt rs m .start) × (recordAt rs′ m .size ≡ recordAt rs m .size)
+    known-places m = elim (ℕ-discrete m n) [
+      | yes e ↦ (ap (λ i. recordAt rs′ i .start) e ∙ ap (λ w. w .start) known-record ∙ sym (ap (λ i. recordAt rs i .start) e), ap (λ i. recordAt rs′ i .size) e ∙ ap (λ w. w .size) known-record ∙ sym (ap (λ i. recordAt rs i .size) e))
+      | no o ↦ (ap (λ w. w .start) (known-other m o), ap (λ w. w .size) (known-other m o))
+    ]
+
+    pub known-stays : (m : ℕ) → body rs′ area′ m ≡ body rs area m
+    known-stays m = ap₂ (λ (k j : ℕ). take k (drop j area′)) (known-places m .1) (known-places m .0) ∙ ap (λ l. take (recordAt rs m .size) (drop (recordAt rs m .start) l)) (K .bodies)
+
 -- ---- an added body
 module _ {h : Head} {rs : List Record} {area x : List ℕ} {n : ℕ} {h′ : Head} {rs′ : List Record} {area′ : List ℕ} (C : Chained h rs area) (A : Added h rs area x n h′ rs′ area′) where
   -- the other records stay, and the new one tells where x stands
@@ -108,7 +128,7 @@ module _ {b : Book} {s : List ℕ} {a : Option ℕ} {b′ : Book} where
   pub accepted-stays : Accepted b s a b′ → Stays b b′
   accepted-stays A =
       ⊎-elim
-      (λ k. record { held = omega (arith, ap (λ w. w .held) (k .head)); bodies = λ m g. ap₂ (λ (r : List Record) (l : List ℕ). body r l m) (k .records) (k .bodies) })
+      (λ k. record { held = omega (arith, ap (λ w. w .held) (k .head)); bodies = λ m g. known-stays (A .chained) k m })
       (λ k. record { held = omega (arith, ap (λ w. w .held) (k .head)); bodies = added-stays (A .chained) k })
       (A .gives)
 
@@ -116,13 +136,36 @@ module _ {b : Book} {s : List ℕ} {a : Option ℕ} {b′ : Book} where
   pub accepted-there : (A : Accepted b s a b′) → (1 ≤ A .number) × (A .number ≤ b′ .head .held) × (bodyOf b′ (A .number) ≡ A .file)
   accepted-there A =
       ⊎-elim
-      (λ k. (k .lowest .low, omega (arith, k .lowest .high, ap (λ w. w .held) (k .head)), ap₂ (λ (r : List Record) (l : List ℕ). body r l (A .number)) (k .records) (k .bodies) ∙ k .lowest .there))
+      (λ k. (k .lowest .low, omega (arith, k .lowest .high, ap (λ w. w .held) (k .head)), known-stays (A .chained) k (A .number) ∙ k .lowest .there))
       (λ k. (omega (arith, k .next), omega (arith, k .next, ap (λ w. w .held) (k .head)), added-there (A .chained) k))
       (A .gives)
 
   -- an answer is counted
   pub accepted-counted : (A : Accepted b s a b′) → answersOf (b′ .head) ≡ suc (answersOf (b .head))
   accepted-counted A = ⊎-elim (λ k. ap answersOf (k .head) ∙ add-one (answersOf (b .head))) (λ k. ap answersOf (k .head) ∙ add-one (answersOf (b .head))) (A .gives)
+
+-- one record, that of the number answered, counts one more, and no other changes
+pub record CountsOne (rs rs′ : List Record) (n : ℕ) : Type 0 where
+  pub here : recordAt rs′ n .count ≡ suc (recordAt rs n .count)
+  pub others : (m : ℕ) → m ≢ n → recordAt rs′ m ≡ recordAt rs m
+
+pub gives-counts : {h : Head} {rs : List Record} {area x : List ℕ} {n : ℕ} {h′ : Head} {rs′ : List Record} {area′ : List ℕ} → Chained h rs area → Gives h rs area x n h′ rs′ area′ → CountsOne rs rs′ n
+gives-counts {rs = rs} {n = n} C (inl K) = record { here = ap (λ w. w .count) (known-record C K) ∙ add-one (recordAt rs n .count); others = known-other C K }
+gives-counts {rs = rs} {n = n} C (inr A) = record { here = ap (λ w. w .count) (added-record C A) ∙ ap suc (sym (ap (λ w. w .count) (C .lies .unused .none n (omega (arith, A .next)) (omega (arith, A .next, A .room .few))))); others = added-other C A }
+
+-- so their sum rises by one
+counts-same : (rs rs′ : List Record) (k : ℕ) → ((m : ℕ) → m < k → recordAt rs′ m ≡ recordAt rs m) → tally rs′ k ≡ tally rs k
+unfolding tally
+counts-same rs rs′ zero f = refl
+counts-same rs rs′ (suc k) f = ap₂ _+_ (counts-same rs rs′ k (λ m l. f m (omega arith))) (ap (λ w. w .count) (f k (omega arith)))
+
+pub tally-one : {rs rs′ : List Record} {n : ℕ} (k : ℕ) → CountsOne rs rs′ n → n < k → tally rs′ k ≡ suc (tally rs k)
+unfolding tally
+tally-one zero O l = absurd (omega arith)
+tally-one {rs} {rs′} {n} (suc k) O l = elim (ℕ-discrete n k) [
+  | yes e ↦ let f : (m : ℕ) → m < k → recordAt rs′ m ≡ recordAt rs m = λ m g. O .others m (λ z. omega arith) in omega (arith, counts-same rs rs′ k f, ap (λ i. recordAt rs′ i .count) (sym e), O .here, ap (λ i. recordAt rs i .count) e)
+  | no o ↦ let g : n < k = omega (arith, o) in let d : (k ≡ n → ⊥) = λ z. o (sym z) in omega (arith, tally-one k O g, ap (λ w. w .count) (O .others k d))
+]
 
 -- ---- the items: the bodies from 1 on
 unfoldable pub items : List Record → List ℕ → ℕ → ℕ → List (List ℕ)

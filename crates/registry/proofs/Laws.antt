@@ -1,11 +1,15 @@
 -- The registry over lists of calls: an accepted making and any entries after it, refused ones included, each lent what the call before left.
 -- Assumes nothing.
-use Prim.Native.Nat.{ℕ, suc, _-_, _≤_}
+use Prim.Native.Nat.{ℕ, suc, _+_, _-_, _≤_, _<_}
+use native.Mathlib.Decide.{ℕ-discrete}
 use native.Mathlib.Omega.{arith}
+use mathlib.Core.Bool.{true, false}
 use mathlib.Core.List.{List, [], _∷_, List·Memᴰ, List·Memᴰ·head, List·Memᴰ·tail, List·Memᴰ·not-nil, List·Memᴰ·cases-cons}
 use mathlib.Core.Logic.{_↔_, ⊎-elim}
 use mathlib.Core.Option.{some, Option, none as nothing}
 use mathlib.Core.Path.{_≡_, refl, sym, ap, subst, _∙_}
+use lib.Dec.{eqb}
+use borrow.Author.Tests.{eq-eqb, ne-eqb}
 use Rattle.theory.specs.Inner.Keeps.{Keeps, Entry, accepted, refused}
 use Rattle.theory.specs.Registry.{History, begun, entered}
 use Rattle.theory.proofs.Registry.{numbers-exact}
@@ -13,10 +17,10 @@ use Rattle.theory.proofs.Terms.{conflict}
 use Rattle.canonical.specs.Answers.{SewAlike}
 use Rattle.canonical.proofs.Laws.{clean-exact, sheets-alike}
 use Rattle.records.specs.Answers.{CleanFile}
-use Rattle.records.specs.Book.{answersOf}
-use Rattle.registry.specs.Calls.{Book, MadeWith, EntersFile, Entries, acceptances, Orderly, Stays}
-use Rattle.registry.proofs.Keeping.{answered-by, bodyOf, stays-refl, stays-trans, unchanged-stays, accepted-there, accepted-counted, items, itemsOf, same-items, accepted-enters}
-use Rattle.registry.proofs.Standing.{made-head, entry-stays, stock-stays, still-chained}
+use Rattle.records.specs.Book.{answersOf, recordAt}
+use Rattle.registry.specs.Calls.{Book, MadeWith, EntersFile, Entries, oneIf, acceptances, acceptedWith, Orderly, Stays}
+use Rattle.registry.proofs.Keeping.{Accepted, answered-by, gives-counts, bodyOf, stays-refl, stays-trans, unchanged-stays, accepted-there, accepted-counted, items, itemsOf, same-items, accepted-enters}
+use Rattle.registry.proofs.Standing.{made-head, made-counts, entry-stays, stock-stays, still-chained}
 
 -- Bodies stay: whatever list of entries follows on b₀, each body that was held is held at its number, and there are never fewer.
 pub bodies-stay : {b₀ : Book} {log : List (List ℕ × Option ℕ)} {b : Book} → History (λ c. c ≡ b₀) EntersFile log b → Stays b₀ b
@@ -29,6 +33,15 @@ record Numbered (stock : List ℕ) (b : Book) (s : List ℕ) (n : ℕ) : Type 0 
   high : n ≤ b .head .held
   clean : CleanFile stock s (bodyOf b n)
 
+-- the record of the number answered counts one more
+one-more : {b : Book} {t : List ℕ} {a : Option ℕ} {b′ : Book} (A : Accepted b t a b′) (n k : ℕ) → recordAt (b .records) n .count ≡ k → recordAt (b′ .records) n .count ≡ oneIf (eqb n (A .number)) + k
+one-more {b} {b′ = b′} A n k e =
+    let O = gives-counts (A .chained) (A .gives) in
+    elim (ℕ-discrete n (A .number)) [
+      | yes z ↦ let q : eqb n (A .number) ≡ true = eq-eqb n (A .number) z in rw q (omega (arith, ap (λ i. recordAt (b′ .records) i .count) z, O .here, ap (λ i. recordAt (b .records) i .count) z, e))
+      | no o ↦ let q : eqb n (A .number) ≡ false = ne-eqb n (A .number) o in rw q (omega (arith, ap (λ w. w .count) (O .others n o), e))
+    ]
+
 module _ {stock : List ℕ} where
   -- the count is that of the entries accepted
   pub counted : {log : List (List ℕ × Option ℕ)} {b : Book} → Entries stock log b → answersOf (b .head) ≡ acceptances log
@@ -38,6 +51,16 @@ module _ {stock : List ℕ} where
       ⊎-elim
       (λ U. ap answersOf (U .head) ∙ counted h ∙ ap (λ o. acceptances ((t, o) ∷ log)) (sym (U .answer)))
       (λ A. accepted-counted A ∙ ap suc (counted h) ∙ ap (λ o. acceptances ((t, o) ∷ log)) (sym (A .answer)))
+      (answered-by E)
+
+  -- and so of each record
+  pub counted-each : {log : List (List ℕ × Option ℕ)} {b : Book} (n : ℕ) → n < 33 → Entries stock log b → recordAt (b .records) n .count ≡ acceptedWith n log
+  unfolding acceptedWith
+  counted-each n g (begun M) = made-counts M n g
+  counted-each n g (entered {log} {t} h E) =
+      ⊎-elim
+      (λ U. ap (λ w. recordAt w n .count) (U .records) ∙ counted-each n g h ∙ ap (λ o. acceptedWith n ((t, o) ∷ log)) (sym (U .answer)))
+      (λ A. one-more A n (acceptedWith n log) (counted-each n g h) ∙ ap (λ o. acceptedWith n ((t, o) ∷ log)) (sym (A .answer)))
       (answered-by E)
 
   stays-numbered : {b b′ : Book} {s : List ℕ} {n : ℕ} → Stays b b′ → Numbered stock b s n → Numbered stock b′ s n
@@ -151,6 +174,7 @@ registry-laws h = record {
   exact = λ s s′ n n′ m m′. numbers-alike s s′ n n′ h m m′;
   there = λ s n m. let N = numbered h m in (N .low, N .high, N .clean);
   answered = counted h;
+  counts = λ n g. counted-each n g h;
   alphabets = stock-stays h;
   stands = still-chained h;
 }

@@ -67,7 +67,7 @@ slB = sliceTy ptrB
 
 -- how many bytes a record has in memory
 abbrev pub recordBytes : ℕ
-recordBytes = 16
+recordBytes = 24
 
 -- the records, as they are lent alone: for reading, and for writing
 abbrev pub recordsI : Ty

@@ -1,7 +1,7 @@
 -- What a making and any entries leave is a registry again, as long as one more answer can be counted; and what an entry answers whose clean file is known and has a place.
 -- Assumes nothing.
 use Prim.Native.Nat.{ℕ, zero, suc, _+_, _≤_, _<_}
-use native.Mathlib.Omega.{arith, by-contra}
+use native.Mathlib.Omega.{arith}
 use mathlib.Core.List.{List, _∷_, _++_}
 use mathlib.Core.Logic.{inl, inr, ⊎-elim}
 use mathlib.Core.Option.{some, Option}
@@ -18,15 +18,15 @@ use Rattle.formats.proofs.Sheets.{sheet-counted}
 use Rattle.earliest.specs.Answers.{EarliestFile, formCheck}
 use Rattle.canonical.specs.Answers.{NormalFile}
 use Rattle.records.specs.Answers.{CleanFile, Lowest, NotHeld, Room, HasPlace, Known, Added, Gives, numberOf}
-use Rattle.records.specs.Book.{answersOf, tooMany, newHead, countedHead, grownHead, noRecord, stockRecord, bodyRecord, recordAt, body, Follow, Unused, Chained}
+use Rattle.records.specs.Book.{answersOf, tooMany, newHead, countedHead, grownHead, noRecord, stockRecord, bodyRecord, countedRecord, recordAt, body, tally, Follow, Unused, Lies, Sound, Chained}
 use Rattle.records.specs.declared.book.Entered.{Entered}
 use Rattle.records.specs.declared.book.Entered.the-variants.{Number, Refused}
 use Rattle.records.specs.declared.book.Head.{Head}
 use Rattle.records.specs.declared.book.Record.{Record}
-use Rattle.records.proofs.Chains.{Passed, passed-none, passed-more, passed-same, all-passed, follow-passed}
-use Rattle.records.proofs.Entering.{clean-unique}
+use Rattle.records.proofs.Chains.{Passed, passed-none, passed-more, passed-same, all-passed, follow-passed, follow-places}
+use Rattle.records.proofs.Entering.{clean-unique, lowest-unique}
 use Rattle.registry.specs.Calls.{Book, MadeWith, EntersFile, Entries, answerOf, Stays}
-use Rattle.registry.proofs.Keeping.{Accepted, answered-by, bodyOf, unchanged-stays, accepted-stays, added-other, added-record, added-stays, put-there}
+use Rattle.registry.proofs.Keeping.{Accepted, answered-by, bodyOf, unchanged-stays, accepted-stays, known-other, known-places, known-stays, added-other, added-record, added-stays, put-there, gives-counts, tally-one}
 
 -- ---- an accepted making
 module _ {stock : List ℕ} {b : Book} (M : MadeWith stock b) where
@@ -68,8 +68,23 @@ module _ (r : Record) (rs : List Record) where
   fresh-follow : r .start ≡ 0 → Follow 0 (r .size) (fresh r rs)
   fresh-follow e = all-passed (passed-more passed-none refl e) refl (omega arith)
 
+  fresh-each : r .count ≡ 0 → (i : ℕ) → i < 33 → recordAt (fresh r rs) i .count ≡ 0
+  fresh-each e zero g = e
+  fresh-each e (suc i) g = ap (λ w. w .count) (fresh-unused .none (suc i) (omega arith) g)
+
+  none-counted : r .count ≡ 0 → (k : ℕ) → k ≤ 33 → tally (fresh r rs) k ≡ 0
+  unfolding tally
+  none-counted e zero g = refl
+  none-counted e (suc k) g = omega (arith, none-counted e k (omega arith), fresh-each e k (omega arith))
+
+  fresh-counts : r .count ≡ 0 → tally (fresh r rs) 33 ≡ 0
+  fresh-counts e = none-counted e 33 (omega arith)
+
 chained-same : {h h′ : Head} {rs rs′ : List Record} {area area′ : List ℕ} → h′ ≡ h → rs′ ≡ rs → area′ ≡ area → Chained h rs area → Chained h′ rs′ area′
 chained-same {h} {h′} {rs} {rs′} {area} {area′} e f g C = subst (λ w. Chained w rs′ area′) (sym e) (subst (λ w. Chained h w area′) (sym f) (subst (λ w. Chained h rs w) (sym g) C))
+
+pub made-counts : {stock : List ℕ} {b : Book} → MadeWith stock b → (n : ℕ) → n < 33 → recordAt (b .records) n .count ≡ 0
+made-counts {stock} M n g = ap (λ w. recordAt w n .count) (accepted-holds (M .call) .1 .records) ∙ fresh-each (stockRecord (length stock)) (drop 33 (M .before .records)) refl n g
 
 made-chained : {stock : List ℕ} {b : Book} → MadeWith stock b → bodyOf b 0 ≡ stock → Chained (b .head) (b .records) (b .area)
 unfolding Holds
@@ -87,13 +102,33 @@ made-chained {stock} {b} M e =
         unused = fresh-unused r rs;
         stock = subst Alphabets (sym (ap (λ v. body v (b .area) 0) (sym (B .records)) ∙ e)) (w .0 .1 .0);
       };
-      counts = record { countable = omega arith };
+      counts = record { countable = omega arith; stock = refl; sum = fresh-counts r rs refl };
     })
 
 -- ---- an entry
 module _ {h : Head} {rs : List Record} {area x : List ℕ} {n : ℕ} {h′ : Head} {rs′ : List Record} {area′ : List ℕ} (C : Chained h rs area) where
-  known-chained : Known h rs area x n h′ rs′ area′ → answersOf h′ < tooMany → Chained h′ rs′ area′
-  known-chained K g = chained-same (K .head) (K .records) (K .bodies) (record { lies = record { many = C .lies .many; few = C .lies .few; follow = C .lies .follow; inside = C .lies .inside; unused = C .lies .unused; stock = C .lies .stock }; counts = record { countable = omega (arith, ap answersOf (K .head)) } })
+  -- the counts stay sound
+  gives-sound : Gives h rs area x n h′ rs′ area′ → 1 ≤ n → n < 33 → answersOf h′ ≡ answersOf h + 1 → answersOf h′ < tooMany → Sound h′ rs′
+  gives-sound G low high e g =
+      let O = gives-counts C G in
+      record { countable = g; stock = ap (λ w. w .count) (O .others 0 (λ z. omega arith)) ∙ C .counts .stock; sum = omega (arith, tally-one 33 O high, C .counts .sum) }
+
+  module _ (K : Known h rs area x n h′ rs′ area′) where
+    known-follow : Follow (h .held) (h .used) rs′
+    known-follow = follow-places rs rs′ (known-places C K) (C .lies .follow)
+
+    known-lies : Lies (countedHead h) rs′ area′
+    known-lies = record {
+      many = omega (arith, C .lies .many, ap length (K .records), length-set rs n (countedRecord (recordAt rs n)));
+      few = C .lies .few;
+      follow = known-follow;
+      inside = omega (arith, C .lies .inside, ap length (K .bodies));
+      unused = record { none = λ i g l. known-other C K i (λ e. omega (arith, K .lowest .high)) ∙ C .lies .unused .none i g l };
+      stock = subst Alphabets (sym (known-stays C K 0)) (C .lies .stock);
+    }
+
+    known-chained : answersOf h′ < tooMany → Chained h′ rs′ area′
+    known-chained g = chained-same (K .head) refl refl (record { lies = known-lies; counts = subst (λ w. Sound w rs′) (K .head) (gives-sound (inl K) (K .lowest .low) (omega (arith, K .lowest .high, C .lies .few)) (ap answersOf (K .head)) g) })
 
   module _ (A : Added h rs area x n h′ rs′ area′) where
     added-follow : Follow (h .held + 1) (h .used + length x) rs′
@@ -115,7 +150,7 @@ module _ {h : Head} {rs : List Record} {area x : List ℕ} {n : ℕ} {h′ : Hea
         unused = added-unused;
         stock = subst Alphabets (sym (added-stays C A 0 (omega arith))) (C .lies .stock);
       };
-      counts = record { countable = omega (arith, ap answersOf (A .head)) };
+      counts = subst (λ w. Sound w rs′) (A .head) (gives-sound (inr A) (omega (arith, A .next)) (omega (arith, A .next, A .room .few)) (ap answersOf (A .head)) g);
     })
 
 gives-area : {h : Head} {rs : List Record} {area x : List ℕ} {n : ℕ} {h′ : Head} {rs′ : List Record} {area′ : List ℕ} → Gives h rs area x n h′ rs′ area′ → length area′ ≡ length area
@@ -149,9 +184,6 @@ cleans-to {k} {counts} {bytes} F e E = record { checks = (sheet-counted (F .shee
 told : (r : Entered) {a : Option ℕ} {n : ℕ} → answerOf r ≡ a → numberOf r ≡ accepted n → a ≡ some n
 told (Number m) {n = n} e f = let z : m ≡ n = cc in sym e ∙ ap (λ k. some k) z
 told (Refused q) e f = conflict (cc)
-
-lowest-unique : {held : ℕ} {rs : List Record} {area x : List ℕ} {m n : ℕ} → Lowest held rs area x m → Lowest held rs area x n → m ≡ n
-lowest-unique {m = m} {n = n} L K = omega (arith, by-contra m n (λ g. L .first n (K .low) g (K .there)), by-contra n m (λ g. K .first m (L .low) g (L .there)))
 
 module _ {stock : List ℕ} {b : Book} {s x : List ℕ} {a : Option ℕ} {b′ : Book} (C : Chained (b .head) (b .records) (b .area)) (same : bodyOf b 0 ≡ stock) (k : CleansTo stock s x) (E : EntersFile b s a b′) where
   -- it gets a number, if it is held or there is room for it
@@ -196,7 +228,7 @@ module _ {stock : List ℕ} {b : Book} {s x : List ℕ} (C : Chained (b .head) (
 
   pub enters-known : {n : ℕ} → Lowest (b .head .held) (b .records) (b .area) x n → (b′ : Book) × EntersFile b s (some n) b′
   enters-known {n} L =
-      let b′ : Book = record { head = countedHead (b .head); records = b .records; area = b .area } in
+      let b′ : Book = record { head = countedHead (b .head); records = set (b .records) n (countedRecord (recordAt (b .records) n)); area = b .area } in
       (b′, gave n b′ (inl (n, L)) (inl (record { lowest = L; head = refl; records = refl; bodies = refl })))
 
   pub enters-new : NotHeld (b .head .held) (b .records) (b .area) x → Room (b .head) (b .area) x → (b′ : Book) × EntersFile b s (some (b .head .held + 1)) b′

@@ -1,13 +1,15 @@
 -- Lists of calls: an accepted making, then entries, each lent head, records and area as the call before it left them.
-use Prim.Native.Nat.{ℕ, suc, _≤_, _<_}
+use Prim.Native.Nat.{ℕ, suc, _+_, _≤_, _<_}
+use mathlib.Core.Bool.{Bool, true, false}
 use mathlib.Core.List.{List, [], _∷_, List·Memᴰ}
 use mathlib.Core.Logic.{_↔_}
 use mathlib.Core.Option.{some, Option, none as nothing}
 use mathlib.Core.Path.{_≡_}
+use lib.Dec.{eqb}
 use Rattle.theory.specs.Registry.{History}
 use Rattle.canonical.specs.Answers.{SewAlike}
 use Rattle.records.specs.Answers.{Makes, CleanFile, Enters}
-use Rattle.records.specs.Book.{answersOf, tooMany, body, Chained}
+use Rattle.records.specs.Book.{answersOf, tooMany, recordAt, body, Chained}
 use Rattle.records.specs.declared.book.Head.{Head}
 use Rattle.records.specs.declared.book.Record.{Record}
 use Rattle.records.specs.declared.book.Entered.{Entered}
@@ -40,11 +42,21 @@ pub record EntersFile (b : Book) (s : List ℕ) (a : Option ℕ) (b′ : Book) :
 abbrev pub Entries : List ℕ → List (List ℕ × Option ℕ) → Book → Type 0
 Entries stock log b = History (MadeWith stock) EntersFile log b
 
+abbrev pub oneIf : Bool → ℕ
+oneIf true = 1
+oneIf false = 0
+
 -- how many entries were accepted
 unfoldable pub acceptances : List (List ℕ × Option ℕ) → ℕ
 acceptances [] = 0
 acceptances ((s, some n) ∷ log) = suc (acceptances log)
 acceptances ((s, nothing) ∷ log) = acceptances log
+
+-- how many entries were accepted with the number n
+unfoldable pub acceptedWith : ℕ → List (List ℕ × Option ℕ) → ℕ
+acceptedWith n [] = 0
+acceptedWith n ((s, some m) ∷ log) = oneIf (eqb n m) + acceptedWith n log
+acceptedWith n ((s, nothing) ∷ log) = acceptedWith n log
 
 -- what is promised of such a list, of any length and with any files
 pub record Orderly (stock : List ℕ) (log : List (List ℕ × Option ℕ)) (b : Book) : Type 0 where
@@ -54,6 +66,8 @@ pub record Orderly (stock : List ℕ) (log : List (List ℕ × Option ℕ)) (b :
   pub there : (s : List ℕ) (n : ℕ) → List·Memᴰ (s, some n) log → (1 ≤ n) × (n ≤ b .head .held) × CleanFile stock s (body (b .records) (b .area) n)
   -- the count is that of the entries accepted
   pub answered : answersOf (b .head) ≡ acceptances log
+  -- the count of each record is that of the entries accepted with its number
+  pub counts : (n : ℕ) → n < 33 → recordAt (b .records) n .count ≡ acceptedWith n log
   -- the alphabets are those of the making
   pub alphabets : body (b .records) (b .area) 0 ≡ stock
   -- what is left is a registry: no entry is refused by 9 before as many entries are answered as can be counted

@@ -8,6 +8,7 @@ ghost use Rattle.records.specs.Inner.Surveys.{Surveyed};
 ghost use Rattle.records.specs.Inner.Writes.{freshRecords, written, added};
 use records::book::Entered;
 use records::book::Head;
+use records::book::Located;
 use records::book::Made;
 use records::book::Record;
 use records::book::Survey;
@@ -20,6 +21,7 @@ use records::making::fresh;
 use records::making::held_body;
 use records::making::start;
 use records::search::first_of;
+use records::search::nowhere;
 
 // How many of n records a registry has to do with.
 fn at_most_33(n: usize) -> usize
@@ -42,18 +44,18 @@ fn survey(rs: &[Record], h: Head, number: usize) -> Survey
     s
 }
 
-// The lowest number, from 1 on, whose body is these bytes; 0 where none is.
-fn find(rs: &[Record], held: usize, area: &[u8], bytes: &[u8]) -> usize
+// The lowest number, from 1 on, whose body is these bytes, and its record; 0 where none is.
+fn find(rs: &[Record], held: usize, area: &[u8], bytes: &[u8]) -> Located
     requires { ⌜ Placed held (now rs) (now area) ⌝ }
-    ensures { λ n. ⌜ Finds held (now (rs .entry)) (now (area .entry)) (now (bytes .entry)) n ⌝ }
+    ensures { λ f. ⌜ Finds held (now (rs .entry)) (now (area .entry)) (now (bytes .entry)) f ⌝ }
 {
-    let mut n: usize = 0;
+    let mut f = nowhere();
     let mut i: usize = 1;
     while i <= held {
-        n = first_of(n, i, rs[i], area, bytes);
+        f = first_of(f, i, rs[i], area, bytes);
         i += 1;
     }
-    n
+    f
 }
 
 // Writes the record with number n; nothing where that is 0, the number of the alphabets.
@@ -87,8 +89,8 @@ pub fn enter(head: &mut Head, records: &mut [Record], area: &mut [u8], sheet: &[
     let mut file = [0u8; 20483];
     let a = ask(h, records.len(), s, area, sheet, &mut file);
     let bytes = beginning(&file, a.size);
-    let n = find(records, a.held, area, bytes);
-    let e = place(h, a, n, area, bytes);
+    let f = find(records, a.held, area, bytes);
+    let e = place(h, a, f, area, bytes);
     *head = e.head;
     add(records, e.number, e.new);
     e.answer

@@ -4,7 +4,7 @@ use Prim.Native.Nat.{ℕ, _+_, _≤_}
 use native.Mathlib.Omega.{arith}
 use mathlib.Core.List.{List, [], _∷_, map}
 use mathlib.Core.Option.{Option, some}
-use mathlib.Core.Path.{_≡_, refl, sym, ap, ap₂, _∙_}
+use mathlib.Core.Path.{_≡_, refl, sym, ap, _∙_}
 use lib.ListN.{length, getD}
 use Rattle.theory.specs.Registry.{begun, entered}
 use Rattle.trees.specs.Refusal.{Holds}
@@ -15,10 +15,9 @@ use Rattle.canonical.proofs.Laws.{clean-accepted}
 use Rattle.canonical.proofs.SampleTrimmed.{T′-trims, U-trims}
 use Rattle.canonical.proofs.Samples.{T-cleans, T′-cleans, U-cleans}
 use Rattle.records.specs.Answers.{Lowest, NotHeld, Room, Known, Added}
-use Rattle.records.specs.Book.{body, Chained}
-use Rattle.records.specs.declared.book.Record.{Record}
+use Rattle.records.specs.Book.{Chained}
 use Rattle.registry.specs.Calls.{Book, MadeWith, EntersFile, Entries}
-use Rattle.registry.proofs.Keeping.{bodyOf, added-there}
+use Rattle.registry.proofs.Keeping.{bodyOf, added-there, known-stays}
 use Rattle.registry.proofs.Standing.{made-head, stock-stays, CleansTo, cleans-to, still-chained, entered-known, entered-new, area-kept, makes, enters-known, enters-new}
 use Rattle.table.specs.Table.{Registered}
 
@@ -93,7 +92,7 @@ module _ {b₀ : Book} (M : MadeWith S b₀) (room : length (b₀ .area) ≡ 60)
       unlike : (m : ℕ) → 1 ≤ m → m ≤ b₂ .head .held → bodyOf b₂ m ≡ U-clean → ⊥
       unlike m l k e =
           let z : 1 ≡ m = omega (arith, ap (λ w. w .held) head₂) in
-          let t : bodyOf b₂ 1 ≡ T = ap₂ (λ (r : List Record) (w : List ℕ). body r w 1) (second .1 .records) (second .1 .bodies) ∙ body₁ in
+          let t : bodyOf b₂ 1 ≡ T = known-stays chained₁ (second .1) 1 ∙ body₁ in
           omega (arith, ap length (sym t ∙ ap (bodyOf b₂) z ∙ e))
 
       new₂ : NotHeld (b₂ .head .held) (b₂ .records) (b₂ .area) U-clean

@@ -11,13 +11,14 @@ use Rattle.trees.specs.declared.refusal.Refusal.{Refusal}
 use Rattle.trees.specs.declared.refusal.Refusal.the-variants as refusing
 use Rattle.earliest.specs.Answers.{formCheck}
 use Rattle.records.specs.Answers.{CleanFile, Lowest, NotHeld, Room, HasPlace, Gets, Enters}
-use Rattle.records.specs.Book.{answersOf, tooMany, noRecord, bodyRecord, countedHead, grownHead, recordAt, body, Chained}
+use Rattle.records.specs.Book.{answersOf, tooMany, noRecord, bodyRecord, countedRecord, countedHead, grownHead, recordAt, body, Chained}
 use Rattle.records.specs.Inner.Writes.{added}
 use Rattle.records.specs.declared.book.Asked.{Asked}
 use Rattle.records.specs.declared.book.Entered.{Entered}
 use Rattle.records.specs.declared.book.Entered.the-variants as entering
 use Rattle.records.specs.declared.book.Entry.{Entry}
 use Rattle.records.specs.declared.book.Head.{Head}
+use Rattle.records.specs.declared.book.Located.{Located}
 use Rattle.records.specs.declared.book.Made.{Made}
 use Rattle.records.specs.declared.book.Made.the-variants as making
 use Rattle.records.specs.declared.book.Record.{Record}
@@ -32,9 +33,9 @@ pub record Placed (held : ℕ) (rs : List Record) (area : List ℕ) : Type 0 whe
   pub there : (i : ℕ) → 1 ≤ i → i ≤ held → i < length rs
   pub ends : (i : ℕ) → 1 ≤ i → i ≤ held → recordAt rs i .start + recordAt rs i .size ≤ length area
 
--- n is the lowest number, from 1 to `held`, with these bytes, or 0 where there is none
-abbrev pub Finds : ℕ → List Record → List ℕ → List ℕ → ℕ → Type 0
-Finds held rs area x n = ((n ≡ 0) × NotHeld held rs area x) ⊎ Lowest held rs area x n
+-- f has the lowest number, from 1 to `held`, with these bytes, and its record; or 0 where there is none
+abbrev pub Finds : ℕ → List Record → List ℕ → List ℕ → Located → Type 0
+Finds held rs area x f = ((f .number ≡ 0) × NotHeld held rs area x) ⊎ (Lowest held rs area x (f .number) × (f .its ≡ recordAt rs (f .number)))
 
 -- ---- before the search: a registry and a clean file, or the refusal
 abbrev pub clean : Verdict
@@ -70,27 +71,29 @@ abbrev pub Numbers : Head → List Record → List ℕ → List ℕ → Entered 
 Numbers h rs area x (entering.Number n) = Gets h rs area x n
 Numbers h rs area x (entering.Refused q) = (q ≡ refusing.FullRegistry) × (HasPlace h rs area x → ⊥)
 
--- n is the number that the clean file x of s would get
-pub record Granted (s : List ℕ) (h : Head) (rs : List Record) (area x : List ℕ) (n : ℕ) : Type 0 where
+-- n is the number that the clean file x of s would get, and r the record of n where x is held
+pub record Granted (s : List ℕ) (h : Head) (rs : List Record) (area x : List ℕ) (r : Record) (n : ℕ) : Type 0 where
   pub chained : Chained h rs area
   pub checks : Holds (sheetCheck (body rs area 0) s (formCheck (body rs area 0) s done))
   pub file : CleanFile (body rs area 0) s x
   pub gets : Gets h rs area x n
+  pub its : n ≤ h .held → r ≡ recordAt rs n
 
 -- that number, or the refusal of an entry of s
-abbrev pub Decided : List ℕ → Head → List Record → List ℕ → List ℕ → Entered → Type 0
-Decided s h rs area x (entering.Number n) = Granted s h rs area x n
-Decided s h rs area x (entering.Refused q) = Enters s h rs area h rs area (entering.Refused q)
+abbrev pub Decided : List ℕ → Head → List Record → List ℕ → List ℕ → Record → Entered → Type 0
+Decided s h rs area x r (entering.Number n) = Granted s h rs area x r n
+Decided s h rs area x r (entering.Refused q) = Enters s h rs area h rs area (entering.Refused q)
 
--- ---- the commit of the number n for the bytes x
--- what it asks of the head and the area
-pub record Fits (h : Head) (area x : List ℕ) (n : ℕ) : Type 0 where
+-- ---- the commit of the number n for the bytes x, which have the record r where they are held
+-- what it asks of the head, the record and the area
+pub record Fits (h : Head) (n : ℕ) (r : Record) (area x : List ℕ) : Type 0 where
   pub countable : answersOf h < tooMany
+  pub count : n ≤ h .held → r .count < tooMany
   pub room : h .held < n → Room h area x
 
-abbrev pub Fit : Head → List ℕ → List ℕ → Entered → Type 0
-Fit h area x (entering.Number n) = Fits h area x n
-Fit h area x (entering.Refused q) = Unit {0}
+abbrev pub Fit : Head → Entered → Record → List ℕ → List ℕ → Type 0
+Fit h (entering.Number n) r area x = Fits h n r area x
+Fit h (entering.Refused q) r area x = Unit {0}
 
 -- x is put behind what is held, with the next number
 pub record Adds (h : Head) (area x : List ℕ) (r : Entry) (area′ : List ℕ) : Type 0 where
@@ -100,14 +103,15 @@ pub record Adds (h : Head) (area x : List ℕ) (r : Entry) (area′ : List ℕ) 
   pub bodies : area′ ≡ sets area (h .used) x
   pub answer : r .answer ≡ entering.Number (h .held + 1)
 
--- the answer n is counted, and nothing else changes
-pub record Counts (h : Head) (n : ℕ) (r : Entry) : Type 0 where
-  pub head : r .head ≡ countedHead h
-  pub number : r .number ≡ 0
-  pub answer : r .answer ≡ entering.Number n
+-- the answer n is counted, in the head and in its record r, and nothing else changes
+pub record Counts (h : Head) (n : ℕ) (r : Record) (e : Entry) : Type 0 where
+  pub head : e .head ≡ countedHead h
+  pub number : e .number ≡ n
+  pub new : e .new ≡ countedRecord r
+  pub answer : e .answer ≡ entering.Number n
 
-abbrev pub Puts : Head → ℕ → List ℕ → List ℕ → Entry → List ℕ → Type 0
-Puts h n area x r area′ = ((n ≤ h .held) × Counts h n r × (area′ ≡ area)) ⊎ ((h .held < n) × Adds h area x r area′)
+abbrev pub Puts : Head → ℕ → Record → List ℕ → List ℕ → Entry → List ℕ → Type 0
+Puts h n r area x e area′ = ((n ≤ h .held) × Counts h n r e × (area′ ≡ area)) ⊎ ((h .held < n) × Adds h area x e area′)
 
 -- a refusal as an answer, which changes nothing
 abbrev pub refusedBy : Refusal → Entered
@@ -117,16 +121,16 @@ abbrev pub unchanged : Head → Entered → Entry
 unchanged h a = record { head = h; number = 0; new = noRecord; answer = a }
 
 -- the commit of a number, or of a refusal
-abbrev pub Settled : Head → Entered → List ℕ → List ℕ → Entry → List ℕ → Type 0
-Settled h (entering.Number n) area x r area′ = Puts h n area x r area′
-Settled h (entering.Refused q) area x r area′ = (r ≡ unchanged h (entering.Refused q)) × (area′ ≡ area)
+abbrev pub Settled : Head → Entered → Record → List ℕ → List ℕ → Entry → List ℕ → Type 0
+Settled h (entering.Number n) r area x e area′ = Puts h n r area x e area′
+Settled h (entering.Refused q) r area x e area′ = (e ≡ unchanged h (entering.Refused q)) × (area′ ≡ area)
 
--- after the search, which found x at n
-pub record Searched (h : Head) (a : Asked) (n : ℕ) (area x : List ℕ) : Type 0 where
+-- after the search for x, which found f
+pub record Searched (h : Head) (a : Asked) (f : Located) (area x : List ℕ) : Type 0 where
   pub file : List ℕ
   pub records : List Record
   pub asks : Asks file h records area x a
-  pub finds : Finds (a .held) records area x n
+  pub finds : Finds (a .held) records area x f
 
 -- an entry of the file s, with what is left of the records
 pub record Places (s : List ℕ) (h : Head) (rs : List Record) (area : List ℕ) (r : Entry) (area′ : List ℕ) : Type 0 where

@@ -6,7 +6,7 @@ use mathlib.Core.Path.{_≡_}
 use lib.Dec.{eqb}
 use lib.ListN.{length}
 use Rattle.trees.specs.Refusal.{Decides}
-use Rattle.records.specs.Book.{noRecord, recordAt, total}
+use Rattle.records.specs.Book.{noRecord, tooMany, recordAt, total, tally}
 use Rattle.records.specs.declared.book.Head.{Head}
 use Rattle.records.specs.declared.book.Record.{Record}
 use Rattle.records.specs.declared.book.Survey.{Survey}
@@ -22,6 +22,7 @@ pub record Surveyed (h : Head) (number : ℕ) (rs : List Record) (n : ℕ) (s : 
   pub right : Decides (Right (h .held) (h .used) rs n) (s .right)
   pub end : s .right ≡ true → s .end ≡ total rs (min n (suc (h .held)))
   pub inside : s .end ≤ h .used
+  pub counts : s .counted ≡ min (tally rs n) tooMany
   pub first : 0 < n → s .first ≡ recordAt rs 0
   pub wanted : number < n → s .wanted ≡ recordAt rs number
 

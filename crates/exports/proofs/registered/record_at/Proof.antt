@@ -46,6 +46,7 @@ use Rattle.records.specs.Book.{noRecord, recordAt}
 use Rattle.records.specs.declared.book.Record.{Record}
 use Rattle.records.proofs.book.Record as R
 use Rattle.records.proofs.book.Record.Laws as R′
+use Rattle.registry.proofs.Locals.{recordBytes}
 use Rattle.exports.proofs.registered.record_at.Key.{name as #exports·registered·record-at}
 use Rattle.exports.proofs.registered.record_at as this
 use Rattle.exports.proofs.registered.record_at.Statement as stated
@@ -110,9 +111,9 @@ module _ {M : Type 1} (𝓤 : URA M) (H : Heap 𝓤) (A : Atoms 𝓤) (W : Given
     inside l =
         first ! $ branches ! (load ! (from ! (stop !)) (look ! 6 refl))
         (λ _.
-        assigns ! (bin ! (load ! (from ! (stop !)) (look ! 10 refl)) (lit ! tt) (scaled-fits i (length ys) 16 l (gn .1))) (from ! (stop !)) (init ! 4 refl (tt, scaled-fits i (length ys) 16 l (gn .1))) $
+        assigns ! (bin ! (load ! (from ! (stop !)) (look ! 10 refl)) (lit ! tt) (scaled-fits i (length ys) recordBytes l (gn .1))) (from ! (stop !)) (init ! 4 refl (tt, scaled-fits i (length ys) recordBytes l (gn .1))) $
         assigns ! (bin ! (load ! (from ! (fld ! refl (stop !))) (look-in ! 12 (sub ! 0 refl (whole !)))) (load ! (from ! (stop !)) (look ! 4 refl)) tt) (from ! (stop !)) (init ! 2 refl (tt, tt)) $
-        rewrite ! 2 (λ (p : ℕ). ‵ (fat fullShare tyPtr l₆ 0 (vptr b p))) (sym (place-is 16 o i)) refl $
+        rewrite ! 2 (λ (p : ℕ). ‵ (fat fullShare tyPtr l₆ 0 (vptr b p))) (sym (place-is recordBytes o i)) refl $
         move ! (17 ∷ []) $ fsplit ! $ move ! (1 ∷ []) $ fsplit ! $ move ! (1 ∷ 19 ∷ []) $
         looks-slice ! tt R.the-row (Is R.the-row) (shows 𝓤 H A R.the-row) (LL.vals R.the-type R′.the-laws) (LL.tells R.the-type R′.the-laws) (LL.copy R.the-type R′.the-copy 𝓤 H A W) ys b o (λ q′.
         elem-out ! R.the-row (Is R.the-row) (shows 𝓤 H A R.the-row) (LL.vals R.the-type R′.the-laws) (LL.tells R.the-type R′.the-laws) q′ ys i noRecord b o l (λ g.
@@ -130,13 +131,13 @@ module _ {M : Type 1} (𝓤 : URA M) (H : Heap 𝓤) (A : Atoms 𝓤) (W : Given
         first ! $ branches ! (load ! (from ! (stop !)) (look ! 6 refl))
         (λ z. absurd z)
         (λ _. skips ! $ exec ! C Λ En mir′.t-4 (atRet En Post) $
-        assigns ! (agg ! (and-then ! (lit ! tt) (and-then ! (lit ! tt) (no-more !)))) (from ! (stop !)) (init ! 14 refl (LL.lawful R.the-type R′.the-laws 𝓤 H A W .typed noRecord _ unused .0)) $
+        assigns ! (agg ! (and-then ! (lit ! tt) (and-then ! (lit ! tt) (and-then ! (lit ! tt) (no-more !))))) (from ! (stop !)) (init ! 14 refl (LL.lawful R.the-type R′.the-laws 𝓤 H A W .typed noRecord _ unused .0)) $
         returns ! (look ! 14 refl) $ forget ! 6 refl $ forget ! 8 refl $ forget ! 10 refl $ forget ! 12 refl $ forget ! 14 refl $
         move ! (14 ∷ 15 ∷ []) $ free1 ! $ move ! (12 ∷ 13 ∷ []) $ free1 ! $ move ! (10 ∷ 11 ∷ []) $ free1 ! $ move ! (8 ∷ 9 ∷ []) $ free1 ! $ move ! (6 ∷ 7 ∷ []) $ free1 ! $ move ! (4 ∷ 5 ∷ []) $ free1 ! $ move ! (2 ∷ 3 ∷ []) $ free1 ! $ free1 ! $ free0 ! $
         by ! (exits noRecord unused (sym (List·getD-eq-default ys noRecord l))))
       where
         unused : Is R.the-row noRecord (mach noRecord ∷ [])
-        unused = LL.owes R.the-type R′.the-laws noRecord ((refl, lit< tt), ((refl, lit< tt), tt))
+        unused = LL.owes R.the-type R′.the-laws noRecord ((refl, lit< tt), ((refl, lit< tt), ((refl, lit< tt), tt)))
 
     body : Sq W (Ctx (‵ (froom tyBool l₄ 0)) (‵ (froom word l₃ 0))) (runs C Λ En mir′.t-1 (atRet En Post))
     body =

@@ -6,7 +6,7 @@ use denote.Ref.{now}
 use borrow.Author.Tests.{not-true, not-false}
 use Rattle.trees.proofs.Deciding.{decides-no, decides-same, refuted, held}
 use Rattle.records.proofs.Chains.{body-end, stock-part}
-use Rattle.records.proofs.Surveys.{first-is, told-follow, told-unused, not-wrong, chained-sum}
+use Rattle.records.proofs.Surveys.{all-told, first-is, told-follow, told-unused, not-wrong, chained-sum}
 use borrow.Author.Needs.{needs}
 use Rattle.records.proofs.chain.chained.Statement.{statement}
 use Rattle.records.proofs.chain.chained.Tie as tie
@@ -24,7 +24,7 @@ sound-requires : tie.Need-sound-requires
 sound-requires c κs = search needs
 
 returns-4 : tie.Need-returns-4
-returns-4 c = λ k rs l S. decides-no (λ C. refuted (c .before .sound .ensures rs) (c .if4 .taken) (C .counts))
+returns-4 c = λ k rs l S. decides-no (λ C. refuted (c .before .sound .ensures k rs (all-told S (omega (arith, l, C .lies .many)))) (c .if4 .taken) (C .counts))
 
 returns-5 : tie.Need-returns-5
 returns-5 c = λ k rs l S. decides-no (λ C. not-wrong S l C (not-true _ (c .if5 .taken)))
@@ -52,7 +52,7 @@ returns-7 c = λ k rs l S.
     let F = told-follow S n few right (c .before .before .if6 .left) in
     let e = stock-part (now (c .before .before .before .before .before .before .before .before .before .before .before .before .before .before .before .args .area)) F (first-is S n) in
     decides-same
-    (λ A. record { lies = record { many = omega (arith, l); few = few; follow = F; inside = c .before .before .before .before .before .before .before .before .before .if3 .left; unused = told-unused S n few right; stock = rw e at A }; counts = held (c .before .before .before .before .before .before .before .before .sound .ensures rs) (c .before .before .before .before .before .before .before .if4 .left) })
+    (λ A. record { lies = record { many = omega (arith, l); few = few; follow = F; inside = c .before .before .before .before .before .before .before .before .before .if3 .left; unused = told-unused S n few right; stock = rw e at A }; counts = held (c .before .before .before .before .before .before .before .before .sound .ensures k rs (all-told S n)) (c .before .before .before .before .before .before .before .if4 .left) })
     (λ C. rw e (C .lies .stock))
     (c .alphabets-right .ensures)
 

@@ -17,7 +17,7 @@ returns : tie.Need-returns
 returns c = λ s rs area x l k. numbered (c .number-for .result) (c .before .enum-told .given .1) (c .number-for .ensures rs area x l k)
 
 returns-2 : tie.Need-returns-2
-returns-2 c = λ s rs area x l k A F. turned-down (c .before .verdict .given .0 .0) (c .before .verdict .given .1) A
+returns-2 c = λ s rs area x l k A F. turned-down (c .before .before .before .args .f .its) (c .before .verdict .given .0 .0) (c .before .verdict .given .1) A
 
 pub decide-spec : {M : Type 1} → statement M
 decide-spec =

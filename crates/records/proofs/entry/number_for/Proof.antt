@@ -22,7 +22,7 @@ add-t7 : tie.Need-add-t7
 add-t7 c = search needs
 
 returns-4 : tie.Need-returns-4
-returns-4 c = λ rs area x l k F. next (c .before .before .before .before .before .if1 .left) (record { few = omega (arith, c .before .before .before .if2 .left, c .before .before .before .before .before .before .pre .few); fits = omega (arith, c .before .if3 .left, c .before .before .before .before .before .before .pre .inside) }) F
+returns-4 c = λ rs area x l k F. next (c .before .before .before .before .before .if1 .left) (record { few = omega (arith, c .before .before .before .if2 .left, c .before .before .before .before .before .before .before .pre .few); fits = omega (arith, c .before .if3 .left, c .before .before .before .before .before .before .before .pre .inside) }) F
 
 pub number-for-spec : {M : Type 1} → statement M
 number-for-spec = tie.close (tie.spec returns returns-2 sub-if3 returns-3 add-t7 returns-4)

@@ -10,13 +10,13 @@ decide-requires : tie.Need-decide-requires
 decide-requires c κs = asked-ready (c .before .before .pre .asks)
 
 settle-requires : tie.Need-settle-requires
-settle-requires c κs = let S = c .before .before .before .before .pre in decided-fit (S .file) (c .before .before .before .before .args .h) (S .records) (now (c .before .before .before .before .args .area)) (now (c .before .before .before .before .args .bytes)) (c .before .decide .result) (c .before .decide .ensures (S .file) (S .records) (now (c .before .before .before .before .args .area)) (now (c .before .before .before .before .args .bytes)) refl refl (S .asks) (S .finds))
+settle-requires c κs = let S = c .before .before .before .before .pre in decided-fit (S .file) (c .before .before .before .before .args .h) (S .records) (now (c .before .before .before .before .args .area)) (now (c .before .before .before .before .args .bytes)) (c .before .before .before .before .args .f .its) (c .before .decide .result) (c .before .decide .ensures (S .file) (S .records) (now (c .before .before .before .before .args .area)) (now (c .before .before .before .before .args .bytes)) refl refl (S .asks) (S .finds))
 
 same-length : tie.Need-same-length
 same-length c = search needs
 
 returns : tie.Need-returns
-returns c = λ s rs A F. settled s (c .before .before .before .before .before .before .before .args .h) rs (now (c .before .before .before .before .before .before .before .args .area)) (now (c .before .before .before .before .before .before .before .args .bytes)) (c .before .before .settle .result) (c .before .before .settle .last .1 .1 .0) (c .before .before .before .before .decide .result) (c .before .before .before .before .decide .ensures s rs (now (c .before .before .before .before .before .before .before .args .area)) (now (c .before .before .before .before .before .before .before .args .bytes)) refl refl A F) (c .before .before .settle .ensures)
+returns c = λ s rs A F. settled s (c .before .before .before .before .before .before .before .args .h) rs (now (c .before .before .before .before .before .before .before .args .area)) (now (c .before .before .before .before .before .before .before .args .bytes)) (c .before .before .before .before .before .before .before .args .f .its) (c .before .before .settle .result) (c .before .before .settle .last .1 .1 .1 .0) (c .before .before .before .before .decide .result) (c .before .before .before .before .decide .ensures s rs (now (c .before .before .before .before .before .before .before .args .area)) (now (c .before .before .before .before .before .before .before .args .bytes)) refl refl A F) (c .before .before .settle .ensures)
 
 pub place-spec : {M : Type 1} → statement M
 place-spec = tie.close (tie.spec decide-requires settle-requires same-length returns)

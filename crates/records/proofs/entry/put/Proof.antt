@@ -7,7 +7,7 @@ use Rattle.records.proofs.entry.put.Statement.{statement}
 use Rattle.records.proofs.entry.put.Tie as tie
 
 count-requires : tie.Need-count-requires
-count-requires c κs = search needs
+count-requires c κs = (c .before .before .before .before .pre .countable, c .before .before .before .before .pre .count (c .if1 .taken))
 
 returns : tie.Need-returns
 returns c = inl (c .before .if1 .taken, c .count .ensures, refl)

@@ -52,6 +52,7 @@ use Rattle.records.specs.Inner.Writes.{added}
 use Rattle.records.specs.declared.book.Asked.{Asked}
 use Rattle.records.specs.declared.book.Entry.{Entry}
 use Rattle.records.specs.declared.book.Head.{Head}
+use Rattle.records.specs.declared.book.Located.{Located}
 use Rattle.records.specs.declared.book.Record.{Record}
 use Rattle.records.specs.declared.book.Survey.{Survey}
 use Rattle.records.proofs.Entering.{asked-placed}
@@ -59,6 +60,8 @@ use Rattle.records.proofs.book.Entered as En′
 use Rattle.records.proofs.book.Entered.Laws as En″
 use Rattle.records.proofs.book.Head as Hd
 use Rattle.records.proofs.book.Head.Laws as Hd′
+use Rattle.records.proofs.book.Located as Lo
+use Rattle.records.proofs.book.Located.Laws as Lo′
 use Rattle.records.proofs.book.Record as R
 use Rattle.records.proofs.book.Record.Laws as R′
 use Rattle.records.proofs.book.Survey as S
@@ -125,7 +128,7 @@ ptrAi = tyRef erased imm fileTy
 abbrev Asking : Head → ℕ → Survey → List ℕ → List ℕ → Asked → List ℕ → Type 0
 Asking h n s ar ss a zs = (a .size ≤ length zs) × ((rs : List Record) → length rs ≡ n → Surveyed h 0 rs (min n 33) s → Asks ss h rs ar (take (a .size) zs) a)
 
-abbrev Placing : Head → Asked → ℕ → List ℕ → List ℕ → Entry → List ℕ → Type 0
+abbrev Placing : Head → Asked → Located → List ℕ → List ℕ → Entry → List ℕ → Type 0
 Placing h a n ar xs e bs = (s : List ℕ) (rs : List Record) → Asks s h rs ar xs a → Finds (a .held) rs ar xs n → Places s h rs ar e bs
 
 -- the contracts that the proof cites
@@ -239,14 +242,14 @@ module _ {M : Type 1} (𝓤 : URA M) (H : Heap 𝓤) (A : Atoms 𝓤) (W : Given
       nothing ! $ move ! (3 ∷ 0 ∷ []) $ join ! $ move ! (2 ∷ 0 ∷ []) $ join ! $ move ! (1 ∷ 0 ∷ []) $ join ! $ frame ! $
       nothing ! $ move ! (3 ∷ 0 ∷ []) $ fjoin ! $ move ! (2 ∷ 0 ∷ []) $ fjoin ! $ owned ! usize (Is usize) (uint-makes 𝓤 H A W w64) n _ (refl, fits) $ fjoin ! $ move ! (1 ∷ 0 ∷ []) $ fjoin ! $ done !
 
-  abbrev to-place : Asked → ℕ → ℕ → RefT (List ℕ) → Val → PlaceC 𝓤 H A at-mem run .Ghost
-  to-place a n ν r w = (((κ₂, (ν ∷ [], tt)), (q₂, (fullShare, tt)), tt, (h, (a, (n, (x₂ γ₂, (r, tt))))), (machH ∷ [], (LL.vals As.the-type As′.the-laws a, (vint w64 n ∷ [], (s₂ ∷ [], (w ∷ [], tt)))))), tt)
+  abbrev to-place : Asked → Located → ℕ → RefT (List ℕ) → Val → PlaceC 𝓤 H A at-mem run .Ghost
+  to-place a n ν r w = (((κ₂, (ν ∷ [], tt)), (q₂, (fullShare, tt)), tt, (h, (a, (n, (x₂ γ₂, (r, tt))))), (machH ∷ [], (LL.vals As.the-type As′.the-laws a, (LL.vals Lo.the-type Lo′.the-laws n, (s₂ ∷ [], (w ∷ [], tt)))))), tt)
 
-  goes-place : (a : Asked) (n ν : ℕ) (r : RefT (List ℕ)) (w : Val) → n < 2 ^ 64 → Is Hd.the-row h (machH ∷ []) → Is As.the-row a (LL.vals As.the-type As′.the-laws a) → Searched h a n ar (now r)
+  goes-place : (a : Asked) (n : Located) (ν : ℕ) (r : RefT (List ℕ)) (w : Val) → Is Lo.the-row n (LL.vals Lo.the-type Lo′.the-laws n) → Is Hd.the-row h (machH ∷ []) → Is As.the-row a (LL.vals As.the-type As′.the-laws a) → Searched h a n ar (now r)
       → ent 𝓤 (⋆ 𝓤 H A (‵ (flft κ₂ q₂) ∷ ‵ (flft (ν ∷ []) fullShare) ∷ ‵ O₂ ∷ ‵ (SB ν r w) ∷ [])) (PlaceC 𝓤 H A at-mem run .pre (to-place a n ν r w))
   goes-place a n ν r w fits gh ga searched =
       qed W (‵ (flft κ₂ q₂) ∷ ‵ (flft (ν ∷ []) fullShare) ∷ ‵ O₂ ∷ ‵ (SB ν r w) ∷ []) ∵ says ! searched $ nothing ! $ move ! (2 ∷ 0 ∷ []) $ join ! $ move ! (1 ∷ 0 ∷ []) $ join ! $ frame ! $
-      nothing ! $ move ! (2 ∷ 0 ∷ []) $ fjoin ! $ move ! (1 ∷ 0 ∷ []) $ fjoin ! $ owned ! usize (Is usize) (uint-makes 𝓤 H A W w64) n _ (refl, fits) $ fjoin ! $ owned ! As.the-row (Is As.the-row) (LL.makes As.the-type As′.the-plain 𝓤 H A) a _ ga $ fjoin ! $ owned ! Hd.the-row (Is Hd.the-row) (LL.makes Hd.the-type Hd′.the-plain 𝓤 H A) h _ gh $ fjoin ! $ done !
+      nothing ! $ move ! (2 ∷ 0 ∷ []) $ fjoin ! $ move ! (1 ∷ 0 ∷ []) $ fjoin ! $ owned ! Lo.the-row (Is Lo.the-row) (LL.makes Lo.the-type Lo′.the-plain 𝓤 H A) n _ fits $ fjoin ! $ owned ! As.the-row (Is As.the-row) (LL.makes As.the-type As′.the-plain 𝓤 H A) a _ ga $ fjoin ! $ owned ! Hd.the-row (Is Hd.the-row) (LL.makes Hd.the-type Hd′.the-plain 𝓤 H A) h _ gh $ fjoin ! $ done !
 
   abbrev to-add : ℕ → Record → AddC 𝓤 H A at-mem run .Ghost
   to-add n e = (((κ₁, tt), (q₁, tt), tt, (x₁ γ₁, (n, (e, tt))), (s₁ ∷ [], (vint w64 n ∷ [], (LL.vals R.the-type R′.the-laws e, tt)))), tt)
@@ -282,7 +285,7 @@ module _ {M : Type 1} (𝓤 : URA M) (H : Heap 𝓤) (A : Atoms 𝓤) (W : Given
   module _ (C : Calls 𝓤 H) (Λ : Loops 𝓤 H) (fm : FmC 𝓤 H (W .laws) C) (known-surveys : Triple 𝓤 (C #registry·lent·survey) (SurveyC 𝓤 H A at-mem run)) (known-asks : Triple 𝓤 (C #records·entry·ask) (AskC 𝓤 H A at-mem run)) (known-parts : Triple 𝓤 (C #records·entry·beginning) (PartC 𝓤 H A at-mem run)) (known-finds : Triple 𝓤 (C #registry·lent·find) (FindC 𝓤 H A at-mem run)) (known-places : Triple 𝓤 (C #records·entry·place) (PlaceC 𝓤 H A at-mem run)) (known-adds : Triple 𝓤 (C #registry·lent·add) (AddC 𝓤 H A at-mem run))
       (l₀ l₁ l₂ l₃ l₄ l₅ l₆ l₇ l₈ l₉ l₁₀ l₁₁ l₁₂ l₁₃ l₁₄ l₁₅ l₁₆ l₁₇ l₁₈ l₁₉ l₂₀ l₂₁ l₂₂ l₂₃ l₂₄ l₂₅ l₂₆ l₂₇ l₂₈ l₂₉ : ℕ) where
     abbrev En : Env 𝓤 H
-    En = (En″.mir, l₀) ∷ (refH, l₁) ∷ (sliceR, l₂) ∷ (sliceB, l₃) ∷ (sliceS, l₄) ∷ (Hd′.mir, l₅) ∷ (S′.mir, l₆) ∷ (fileTy, l₇) ∷ (As′.mir, l₈) ∷ (slBi, l₉) ∷ (word, l₁₀) ∷ (Ey′.mir, l₁₁) ∷ (ptrRi, l₁₂) ∷ (slRi, l₁₃) ∷ (word, l₁₄) ∷ (ptrBi, l₁₅) ∷ (slBi, l₁₆) ∷ (ptrA, l₁₇) ∷ (slB, l₁₈) ∷ (ptrAi, l₁₉) ∷ (slBi, l₂₀) ∷ (ptrRi, l₂₁) ∷ (slRi, l₂₂) ∷ (ptrBi, l₂₃) ∷ (slBi, l₂₄) ∷ (ptrB, l₂₅) ∷ (slB, l₂₆) ∷ (tyUnit, l₂₇) ∷ (ptrR, l₂₈) ∷ (slR, l₂₉) ∷ []
+    En = (En″.mir, l₀) ∷ (refH, l₁) ∷ (sliceR, l₂) ∷ (sliceB, l₃) ∷ (sliceS, l₄) ∷ (Hd′.mir, l₅) ∷ (S′.mir, l₆) ∷ (fileTy, l₇) ∷ (As′.mir, l₈) ∷ (slBi, l₉) ∷ (Lo′.mir, l₁₀) ∷ (Ey′.mir, l₁₁) ∷ (ptrRi, l₁₂) ∷ (slRi, l₁₃) ∷ (word, l₁₄) ∷ (ptrBi, l₁₅) ∷ (slBi, l₁₆) ∷ (ptrA, l₁₇) ∷ (slB, l₁₈) ∷ (ptrAi, l₁₉) ∷ (slBi, l₂₀) ∷ (ptrRi, l₂₁) ∷ (slRi, l₂₂) ∷ (ptrBi, l₂₃) ∷ (slBi, l₂₄) ∷ (ptrB, l₂₅) ∷ (slB, l₂₆) ∷ (tyUnit, l₂₇) ∷ (ptrR, l₂₈) ∷ (slR, l₂₉) ∷ []
 
     -- a local that holds a value, and one that holds none
     abbrev full : Ty → ℕ → Val → List (Item 𝓤) → List (Item 𝓤)
@@ -333,10 +336,10 @@ module _ {M : Type 1} (𝓤 : URA M) (H : Heap 𝓤) (A : Atoms 𝓤) (W : Given
     add-args₀ Γ = free slR l₂₉ (free ptrR l₂₈ (free tyUnit l₂₇ Γ))
 
     -- after `place`: the new head is stored, and the record is added
-    abbrev Fifth : Val → Val → Asked → Val → ℕ → Entry → List ℕ → List (Item 𝓤)
-    Fifth v₆ v₇ a w₉ n e bs = opened (add-args₀ (place-args₁ (find-args₁ (part-args₁ (ask-args₁ (survey-args₁ (full Ey′.mir l₁₁ (LL.val Ey.the-type Ey′.the-laws e) (full word l₁₀ (vint w64 n) (full slBi l₉ w₉ (full As′.mir l₈ (LL.val As.the-type As′.the-laws a) (full fileTy l₇ v₇ (full S′.mir l₆ v₆ (full Hd′.mir l₅ machH (params (‵ O₁ ∷ ‵ (flft κ₁ q₁) ∷ ‵ O₃ ∷ ‵ (finally u8 γ₂ bs) ∷ (‵ (flft κ₂ q₂) ⊛ ‵ (flft κ₃ q₃) ⊛ ‵ ftrue) ∷ [])))))))))))))))
+    abbrev Fifth : Val → Val → Asked → Val → Located → Entry → List ℕ → List (Item 𝓤)
+    Fifth v₆ v₇ a w₉ n e bs = opened (add-args₀ (place-args₁ (find-args₁ (part-args₁ (ask-args₁ (survey-args₁ (full Ey′.mir l₁₁ (LL.val Ey.the-type Ey′.the-laws e) (full Lo′.mir l₁₀ (LL.val Lo.the-type Lo′.the-laws n) (full slBi l₉ w₉ (full As′.mir l₈ (LL.val As.the-type As′.the-laws a) (full fileTy l₇ v₇ (full S′.mir l₆ v₆ (full Hd′.mir l₅ machH (params (‵ O₁ ∷ ‵ (flft κ₁ q₁) ∷ ‵ O₃ ∷ ‵ (finally u8 γ₂ bs) ∷ (‵ (flft κ₂ q₂) ⊛ ‵ (flft κ₃ q₃) ⊛ ‵ ftrue) ∷ [])))))))))))))))
 
-    fifth : (v₆ v₇ : Val) (a : Asked) (w₉ : Val) (n : ℕ) (e : Entry) (v : Val) (bs : List ℕ) → Is Ey.the-row e (v ∷ []) → length bs ≡ length ar → Places ss h ys ar e bs → Sq W (Fifth v₆ v₇ a w₉ n e bs) (runs C Λ En mir′.t-23 (atRet En Post))
+    fifth : (v₆ v₇ : Val) (a : Asked) (w₉ : Val) (n : Located) (e : Entry) (v : Val) (bs : List ℕ) → Is Ey.the-row e (v ∷ []) → length bs ≡ length ar → Places ss h ys ar e bs → Sq W (Fifth v₆ v₇ a w₉ n e bs) (runs C Λ En mir′.t-23 (atRet En Post))
     fifth v₆ v₇ a w₉ n e v bs is m₂ p =
         assigns ! (of-opd ! (load ! (from ! (fld ! refl (stop !))) (look-in ! 40 (sub ! 0 refl (whole !))))) (from ! (hop ! (look ! 60 refl) (stop !))) (store-raw ! 0 refl (LL.lawful Hd.the-type Hd′.the-laws 𝓤 H A W .typed (e .head) _ (head-is e is) .0)) $
         assigns ! (addr ! (from ! (fld ! refl (hop ! (look-in ! 58 (sub ! 0 refl (whole !))) (stop !))))) (from ! (stop !)) (init ! 6 refl (tt, tt)) $
@@ -355,10 +358,10 @@ module _ {M : Type 1} (𝓤 : URA M) (H : Heap 𝓤) (A : Atoms 𝓤) (W : Given
         keep ! (0 ∷ 1 ∷ 2 ∷ 3 ∷ 4 ∷ 6 ∷ 7 ∷ 8 ∷ []) $ by ! (exits e (zs .0) bs (answer-is e is) m₁ m₂ (subst (λ l. Enters ss h ys ar (e .head) l bs (e .answer)) (sym e₁) (p .enters)))))))))
 
     -- after `find`: `place` is called
-    abbrev Fourth : Val → Asked → Val → ℕ → ℕ → RefT (List ℕ) → List ℕ → List (Item 𝓤)
-    Fourth v₆ a w₉ n ν₄ r zs = opened (add-args₀ (place-args₀ (find-args₁ (part-args₁ (ask-args₁ (survey-args₁ (free Ey′.mir l₁₁ (full word l₁₀ (vint w64 n) (full slBi l₉ w₉ (full As′.mir l₈ (LL.val As.the-type As′.the-laws a) (‵ (fdies fileTy l₇) ∷ full S′.mir l₆ v₆ (full Hd′.mir l₅ machH (params (‵ O₁ ∷ ‵ (flft κ₁ q₁) ∷ ‵ O₂ ∷ ‵ (flft κ₂ q₂) ∷ ‵ O₃ ∷ ‵ (flft κ₃ q₃) ∷ ‵ (flft (ν₄ ∷ []) fullShare) ∷ ‵ (SB ν₄ r w₉) ∷ ‵ (Lent u8 (ν₄ ∷ []) l₇ 0 zs) ∷ []))))))))))))))
+    abbrev Fourth : Val → Asked → Val → Located → ℕ → RefT (List ℕ) → List ℕ → List (Item 𝓤)
+    Fourth v₆ a w₉ n ν₄ r zs = opened (add-args₀ (place-args₀ (find-args₁ (part-args₁ (ask-args₁ (survey-args₁ (free Ey′.mir l₁₁ (full Lo′.mir l₁₀ (LL.val Lo.the-type Lo′.the-laws n) (full slBi l₉ w₉ (full As′.mir l₈ (LL.val As.the-type As′.the-laws a) (‵ (fdies fileTy l₇) ∷ full S′.mir l₆ v₆ (full Hd′.mir l₅ machH (params (‵ O₁ ∷ ‵ (flft κ₁ q₁) ∷ ‵ O₂ ∷ ‵ (flft κ₂ q₂) ∷ ‵ O₃ ∷ ‵ (flft κ₃ q₃) ∷ ‵ (flft (ν₄ ∷ []) fullShare) ∷ ‵ (SB ν₄ r w₉) ∷ ‵ (Lent u8 (ν₄ ∷ []) l₇ 0 zs) ∷ []))))))))))))))
 
-    fourth : (v₆ : Val) (a : Asked) (v : Val) (w₉ : Val) (n ν₄ : ℕ) (r : RefT (List ℕ)) (zs : List ℕ) → Is Hd.the-row h (machH ∷ []) → Is As.the-row a (v ∷ []) → n < 2 ^ 64 → length zs ≡ 20483 → Asks ss h ys ar (now r) a → Finds (a .held) ys ar (now r) n → Sq W (Fourth v₆ a w₉ n ν₄ r zs) (runs C Λ En mir′.t-20 (atRet En Post))
+    fourth : (v₆ : Val) (a : Asked) (v : Val) (w₉ : Val) (n : Located) (ν₄ : ℕ) (r : RefT (List ℕ)) (zs : List ℕ) → Is Hd.the-row h (machH ∷ []) → Is As.the-row a (v ∷ []) → Is Lo.the-row n (LL.vals Lo.the-type Lo′.the-laws n) → length zs ≡ 20483 → Asks ss h ys ar (now r) a → Finds (a .held) ys ar (now r) n → Sq W (Fourth v₆ a w₉ n ν₄ r zs) (runs C Λ En mir′.t-20 (atRet En Post))
     fourth v₆ a v w₉ n ν₄ r zs gh ia fits long aa f =
         assigns ! (addr ! (from ! (fld ! refl (hop ! (look-in ! 55 (sub ! 0 refl (whole !))) (stop !))))) (from ! (stop !)) (init ! 12 refl (tt, tt)) $
         assigns ! (agg ! (and-then ! (load ! (from ! (stop !)) (look ! 12 refl)) (and-then ! (load ! (from ! (fld ! refl (stop !))) (look-in ! 55 (sub ! 1 refl (whole !)))) (no-more !)))) (from ! (stop !)) (init ! 10 refl (tt, (tt, (record { fits = g₂ .0 }, tt)))) $
@@ -376,7 +379,7 @@ module _ {M : Type 1} (𝓤 : URA M) (H : Heap 𝓤) (A : Atoms 𝓤) (W : Given
 
     -- after `part`: `find` is called
     abbrev Third : Val → Asked → Val → ℕ → GName → ℕ → GName → ℕ → RefT (List ℕ) → List ℕ → List (Item 𝓤)
-    Third v₆ a w₉ ν₁ δ₁ ν₂ δ₂ ν₄ r zs = opened (add-args₀ (place-args₀ (find-args₀ (part-args₁ (ask-args₁ (survey-args₁ (free Ey′.mir l₁₁ (free word l₁₀ (full slBi l₉ w₉ (full As′.mir l₈ (LL.val As.the-type As′.the-laws a) (‵ (fdies fileTy l₇) ∷ full S′.mir l₆ v₆ (full Hd′.mir l₅ machH (params (‵ (flft (ν₁ ∷ []) fullShare) ∷ ‵ (S₁ ν₁ δ₁) ∷ ‵ (K₁ ν₁) ∷ ‵ (flft (ν₂ ∷ []) fullShare) ∷ ‵ (S₂ ν₂ δ₂) ∷ ‵ (K₂ ν₂) ∷ ‵ O₃ ∷ ‵ (flft κ₃ q₃) ∷ ‵ (flft (ν₄ ∷ []) fullShare) ∷ ‵ (SB ν₄ r w₉) ∷ ‵ (Lent u8 (ν₄ ∷ []) l₇ 0 zs) ∷ []))))))))))))))
+    Third v₆ a w₉ ν₁ δ₁ ν₂ δ₂ ν₄ r zs = opened (add-args₀ (place-args₀ (find-args₀ (part-args₁ (ask-args₁ (survey-args₁ (free Ey′.mir l₁₁ (free Lo′.mir l₁₀ (full slBi l₉ w₉ (full As′.mir l₈ (LL.val As.the-type As′.the-laws a) (‵ (fdies fileTy l₇) ∷ full S′.mir l₆ v₆ (full Hd′.mir l₅ machH (params (‵ (flft (ν₁ ∷ []) fullShare) ∷ ‵ (S₁ ν₁ δ₁) ∷ ‵ (K₁ ν₁) ∷ ‵ (flft (ν₂ ∷ []) fullShare) ∷ ‵ (S₂ ν₂ δ₂) ∷ ‵ (K₂ ν₂) ∷ ‵ O₃ ∷ ‵ (flft κ₃ q₃) ∷ ‵ (flft (ν₄ ∷ []) fullShare) ∷ ‵ (SB ν₄ r w₉) ∷ ‵ (Lent u8 (ν₄ ∷ []) l₇ 0 zs) ∷ []))))))))))))))
 
     third : (v₆ : Val) (a : Asked) (v w₉ : Val) (ν₁ : ℕ) (δ₁ : GName) (ν₂ : ℕ) (δ₂ : GName) (ν₄ : ℕ) (r : RefT (List ℕ)) (zs : List ℕ) → Is Hd.the-row h (machH ∷ []) → Is As.the-row a (v ∷ []) → length zs ≡ 20483 → Asks ss h ys ar (now r) a → Sq W (Third v₆ a w₉ ν₁ δ₁ ν₂ δ₂ ν₄ r zs) (runs C Λ En mir′.t-15 (atRet En Post))
     third v₆ a v w₉ ν₁ δ₁ ν₂ δ₂ ν₄ r zs gh ia long aa =
@@ -388,18 +391,18 @@ module _ {M : Type 1} (𝓤 : URA M) (H : Heap 𝓤) (A : Atoms 𝓤) (W : Given
         move ! (72 ∷ []) $ use1 W (‵ (SB ν₄ r w₉) ⊛ ‵ (SB ν₄ r w₉)) (shr-slice-copy 𝓤 H A W (named 0) (ν₄ ∷ []) u8 .twice r (w₉ ∷ [])) $ split ! $
         move ! (69 ∷ 0 ∷ []) $ join ! $ move ! (66 ∷ 0 ∷ []) $ join ! $ move ! (71 ∷ 0 ∷ []) $ join ! $ move ! (67 ∷ 0 ∷ []) $ join ! $ move ! (65 ∷ 0 ∷ []) $ join ! $ use1 W (raw (FindC 𝓤 H A at-mem run .pre (to-find (a .held) ν₁ δ₁ ν₂ δ₂ ν₄ r w₉))) (goes-find (a .held) ν₁ δ₁ ν₂ δ₂ ν₄ r w₉ (held-is a ia) (asked-placed aa)) $
         calls-at ! fm (FindC 𝓤 H A at-mem run) known-finds (to-find (a .held) ν₁ δ₁ ν₂ δ₂ ν₄ r w₉) (and-then ! (load ! (from ! (stop !)) (look ! 20 refl)) (and-then ! (load ! (from ! (fld ! refl (stop !))) (look-in ! 48 (sub ! 1 refl (whole !)))) (and-then ! (load ! (from ! (stop !)) (look ! 16 refl)) (and-then ! (load ! (from ! (stop !)) (look ! 46 refl)) (no-more !))))) (λ w.
-        use1 W (later (some (λ (n : ℕ). ((‵ (flft (ν₁ ∷ []) fullShare) ⊛ ‵ (flft (ν₂ ∷ []) fullShare) ⊛ ‵ (flft (ν₄ ∷ []) fullShare) ⊛ ‵ ftrue) ⊛ ‵ (usize .own n (w ∷ []))) ⊛ raw (ensured 𝓤 H A finds.ended (finds.clauses 𝓤 H A at-mem run) (ν₁ ∷ [], (ν₂ ∷ [], (ν₄ ∷ [], tt))) (x₁ δ₁, (a .held, (x₂ δ₂, (r, tt)))) tt n)))) (id⊢ 𝓤 _) $ await ! tt $ pick ! (λ n.
-        split ! $ move ! (1 ∷ []) $ hears ! finds.ended (ν₁ ∷ [], (ν₂ ∷ [], (ν₄ ∷ [], tt))) (x₁ δ₁, (a .held, (x₂ δ₂, (r, tt)))) (Finds (a .held) ys ar (now r) n) (λ e. split ! $ move ! (1 ∷ []) $ facts ! usize (Is usize) (shows 𝓤 H A usize) n (w ∷ []) (λ is. split ! $ move ! (1 ∷ []) $ split ! $ move ! (1 ∷ []) $ split ! $
-        land ! (from ! (stop !)) (init ! 47 refl (uint-lawful 𝓤 H A W w64 .typed n _ is .0)) $ rewrite ! 47 (λ (y : Val). ‵ (fat fullShare word l₁₀ 0 y)) (ap only (uint-tells w64 n (w ∷ []) is)) refl $
+        use1 W (later (some (λ (n : Located). ((‵ (flft (ν₁ ∷ []) fullShare) ⊛ ‵ (flft (ν₂ ∷ []) fullShare) ⊛ ‵ (flft (ν₄ ∷ []) fullShare) ⊛ ‵ ftrue) ⊛ ‵ (Lo.the-row .own n (w ∷ []))) ⊛ raw (ensured 𝓤 H A finds.ended (finds.clauses 𝓤 H A at-mem run) (ν₁ ∷ [], (ν₂ ∷ [], (ν₄ ∷ [], tt))) (x₁ δ₁, (a .held, (x₂ δ₂, (r, tt)))) tt n)))) (id⊢ 𝓤 _) $ await ! tt $ pick ! (λ n.
+        split ! $ move ! (1 ∷ []) $ hears ! finds.ended (ν₁ ∷ [], (ν₂ ∷ [], (ν₄ ∷ [], tt))) (x₁ δ₁, (a .held, (x₂ δ₂, (r, tt)))) (Finds (a .held) ys ar (now r) n) (λ e. split ! $ move ! (1 ∷ []) $ facts ! Lo.the-row (Is Lo.the-row) (shows 𝓤 H A Lo.the-row) n (w ∷ []) (λ is. split ! $ move ! (1 ∷ []) $ split ! $ move ! (1 ∷ []) $ split ! $
+        land ! (from ! (stop !)) (init ! 47 refl (LL.lawful Lo.the-type Lo′.the-laws 𝓤 H A W .typed n _ is .0)) $ rewrite ! 47 (λ (y : Val). ‵ (fat fullShare Lo′.mir l₁₀ 0 y)) (ap only (LL.tells Lo.the-type Lo′.the-laws n (w ∷ []) is)) refl $
         -- the records and the area come back
         move ! (3 ∷ []) $ lft-end ! tt $ move ! (0 ∷ 68 ∷ []) $ use2 W (later (‵ O₁ ⊛ ‵ (flft κ₁ q₁))) (shared-back R.the-row (ν₁ ∷ []) b₁ o₁ κ₁ q₁ γ₁ 𝓤 H A W (named 1) (named 0) ys g₁) $ await ! tt $ split ! $
         move ! (4 ∷ []) $ lft-end ! tt $ move ! (0 ∷ 69 ∷ []) $ use2 W (later (‵ O₂ ⊛ ‵ (flft κ₂ q₂))) (shared-back u8 (ν₂ ∷ []) b₂ o₂ κ₂ q₂ γ₂ 𝓤 H A W (named 2) (named 0) ar g₂) $ await ! tt $ split ! $
         keep ! (7 ∷ 8 ∷ 9 ∷ 10 ∷ 11 ∷ 12 ∷ 13 ∷ 14 ∷ 15 ∷ 16 ∷ 17 ∷ 18 ∷ 19 ∷ 20 ∷ 21 ∷ 22 ∷ 23 ∷ 24 ∷ 25 ∷ 26 ∷ 27 ∷ 28 ∷ 29 ∷ 30 ∷ 31 ∷ 32 ∷ 33 ∷ 34 ∷ 35 ∷ 36 ∷ 37 ∷ 38 ∷ 39 ∷ 40 ∷ 41 ∷ 42 ∷ 43 ∷ 44 ∷ 45 ∷ 46 ∷ 47 ∷ 48 ∷ 49 ∷ 50 ∷ 51 ∷ 52 ∷ 53 ∷ 54 ∷ 55 ∷ 56 ∷ 57 ∷ 58 ∷ 59 ∷ 60 ∷ 61 ∷ 62 ∷ 63 ∷ 64 ∷ 65 ∷ 66 ∷ 67 ∷ 68 ∷ 69 ∷ 2 ∷ 3 ∷ 0 ∷ 1 ∷ 70 ∷ 71 ∷ 4 ∷ 6 ∷ 72 ∷ []) $
-        fourth v₆ a v w₉ n ν₄ r zs gh ia (is .1) long aa e))))
+        fourth v₆ a v w₉ n ν₄ r zs gh ia (rw (LL.tells Lo.the-type Lo′.the-laws n _ is) at is) long aa e))))
 
     -- after `ask`: the file is lent for reading, and its first bytes are taken
     abbrev Second : Val → Asked → ℕ → GName → ℕ → GName → List ℕ → List (Item 𝓤)
-    Second v₆ a ν₁ δ₁ ν₂ δ₂ zs = opened (add-args₀ (place-args₀ (find-args₀ (part-args₀ (ask-args₁ (survey-args₁ (free Ey′.mir l₁₁ (free word l₁₀ (free slBi l₉ (full As′.mir l₈ (LL.val As.the-type As′.the-laws a) (‵ (fdies fileTy l₇) ∷ full S′.mir l₆ v₆ (full Hd′.mir l₅ machH (params (‵ (row u8 fullShare zs l₇ 0) ∷ ‵ (flft (ν₁ ∷ []) fullShare) ∷ ‵ (S₁ ν₁ δ₁) ∷ ‵ (K₁ ν₁) ∷ ‵ (flft (ν₂ ∷ []) fullShare) ∷ ‵ (S₂ ν₂ δ₂) ∷ ‵ (K₂ ν₂) ∷ ‵ O₃ ∷ ‵ (flft κ₃ q₃) ∷ []))))))))))))))
+    Second v₆ a ν₁ δ₁ ν₂ δ₂ zs = opened (add-args₀ (place-args₀ (find-args₀ (part-args₀ (ask-args₁ (survey-args₁ (free Ey′.mir l₁₁ (free Lo′.mir l₁₀ (free slBi l₉ (full As′.mir l₈ (LL.val As.the-type As′.the-laws a) (‵ (fdies fileTy l₇) ∷ full S′.mir l₆ v₆ (full Hd′.mir l₅ machH (params (‵ (row u8 fullShare zs l₇ 0) ∷ ‵ (flft (ν₁ ∷ []) fullShare) ∷ ‵ (S₁ ν₁ δ₁) ∷ ‵ (K₁ ν₁) ∷ ‵ (flft (ν₂ ∷ []) fullShare) ∷ ‵ (S₂ ν₂ δ₂) ∷ ‵ (K₂ ν₂) ∷ ‵ O₃ ∷ ‵ (flft κ₃ q₃) ∷ []))))))))))))))
 
     second : (v₆ : Val) (a : Asked) (v : Val) (ν₁ : ℕ) (δ₁ : GName) (ν₂ : ℕ) (δ₂ : GName) (zs : List ℕ) → Is Hd.the-row h (machH ∷ []) → Is As.the-row a (v ∷ []) → length zs ≡ 20483 → a .size ≤ length zs → Asks ss h ys ar (take (a .size) zs) a → Sq W (Second v₆ a ν₁ δ₁ ν₂ δ₂ zs) (runs C Λ En mir′.t-12 (atRet En Post))
     second v₆ a v ν₁ δ₁ ν₂ δ₂ zs gh ia long small aa =
@@ -417,7 +420,7 @@ module _ {M : Type 1} (𝓤 : URA M) (H : Heap 𝓤) (A : Atoms 𝓤) (W : Given
 
     -- once the file is there: the area is lent for reading, the file for writing, and `ask` is called
     abbrev First : Val → ℕ → GName → List ℕ → List (Item 𝓤)
-    First v₆ ν₁ δ₁ xs = opened (add-args₀ (place-args₀ (find-args₀ (part-args₀ (ask-args₀ (survey-args₁ (free Ey′.mir l₁₁ (free word l₁₀ (free slBi l₉ (free As′.mir l₈ (‵ (fdies fileTy l₇) ∷ full S′.mir l₆ v₆ (full Hd′.mir l₅ machH (params (‵ (row u8 fullShare xs l₇ 0) ∷ ‵ (flft (ν₁ ∷ []) fullShare) ∷ ‵ (S₁ ν₁ δ₁) ∷ ‵ (K₁ ν₁) ∷ ‵ O₂ ∷ ‵ (flft κ₂ q₂) ∷ ‵ O₃ ∷ ‵ (flft κ₃ q₃) ∷ []))))))))))))))
+    First v₆ ν₁ δ₁ xs = opened (add-args₀ (place-args₀ (find-args₀ (part-args₀ (ask-args₀ (survey-args₁ (free Ey′.mir l₁₁ (free Lo′.mir l₁₀ (free slBi l₉ (free As′.mir l₈ (‵ (fdies fileTy l₇) ∷ full S′.mir l₆ v₆ (full Hd′.mir l₅ machH (params (‵ (row u8 fullShare xs l₇ 0) ∷ ‵ (flft (ν₁ ∷ []) fullShare) ∷ ‵ (S₁ ν₁ δ₁) ∷ ‵ (K₁ ν₁) ∷ ‵ O₂ ∷ ‵ (flft κ₂ q₂) ∷ ‵ O₃ ∷ ‵ (flft κ₃ q₃) ∷ []))))))))))))))
 
     filled : (s : Survey) (v₆ : Val) (ν₁ : ℕ) (δ₁ : GName) (xs : List ℕ) → length xs ≡ 20483 → Is Hd.the-row h (machH ∷ []) → Is S.the-row s (v₆ ∷ []) → Surveyed h 0 ys (min (length ys) 33) s → Sq W (First v₆ ν₁ δ₁ xs) (runs C Λ En mir′.t-6 (atRet En Post))
     filled s v₆ ν₁ δ₁ xs long gh gs told =
@@ -446,7 +449,7 @@ module _ {M : Type 1} (𝓤 : URA M) (H : Heap 𝓤) (A : Atoms 𝓤) (W : Given
 
     -- after `survey`: the file is made
     abbrev Zeroth : Val → ℕ → GName → List (Item 𝓤)
-    Zeroth v₆ ν₁ δ₁ = opened (add-args₀ (place-args₀ (find-args₀ (part-args₀ (ask-args₀ (survey-args₁ (free Ey′.mir l₁₁ (free word l₁₀ (free slBi l₉ (free As′.mir l₈ (free fileTy l₇ (full S′.mir l₆ v₆ (full Hd′.mir l₅ machH (params (‵ (flft (ν₁ ∷ []) fullShare) ∷ ‵ (S₁ ν₁ δ₁) ∷ ‵ (K₁ ν₁) ∷ ‵ O₂ ∷ ‵ (flft κ₂ q₂) ∷ ‵ O₃ ∷ ‵ (flft κ₃ q₃) ∷ [])))))))))))))))
+    Zeroth v₆ ν₁ δ₁ = opened (add-args₀ (place-args₀ (find-args₀ (part-args₀ (ask-args₀ (survey-args₁ (free Ey′.mir l₁₁ (free Lo′.mir l₁₀ (free slBi l₉ (free As′.mir l₈ (free fileTy l₇ (full S′.mir l₆ v₆ (full Hd′.mir l₅ machH (params (‵ (flft (ν₁ ∷ []) fullShare) ∷ ‵ (S₁ ν₁ δ₁) ∷ ‵ (K₁ ν₁) ∷ ‵ O₂ ∷ ‵ (flft κ₂ q₂) ∷ ‵ O₃ ∷ ‵ (flft κ₃ q₃) ∷ [])))))))))))))))
 
     surveyed : (s : Survey) (v₆ : Val) (ν₁ : ℕ) (δ₁ : GName) → Is Hd.the-row h (machH ∷ []) → Is S.the-row s (v₆ ∷ []) → Surveyed h 0 ys (min (length ys) 33) s → Sq W (Zeroth v₆ ν₁ δ₁) (runs C Λ En mir′.t-5 (atRet En Post))
     surveyed s v₆ ν₁ δ₁ gh gs told =
@@ -455,7 +458,7 @@ module _ {M : Type 1} (𝓤 : URA M) (H : Heap 𝓤) (A : Atoms 𝓤) (W : Given
         filled s v₆ ν₁ δ₁ (replicate 20483 0) (length-replicate {A = ℕ} 20483 0) gh gs told
 
     -- from the start: the head's borrow is opened, the head is copied, and the records are lent for reading to `survey`
-    begins : Sq W (add-args₀ (place-args₀ (find-args₀ (part-args₀ (ask-args₀ (survey-args₀ (free Ey′.mir l₁₁ (free word l₁₀ (free slBi l₉ (free As′.mir l₈ (free fileTy l₇ (free S′.mir l₆ (free Hd′.mir l₅ (params (Initial c 𝓤))))))))))))))) (runs C Λ En mir′.t-1 (atRet En Post))
+    begins : Sq W (add-args₀ (place-args₀ (find-args₀ (part-args₀ (ask-args₀ (survey-args₀ (free Ey′.mir l₁₁ (free Lo′.mir l₁₀ (free slBi l₉ (free As′.mir l₈ (free fileTy l₇ (free S′.mir l₆ (free Hd′.mir l₅ (params (Initial c 𝓤))))))))))))))) (runs C Λ En mir′.t-1 (atRet En Post))
     begins =
         move ! (60 ∷ 61 ∷ 62 ∷ []) $ opens ! tt Hd.the-row {h = h} b₀ o₀ (λ vs. spelt ! Hd.the-row (Is Hd.the-row) (shows 𝓤 H A Hd.the-row) (LL.vals Hd.the-type Hd′.the-laws) (LL.tells Hd.the-type Hd′.the-laws) fullShare h vs b₀ o₀ $
         move ! (1 ∷ []) $ peeks ! Hd.the-row (Is Hd.the-row) (shows 𝓤 H A Hd.the-row) h (machH ∷ []) (λ g. move ! (1 ∷ 0 ∷ []) $
