@@ -5,7 +5,7 @@ use native.Mathlib.Decide.{ℕ-discrete}
 use native.Mathlib.Omega.{arith}
 use mathlib.Core.Bool.{true, false}
 use mathlib.Core.List.{List, [], _∷_, List·Memᴰ, List·Memᴰ·head, List·Memᴰ·tail, List·Memᴰ·not-nil, List·Memᴰ·cases-cons}
-use mathlib.Core.Logic.{_↔_, ⊎-elim}
+use mathlib.Core.Logic.{_⊎_, _↔_, ⊎-elim}
 use mathlib.Core.Option.{some, Option, none as nothing}
 use mathlib.Core.Path.{_≡_, refl, sym, ap, subst, _∙_}
 use lib.Dec.{eqb}
@@ -17,9 +17,9 @@ use Rattle.theory.proofs.Terms.{conflict}
 use Rattle.canonical.specs.Answers.{SewAlike}
 use Rattle.canonical.proofs.Laws.{clean-exact, sheets-alike}
 use Rattle.records.specs.Answers.{CleanFile}
-use Rattle.records.specs.Book.{answersOf, recordAt}
+use Rattle.records.specs.Book.{answersOf, recordAt, tally}
 use Rattle.registry.specs.Calls.{Book, MadeWith, EntersFile, Entries, oneIf, acceptances, acceptedWith, Orderly, Stays}
-use Rattle.registry.proofs.Keeping.{Accepted, answered-by, gives-counts, bodyOf, stays-refl, stays-trans, unchanged-stays, accepted-there, accepted-counted, items, itemsOf, same-items, accepted-enters}
+use Rattle.registry.proofs.Keeping.{Accepted, answered-by, gives-counts, bodyOf, stays-refl, stays-trans, unchanged-stays, accepted-there, accepted-counted, tally-one, items, itemsOf, same-items, accepted-enters}
 use Rattle.registry.proofs.Standing.{made-head, made-counts, entry-stays, stock-stays, still-chained}
 
 -- Bodies stay: whatever list of entries follows on b₀, each body that was held is held at its number, and there are never fewer.
@@ -40,6 +40,21 @@ one-more {b} {b′ = b′} A n k e =
     elim (ℕ-discrete n (A .number)) [
       | yes z ↦ let q : eqb n (A .number) ≡ true = eq-eqb n (A .number) z in rw q (omega (arith, ap (λ i. recordAt (b′ .records) i .count) z, O .here, ap (λ i. recordAt (b .records) i .count) z, e))
       | no o ↦ let q : eqb n (A .number) ≡ false = ne-eqb n (A .number) o in rw q (omega (arith, ap (λ w. w .count) (O .others n o), e))
+    ]
+
+-- there are no more than 32 numbers
+accepted-few : {b : Book} {t : List ℕ} {a : Option ℕ} {b′ : Book} (A : Accepted b t a b′) → A .number < 33
+accepted-few A = ⊎-elim (λ K. omega (arith, K .lowest .high, A .chained .lies .few)) (λ N. omega (arith, N .next, N .room .few)) (A .gives)
+
+-- a number that no accepted entry got
+none-with : (n : ℕ) (log : List (List ℕ × Option ℕ)) → ((s : List ℕ) → List·Memᴰ (s, some n) log → ⊥) → acceptedWith n log ≡ 0
+unfolding acceptedWith
+none-with n [] f = refl
+none-with n ((s, nothing) ∷ log) f = none-with n log (λ t m. f t (List·Memᴰ·tail m))
+none-with n ((s, some k) ∷ log) f =
+    elim (ℕ-discrete n k) [
+      | yes z ↦ absurd (f s (List·Memᴰ·head (ap (λ i. (s, some i)) z)))
+      | no o ↦ let q : eqb n k ≡ false = ne-eqb n k o in rw q (omega (arith, none-with n log (λ t m. f t (List·Memᴰ·tail m))))
     ]
 
 module _ {stock : List ℕ} where
@@ -81,6 +96,19 @@ module _ {stock : List ℕ} where
   numbered : {log : List (List ℕ × Option ℕ)} {b : Book} {s : List ℕ} {n : ℕ} → Entries stock log b → List·Memᴰ (s, some n) log → Numbered stock b s n
   numbered (begun M) m = absurd (List·Memᴰ·not-nil m)
   numbered (entered h E) m = ⊎-elim (λ z. entry-numbered (stock-stays h) E z) (λ m′. stays-numbered (entry-stays E) (numbered h m′)) (List·Memᴰ·cases-cons m)
+
+  -- records of numbers that no accepted entry got count nothing
+  counted-none : {log : List (List ℕ × Option ℕ)} {b : Book} (n : ℕ) → n < 33 → (n ≡ 0) ⊎ (b .head .held < n) → Entries stock log b → recordAt (b .records) n .count ≡ 0
+  counted-none {log} n g o h = counted-each n g h ∙ none-with n log (λ s m. let N = numbered h m in ⊎-elim (λ z. omega (arith, N .low)) (λ l. omega (arith, N .high)) o)
+
+  -- the counts of all records are the answered count
+  counted-all : {log : List (List ℕ × Option ℕ)} {b : Book} → Entries stock log b → tally (b .records) 33 ≡ answersOf (b .head)
+  counted-all (begun M) = still-chained (begun M) (omega (arith, ap answersOf (made-head M))) .counts .sum
+  counted-all (entered h E) =
+      ⊎-elim
+      (λ U. ap (λ w. tally w 33) (U .records) ∙ counted-all h ∙ sym (ap answersOf (U .head)))
+      (λ A. tally-one 33 (gives-counts (A .chained) (A .gives)) (accepted-few A) ∙ ap suc (counted-all h) ∙ sym (accepted-counted A))
+      (answered-by E)
 
 -- ---- numbers from 0, as the theory's registry has them
 lower : Option ℕ → Option ℕ
@@ -175,6 +203,8 @@ registry-laws h = record {
   there = λ s n m. let N = numbered h m in (N .low, N .high, N .clean);
   answered = counted h;
   counts = λ n g. counted-each n g h;
+  none = λ n g o. counted-none n g o h;
+  sum = counted-all h;
   alphabets = stock-stays h;
   stands = still-chained h;
 }

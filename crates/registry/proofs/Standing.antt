@@ -4,16 +4,17 @@ use Prim.Native.Nat.{ℕ, zero, suc, _+_, _≤_, _<_}
 use native.Mathlib.Omega.{arith}
 use mathlib.Core.List.{List, _∷_, _++_}
 use mathlib.Core.Logic.{inl, inr, ⊎-elim}
-use mathlib.Core.Option.{some, Option}
+use mathlib.Core.Option.{some, Option, none as nothing}
 use mathlib.Core.Path.{_≡_, refl, sym, ap, ap₂, subst, _∙_}
 use lib.ListN.{length, set, drop, replicate, length-append, length-replicate, length-set, getD-replicate, List·getD-append}
 use lib.Seq.{sets, length-sets}
 use Rattle.theory.specs.Registry.{begun, entered}
 use Rattle.theory.proofs.Terms.{conflict}
 use Rattle.trees.specs.Alphabets.{Alphabets}
-use Rattle.trees.specs.Refusal.{accepted, done, Holds}
+use Rattle.trees.specs.Refusal.{accepted, refused, done, check, Holds}
+use Rattle.trees.specs.declared.refusal.Refusal.the-variants.{FullRegistry}
 use Rattle.formats.specs.Sheet.{file, sheetCheck}
-use Rattle.trees.proofs.Judging.{pass, accept, accepted-holds, must-accept}
+use Rattle.trees.proofs.Judging.{refuse, pass, accept, accepted-holds, must-accept, must-refuse}
 use Rattle.formats.proofs.Sheets.{sheet-counted}
 use Rattle.earliest.specs.Answers.{EarliestFile, formCheck}
 use Rattle.canonical.specs.Answers.{NormalFile}
@@ -26,7 +27,7 @@ use Rattle.records.specs.declared.book.Record.{Record}
 use Rattle.records.proofs.Chains.{Passed, passed-none, passed-more, passed-same, all-passed, follow-passed, follow-places}
 use Rattle.records.proofs.Entering.{clean-unique, lowest-unique}
 use Rattle.registry.specs.Calls.{Book, MadeWith, EntersFile, Entries, answerOf, Stays}
-use Rattle.registry.proofs.Keeping.{Accepted, answered-by, bodyOf, unchanged-stays, accepted-stays, known-other, known-places, known-stays, added-other, added-record, added-stays, put-there, gives-counts, tally-one}
+use Rattle.registry.proofs.Keeping.{Unchanged, Accepted, answered-by, bodyOf, unchanged-stays, accepted-stays, known-other, known-places, known-stays, added-other, added-record, added-stays, put-there, gives-counts, tally-one}
 
 -- ---- an accepted making
 module _ {stock : List ℕ} {b : Book} (M : MadeWith stock b) where
@@ -181,9 +182,21 @@ pub cleans-to : {stock s x : List ℕ} {k : ℕ} {counts bytes : List ℕ} → N
 unfolding Holds
 cleans-to {k} {counts} {bytes} F e E = record { checks = (sheet-counted (F .sheet), ((F .states, (F .machine, F .sheet)), (E, tt))); clean = record { states = k; counts = counts; bytes = bytes; normal = F; coded = sym e } }
 
+-- what is not held and has no room has no place
+no-place : {stock s x : List ℕ} {h : Head} {rs : List Record} {area : List ℕ} → NotHeld (h .held) rs area x → (Room h area x → ⊥) → CleanFile stock s x → (y : List ℕ) × (CleanFile stock s y × HasPlace h rs area y) → ⊥
+no-place {x} {h} {rs} {area} N R c (y, (d, p)) = ⊎-elim (λ w. N .none (w .0) (w .1 .low) (w .1 .high) (w .1 .there ∙ clean-unique d c)) (λ r. R (rw (clean-unique d c) at r)) p
+
 told : (r : Entered) {a : Option ℕ} {n : ℕ} → answerOf r ≡ a → numberOf r ≡ accepted n → a ≡ some n
 told (Number m) {n = n} e f = let z : m ≡ n = cc in sym e ∙ ap (λ k. some k) z
 told (Refused q) e f = conflict (cc)
+
+untold : (r : Entered) {a : Option ℕ} {k : ℕ} → answerOf r ≡ a → numberOf r ≡ refused k → a ≡ nothing
+untold (Number m) e f = conflict (cc)
+untold (Refused q) e f = sym e
+
+pub told-number : (r : Entered) {n : ℕ} → answerOf r ≡ some n → numberOf r ≡ accepted n
+told-number (Number m) {n} e = let z : m ≡ n = cc in ap (λ k. accepted k) z
+told-number (Refused q) e = conflict (cc)
 
 module _ {stock : List ℕ} {b : Book} {s x : List ℕ} {a : Option ℕ} {b′ : Book} (C : Chained (b .head) (b .records) (b .area)) (same : bodyOf b 0 ≡ stock) (k : CleansTo stock s x) (E : EntersFile b s a b′) where
   -- it gets a number, if it is held or there is room for it
@@ -210,6 +223,15 @@ module _ {stock : List ℕ} {b : Book} {s x : List ℕ} {a : Option ℕ} {b′ :
       go (m, (e, inl K)) = absurd (N .none m (K .lowest .low) (K .lowest .high) (K .lowest .there))
       go (m, (e, inr A)) = (rw (A .next) at e, rw (A .next) at A)
 
+  -- it is not, and there is no room: it is refused by 8, and nothing changes
+  pub entered-full : NotHeld (b .head .held) (b .records) (b .area) x → (Room (b .head) (b .area) x → ⊥) → (numberOf (E .answer) ≡ refused 8) × Unchanged b a b′
+  unfolding Holds
+  entered-full N R =
+      let k′ = subst (λ t. CleansTo t s x) (sym same) k in
+      let stock′ = bodyOf b 0 in
+      let (e, (q, p, o)) = must-refuse (check 9 (Chained (b .head) (b .records) (b .area)) (sheetCheck stock′ s (formCheck stock′ s done))) done (C, k′ .checks) (no-place N R (k′ .clean)) (E .call) in
+      (e, record { answer = untold (E .answer) (E .told) e; head = q; records = p; bodies = o })
+
 -- ---- there are such calls
 pub makes : {stock : List ℕ} (room : ℕ) → Alphabets stock → length stock ≤ room → (b : Book) × (MadeWith stock b × (length (b .area) ≡ room))
 makes {stock} room A h =
@@ -225,6 +247,13 @@ module _ {stock : List ℕ} {b : Book} {s x : List ℕ} (C : Chained (b .head) (
   gave n b′ p g =
       let k′ = subst (λ t. CleansTo t s x) (sym same) k in
       record { answer = Number n; call = pass C (pass (k′ .checks .0) (pass (k′ .checks .1 .0) (pass (k′ .checks .1 .1 .0) (pass (x, (k′ .clean, p)) (accept (x, (k′ .clean, g))))))); told = refl }
+
+  -- a refusal by 8
+  pub enters-full : NotHeld (b .head .held) (b .records) (b .area) x → (Room (b .head) (b .area) x → ⊥) → EntersFile b s nothing b
+  unfolding Holds
+  enters-full N R =
+      let k′ = subst (λ t. CleansTo t s x) (sym same) k in
+      record { answer = Refused FullRegistry; call = pass C (pass (k′ .checks .0) (pass (k′ .checks .1 .0) (pass (k′ .checks .1 .1 .0) (refuse (no-place N R (k′ .clean)) (refl, refl, refl))))); told = refl }
 
   pub enters-known : {n : ℕ} → Lowest (b .head .held) (b .records) (b .area) x n → (b′ : Book) × EntersFile b s (some n) b′
   enters-known {n} L =

@@ -2,14 +2,14 @@
 use Prim.Native.Nat.{ℕ, suc, _+_, _≤_, _<_}
 use mathlib.Core.Bool.{Bool, true, false}
 use mathlib.Core.List.{List, [], _∷_, List·Memᴰ}
-use mathlib.Core.Logic.{_↔_}
+use mathlib.Core.Logic.{_⊎_, _↔_}
 use mathlib.Core.Option.{some, Option, none as nothing}
 use mathlib.Core.Path.{_≡_}
 use lib.Dec.{eqb}
 use Rattle.theory.specs.Registry.{History}
 use Rattle.canonical.specs.Answers.{SewAlike}
 use Rattle.records.specs.Answers.{Makes, CleanFile, Enters}
-use Rattle.records.specs.Book.{answersOf, tooMany, recordAt, body, Chained}
+use Rattle.records.specs.Book.{answersOf, tooMany, recordAt, body, tally, Chained}
 use Rattle.records.specs.declared.book.Head.{Head}
 use Rattle.records.specs.declared.book.Record.{Record}
 use Rattle.records.specs.declared.book.Entered.{Entered}
@@ -68,6 +68,10 @@ pub record Orderly (stock : List ℕ) (log : List (List ℕ × Option ℕ)) (b :
   pub answered : answersOf (b .head) ≡ acceptances log
   -- the count of each record is that of the entries accepted with its number
   pub counts : (n : ℕ) → n < 33 → recordAt (b .records) n .count ≡ acceptedWith n log
+  -- so the record of the alphabets and unused ones count nothing,
+  pub none : (n : ℕ) → n < 33 → (n ≡ 0) ⊎ (b .head .held < n) → recordAt (b .records) n .count ≡ 0
+  -- and all together the entries accepted
+  pub sum : tally (b .records) 33 ≡ answersOf (b .head)
   -- the alphabets are those of the making
   pub alphabets : body (b .records) (b .area) 0 ≡ stock
   -- what is left is a registry: no entry is refused by 9 before as many entries are answered as can be counted

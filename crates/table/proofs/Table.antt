@@ -9,7 +9,7 @@ use Rattle.theory.specs.Size.{size, levels}
 use Rattle.theory.specs.Term.{Tree}
 use Rattle.trees.specs.Alphabets.{Alphabets, alphabetCheck}
 use Rattle.trees.specs.Code.{code}
-use Rattle.trees.specs.Refusal.{done, Holds}
+use Rattle.trees.specs.Refusal.{accepted, refused, done, Holds}
 use Rattle.formats.specs.Samples.{S, T, T′, U, pairs, M, M-pref}
 use Rattle.formats.specs.Sheet.{file, sheetCheck}
 use Rattle.formats.proofs.Sheets.{sheet-counted}
@@ -28,7 +28,7 @@ use Rattle.canonical.proofs.SampleTrimmed.{T′-trims, U-trims}
 use Rattle.canonical.proofs.Samples.{leaf-cleans, T-cleans, T-marks, T′-cleans, U-cleans}
 use Rattle.table.specs.Table.{Row, translates, fits, not-linear, prefix, cleans, normal, earliest, registers, Clean, Says, rows}
 use Rattle.table.proofs.Differences.{T-U-differ}
-use Rattle.table.proofs.Registers.{possible, three-registered}
+use Rattle.table.proofs.Registers.{possible, possible-short, all-registered, third-refused}
 
 -- ---- what shows a row
 module _ {stock sheet : List ℕ} where
@@ -71,8 +71,11 @@ T-calls-twice : Says (not-linear S T)
 unfolding Holds
 T-calls-twice = ((S-alphabets, (sheet-counted T-sheet, ((1, (T-machine, T-sheet)), tt))), T-not-linear)
 
-T-T′-U-registered : Says (registers S 60 ((U, 2) ∷ (T′, 1) ∷ (T, 1) ∷ []) 56 3)
-T-T′-U-registered = record { one = possible; every = three-registered }
+T-T′-U-registered : Says (registers S 60 ((U, accepted 2) ∷ (T′, accepted 1) ∷ (T, accepted 1) ∷ []) 56 3 (0 ∷ 2 ∷ 1 ∷ []))
+T-T′-U-registered = record { one = possible 60 (omega arith); every = all-registered 60 (omega arith) }
+
+U-without-room : Says (registers S 55 ((U, refused 8) ∷ (T′, accepted 1) ∷ (T, accepted 1) ∷ []) 27 2 (0 ∷ 2 ∷ []))
+U-without-room = record { one = possible-short 55 (omega arith) (omega arith); every = third-refused 55 (omega arith) (omega arith) }
 
 -- ---- every row
 data All : List Row → Type 0 where
@@ -100,6 +103,7 @@ all-rows =
     also form-has 1 (clean-self leaf-cleans refl) refl
     also T-calls-twice
     also T-T′-U-registered
+    also U-without-room
     also no-more
 
 listed : {rs : List Row} {row : Row} → All rs → List·Memᴰ row rs → Says row

@@ -1,16 +1,17 @@
 -- The starred samples of document 01 as rows of one table: what a row may say, what that comes to by the definitions that the promises are made of, and the rows.
 use Prim.Native.Nat.{ℕ, _*_, _<_}
 use mathlib.Core.List.{List, [], _∷_, map}
-use mathlib.Core.Option.{Option, some}
+use mathlib.Core.Option.{Option}
 use mathlib.Core.Path.{_≡_}
-use lib.ListN.{length}
+use lib.ListN.{length, getD}
 use Rattle.theory.specs.Pref.{IsPref}
 use Rattle.theory.specs.Prefix.{Pattern}
+use Rattle.theory.specs.Registry.{begun, entered}
 use Rattle.theory.specs.Term.{Tree}
 use Rattle.theory.specs.Transducer.{Transducer}
 use Rattle.trees.specs.Alphabets.{Alphabets, Leaf, inputs, outputs, alphabetCheck}
 use Rattle.trees.specs.Code.{code}
-use Rattle.trees.specs.Refusal.{accepted, done, Holds}
+use Rattle.trees.specs.Refusal.{Outcome, accepted, refused, done, Holds}
 use Rattle.formats.specs.Samples.{S, T, T′, U, U-clean, leaf-file, pairs, M, M-pref, M-clean}
 use Rattle.formats.specs.Sheet.{Sheet, file, sheetCheck}
 use Rattle.trees.specs.Tree.{treeCheck}
@@ -22,6 +23,8 @@ use Rattle.forms.specs.Alphabet.{alphabet}
 use Rattle.earliest.specs.Answers.{EarliestFile, formCheck}
 use Rattle.canonical.specs.Answers.{NormalFile}
 use Rattle.witness.specs.Difference.{Difference}
+use Rattle.records.specs.Answers.{numberOf}
+use Rattle.records.specs.Book.{answersOf, recordAt}
 use Rattle.registry.specs.Calls.{Book, Entries}
 
 -- ---- what a row may say
@@ -44,8 +47,8 @@ pub data Row : Type 0 where
   earliest : (stock sheet : List ℕ) (states : ℕ) → Row
   -- on the design the transducers of the two sheets give trees with the unlike symbols b and b′ at the address (01: place)
   differ : (stock first second design place : List ℕ) (b b′ : ℕ) → Row
-  -- in a registry (01: book) with an area of `room` bytes these files, the last first, get these numbers; then so many bytes are used and entries answered
-  registers : (stock : List ℕ) (room : ℕ) (entered : List (List ℕ × ℕ)) (used answered : ℕ) → Row
+  -- in a registry (01: book) with an area of `room` bytes entries of these files, the last first, are answered so; then so many bytes are used and entries answered, and the records from 0 on have these counts, the others 0
+  registers : (stock : List ℕ) (room : ℕ) (answers : List (List ℕ × Outcome ℕ)) (used answered : ℕ) (counts : List ℕ) → Row
 
 -- ---- what that comes to
 pub record DifferOn (stock first second design place : List ℕ) (b b′ : ℕ) : Type 0 where
@@ -59,16 +62,22 @@ pub record DifferOn (stock first second design place : List ℕ) (b b′ : ℕ) 
   pub coded : code shown ≡ design
   pub difference : Difference (inputs stock) (outputs stock) machine machine′ shown place b b′
 
--- the entries of log were answered with these numbers, and the registry b has so many bytes used and entries answered
-pub record Registered (entered : List (List ℕ × ℕ)) (used answered : ℕ) (log : List (List ℕ × Option ℕ)) (b : Book) : Type 0 where
-  pub numbers : log ≡ map (λ e. (e .0, some (e .1))) entered
+-- the files of a list of entries and what was answered, the last first
+unfoldable pub outcomes : {stock : List ℕ} {log : List (List ℕ × Option ℕ)} {b : Book} → Entries stock log b → List (List ℕ × Outcome ℕ)
+outcomes (begun M) = []
+outcomes (entered {t} E call) = (t, numberOf (call .answer)) ∷ outcomes E
+
+-- the entries were answered so, and the registry b that they left has so many bytes used, entries answered, and these counts
+pub record Registered {stock : List ℕ} {log : List (List ℕ × Option ℕ)} {b : Book} (answers : List (List ℕ × Outcome ℕ)) (used answered : ℕ) (counts : List ℕ) (E : Entries stock log b) : Type 0 where
+  pub answers-are : outcomes E ≡ answers
   pub used-are : b .head .used ≡ used
-  pub answered-are : b .head .answered ≡ answered
+  pub answered-are : answersOf (b .head) ≡ answered
+  pub counts-are : (n : ℕ) → n < 33 → recordAt (b .records) n .count ≡ getD counts n 0
 
 -- there is a list of entries of these files into such a registry, and every one is answered so
-pub record Registers (stock : List ℕ) (room : ℕ) (entered : List (List ℕ × ℕ)) (used answered : ℕ) : Type 0 where
-  pub one : (log : List (List ℕ × Option ℕ)) × ((b : Book) × (Entries stock log b × (length (b .area) ≡ room) × (map (λ e. e .0) log ≡ map (λ e. e .0) entered)))
-  pub every : (log : List (List ℕ × Option ℕ)) (b : Book) → Entries stock log b → length (b .area) ≡ room → map (λ e. e .0) log ≡ map (λ e. e .0) entered → Registered entered used answered log b
+pub record Registers (stock : List ℕ) (room : ℕ) (answers : List (List ℕ × Outcome ℕ)) (used answered : ℕ) (counts : List ℕ) : Type 0 where
+  pub one : (log : List (List ℕ × Option ℕ)) × ((b : Book) × (Entries stock log b × (length (b .area) ≡ room) × (map (λ e. e .0) log ≡ map (λ e. e .0) answers)))
+  pub every : (log : List (List ℕ × Option ℕ)) (b : Book) (E : Entries stock log b) → length (b .area) ≡ room → map (λ e. e .0) log ≡ map (λ e. e .0) answers → Registered answers used answered counts E
 
 -- whatever area of k bytes is lent, a translation that keeps its promise is accepted
 pub record Fits (stock sheet design : List ℕ) (k : ℕ) : Type 0 where
@@ -90,7 +99,7 @@ Says (cleans stock sheet clean) = (k : ℕ) × ((counts : List ℕ) × ((bytes :
 Says (normal stock sheet states marks) = (counts : List ℕ) × ((bytes : List ℕ) × (Clean stock sheet states counts bytes × (length bytes ≡ 2 * marks)))
 Says (earliest stock sheet states) = (counts : List ℕ) × ((bytes : List ℕ) × EarliestFile stock sheet states counts bytes)
 Says (differ stock first second design place b b′) = DifferOn stock first second design place b b′
-Says (registers stock room entered used answered) = Registers stock room entered used answered
+Says (registers stock room answers used answered counts) = Registers stock room answers used answered counts
 
 -- ---- the rows
 abbrev pub rows : List Row
@@ -112,5 +121,6 @@ rows =
     ∷ cleans S leaf-file leaf-file
     ∷ normal S leaf-file 0 1
     ∷ not-linear S T
-    ∷ registers S 60 ((U, 2) ∷ (T′, 1) ∷ (T, 1) ∷ []) 56 3
+    ∷ registers S 60 ((U, accepted 2) ∷ (T′, accepted 1) ∷ (T, accepted 1) ∷ []) 56 3 (0 ∷ 2 ∷ 1 ∷ [])
+    ∷ registers S 55 ((U, refused 8) ∷ (T′, accepted 1) ∷ (T, accepted 1) ∷ []) 27 2 (0 ∷ 2 ∷ [])
     ∷ []
