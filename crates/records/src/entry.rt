@@ -5,7 +5,7 @@ ghost use mathlib.Core.Path.{_≡_};
 ghost use lib.ListN.{length, take};
 ghost use Rattle.formats.specs.Sheet.{longest};
 ghost use Rattle.records.specs.Answers.{Room};
-ghost use Rattle.records.specs.Book.{answersOf, countedHead};
+ghost use Rattle.records.specs.Book.{answersOf, tooMany, countedHead};
 ghost use Rattle.records.specs.Inner.Steps.{clean, Finds, Ready, Numbers, Decided, Fits, Fit, Adds, Counts, Puts, Settled, Searched, refusedBy, refusedAsk, unchanged, Asks, Places};
 ghost use Rattle.records.specs.Inner.Surveys.{Surveyed, Told};
 ghost use Rattle.records.specs.declared.book.Record.{Record as Records};
@@ -92,7 +92,7 @@ pub fn decide(h: Head, a: Asked, f: Located, room: usize, size: usize) -> Entere
 
 // The head with one answer more.
 fn count_answer(h: Head) -> Head
-    requires { ⌜ answersOf h < 18446744073709551615 ⌝ }
+    requires { ⌜ answersOf h < tooMany ⌝ }
     ensures { λ r. ⌜ r ≡ countedHead h ⌝ }
 {
     let answered = h.answered + 1;
@@ -105,7 +105,7 @@ fn count_answer(h: Head) -> Head
 
 // These bytes are put behind what is held, and get the next number.
 fn append(h: Head, area: &mut [u8], bytes: &[u8]) -> Entry
-    requires { ⌜ Room h (now area) (now bytes) × (answersOf h < 18446744073709551615) ⌝ }
+    requires { ⌜ Room h (now area) (now bytes) × (answersOf h < tooMany) ⌝ }
     ensures { λ r. ⌜ Adds h (now (area .entry)) (now (bytes .entry)) r (now (area .exit)) ⌝ }
 {
     let used = h.used;
@@ -131,7 +131,7 @@ fn append(h: Head, area: &mut [u8], bytes: &[u8]) -> Entry
 
 // The answer n, whose record is r, is counted.
 fn count(h: Head, n: usize, r: Record) -> Entry
-    requires { ⌜ (answersOf h < 18446744073709551615) × (r .count < 18446744073709551615) ⌝ }
+    requires { ⌜ (answersOf h < tooMany) × (r .count < tooMany) ⌝ }
     ensures { λ e. ⌜ Counts h n r e ⌝ }
 {
     let new = Record {
