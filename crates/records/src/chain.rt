@@ -48,7 +48,10 @@ fn is_unused(r: Record) -> bool
     if r.size != 0 {
         return false;
     }
-    r.count == 0
+    if r.count != 0 {
+        return false;
+    }
+    true
 }
 
 // The sum, and 18,446,744,073,709,551,615 where it is as much or more.
