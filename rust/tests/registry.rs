@@ -82,7 +82,7 @@ fn bodies(tally: &mut Tally, memory: &mut Memory) {
 }
 
 /// How many lists are drawn to look at the counts.
-const LISTS: u64 = 8_000;
+const LISTS: u64 = 20_000;
 
 /// The outcomes that the paper has.
 const OUTCOMES: [(&str, &str); 14] = [
@@ -566,12 +566,12 @@ fn full() {
     }
 }
 
-/// Alphabets, and so many transducers of few shapes over them, many of them equivalent, with some that are
-/// refused.
-fn pool(random: &mut Random, count: usize) -> (Alphabets, Vec<Vec<u8>>) {
+/// Alphabets, and one of these numbers of transducers of few shapes over them, many of them equivalent, with some
+/// that are refused.
+fn pool(random: &mut Random, counts: &[usize]) -> (Alphabets, Vec<Vec<u8>>) {
     let alphabets = if random.once_in(3) { chain_alphabets() } else { small_alphabets(random) };
     let mut sheets: Vec<Transducer> = Vec::new();
-    for _ in 0..count {
+    for _ in 0..random.pick(counts) {
         sheets.push(match random.below(4) {
             0 => prefixed_transducer(random, &alphabets, 4, 9),
             1 if alphabets.inputs == [1, 0] && alphabets.outputs == [1, 0, 0] => {
@@ -609,8 +609,7 @@ fn lists() {
     let mut full = 0;
     for seed in 0..120 {
         let mut random = Random::new(seed + 30_000_000);
-        let count = random.pick(&[3, 10, 45]);
-        let (alphabets, files) = pool(&mut random, count);
+        let (alphabets, files) = pool(&mut random, &[3, 10, 45]);
         let stock = alphabets.file();
         let size = match random.below(6) {
             0 => random.range(0, 40),
@@ -668,8 +667,7 @@ fn counts_of_lists() {
     let mut seen = BTreeMap::<&str, usize>::new();
     for seed in 0..LISTS {
         let mut random = Random::new(seed + 40_000_000);
-        let count = random.range(1, 4);
-        let (alphabets, mut files) = pool(&mut random, count);
+        let (alphabets, mut files) = pool(&mut random, &[1, 2, 3, 4]);
         files.extend([vec![], vec![1, 0, 3], vec![0, 0, 1, 1, 0]]);
         let stock = alphabets.file();
         let room = random.pick(&[40, 100, 300, 5_000]);
@@ -688,13 +686,13 @@ fn counts_of_lists() {
                 }
                 Err(_) => *seen.entry("refused entries").or_default() += 1,
             }
-            if random.once_in(40) {
+            if random.once_in(25) {
                 let before = memory.counts();
-                let (moved, name) = match random.once_in(2) {
-                    true => (Memory::move_counts as fn(&mut Memory, &mut Random), "lists with counts moved"),
-                    false => (Memory::raise_counts as fn(&mut Memory, &mut Random), "lists with counts raised"),
-                };
-                moved(&mut memory, &mut random);
+                let name = if random.once_in(4) { "counts raised" } else { "counts moved" };
+                match name {
+                    "counts moved" => memory.move_counts(&mut random),
+                    _ => memory.raise_counts(&mut random),
+                }
                 let after = memory.counts();
                 (0..RECORDS).for_each(|index| besides[index] += i128::from(after[index]) - i128::from(before[index]));
                 *seen.entry(name).or_default() += usize::from(after != before);
@@ -733,7 +731,7 @@ fn counts_of_lists() {
         }
     }
     seen.iter().for_each(|(name, times)| println!("{name:40} {times:8}"));
-    for name in ["lists with counts moved", "lists with counts raised", "pairs alike", "pairs that differ"] {
+    for name in ["counts moved", "counts raised", "pairs alike", "pairs that differ"] {
         assert!(seen[name] > 500, "{name}");
     }
     let wanted: Vec<_> =
