@@ -449,10 +449,8 @@ fn entry(name: &str, stock: &[u8], held: &[Vec<u8>], file: &[u8]) {
         slices::enter(&mut head, &mut records, &mut area, file).expect("it is entered");
     }
     let mut other = independent::Head { held: head.held, used: head.used, answered: head.answered };
-    let mut others = records.map(|slices::Record { start, size, count }| {
-        // the same record by the independent names
-        independent::Record { start, length: size, count }
-    });
+    let other_record = |slices::Record { start, size, count }| independent::Record { start, length: size, count };
+    let mut others = records.map(other_record);
     let mut other_area = area;
     let (before, other_before) = ((head, records), (other, others));
     let mut proved = || {

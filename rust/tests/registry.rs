@@ -16,7 +16,7 @@ use generate::memory::Memory;
 use generate::samples::*;
 use generate::{Alphabets, Random, Transducer};
 use lent::{number, Tally, BEFORE};
-use std::collections::BTreeMap;
+use std::collections::{BTreeMap, BTreeSet};
 
 /// Makes a registry in the memory three times, and answers what all three do.
 fn make(tally: &mut Tally, memory: &mut Memory, stock: &[u8]) -> Result<(), u32> {
@@ -390,20 +390,21 @@ fn set_counts(memory: &mut Memory, answered: u64, counts: &[(usize, u64)]) {
     counts.iter().for_each(|&(index, count)| records[index].count = count);
 }
 
-/// Registries over one part and 64 blocks that hold so many sheets of one block each, in an area with room for one
-/// more; and the sheet of a block.
-fn of_blocks(tally: &mut Tally, held: usize) -> Memory {
+/// A registry over one input symbol and 64 output symbols that holds so many transducers of one symbol each, in an area
+/// with room for one more.
+fn of_symbols(tally: &mut Tally, held: usize) -> Memory {
     let stock = [&[1, 0, 64][..], &[0; 64]].concat();
     let mut memory = Memory::new(RECORDS + 2, stock.len() + 5 * (held + 1));
     assert_eq!(make(tally, &mut memory, &stock), Ok(()));
-    for block in 1..=held {
-        assert_eq!(enter(tally, &mut memory, &of_block(block)), Ok(block));
+    for symbol in 1..=held {
+        assert_eq!(enter(tally, &mut memory, &of_symbol(symbol)), Ok(symbol));
     }
     memory
 }
 
-fn of_block(block: usize) -> [u8; 5] {
-    [0, 0, 1, 0, block as u8]
+/// The transducer whose output is always this symbol.
+fn of_symbol(symbol: usize) -> [u8; 5] {
+    [0, 0, 1, 0, symbol as u8]
 }
 
 /// Whether the counts of a memory that is a registry otherwise are those of a registry.
@@ -414,55 +415,50 @@ fn counts_fit(memory: &Memory) -> bool {
     others.iter().all(|&count| count == 0) && sum == u128::from(answered) && answered < u64::MAX
 }
 
-/// Every way to have 0, 1, 2^63 or 2^64 - 1 in one of the 33 records, or in two, the other counts being 0 or as they
-/// were, with answers that are this sum, the sum that goes round, one more and one less. What is refused is refused
-/// in each call; what is accepted counts one more.
+/// Whether these counts are accepted: an entry and a body by number take them or not, as they fit or not.
+fn accepted(tally: &mut Tally, memory: &mut Memory) -> bool {
+    let (fits, held) = (counts_fit(memory), memory.head.held);
+    let answer = enter(tally, &mut memory.clone(), &of_symbol(1));
+    assert_eq!(answer, if fits { Ok(1) } else { Err(9) }, "{:?} {:?}", memory.head, memory.counts());
+    assert_eq!(body(tally, memory, 1).len(), if fits && held > 0 { 5 } else { 0 });
+    fits
+}
+
+/// Every way to have 0, 1, 2^63 or 2^64 - 1 in one of the 33 records, or in two, the other counts being as they were or
+/// 0; with answers that are this sum, or what is left of it where it goes round, one more, one less, as they were, and
+/// the last number.
 #[test]
 fn counts_at_the_ends() {
-    const ENDS: [u64; 4] = [0, 1, 1 << 63, u64::MAX];
     let mut tally = Tally::default();
-    let (mut accepted, mut refused, mut without) = (0, 0, 0);
-    for held in [0, 1, 2, 32] {
-        let whole = of_blocks(&mut tally, held);
-        for others_stay in [false, true] {
-            let mut start = whole.clone();
-            if !others_stay {
-                (1..=held).for_each(|number| start.lend().1[number].count = 0);
-            }
-            for first in 0..RECORDS {
-                for second in first..RECORDS {
-                    // the same one twice is one alone
-                    let pairs = ENDS.iter().flat_map(|&one| ENDS.map(|two| (one, two)));
-                    for (one, two) in pairs.filter(|&(one, two)| first < second || one == two) {
-                        let mut memory = start.clone();
-                        set_counts(&mut memory, 0, &[(first, one), (second, two)]);
-                        let sum = memory.counts()[..RECORDS].iter().fold(0, |sum: u64, &count| sum.wrapping_add(count));
-                        let mut answers =
-                            vec![sum, sum.wrapping_add(1), sum.wrapping_sub(1), whole.head.answered, u64::MAX];
-                        answers.sort_unstable();
-                        answers.dedup();
-                        for answered in answers {
-                            memory.head.answered = answered;
-                            let fits = counts_fit(&memory);
-                            let mut entered = memory.clone();
-                            // the lowest that is held, or the first of all
-                            let answer = enter(&mut tally, &mut entered, &of_block(1));
-                            assert_eq!(answer, if fits { Ok(1) } else { Err(9) }, "{answered} {:?}", memory.counts());
-                            let found = body(&mut tally, &mut memory, 1).len();
-                            assert_eq!(found, if fits && held > 0 { 5 } else { 0 });
-                            accepted += usize::from(fits);
-                            refused += usize::from(!fits);
-                            without += usize::from(fits && memory.counts()[1..=held].contains(&0));
-                        }
+    let ends = || [0, 1, 1 << 63, u64::MAX].into_iter();
+    let pairs = || ends().flat_map(move |one| ends().map(move |two| (one, two)));
+    let [mut fit, mut others, mut without] = [0; 3];
+    for (held, stay) in [0, 1, 2, 32].into_iter().flat_map(|held| [(held, false), (held, true)]) {
+        let mut start = of_symbols(&mut tally, held);
+        let as_made = start.head.answered;
+        if !stay {
+            (1..=held).for_each(|number| start.lend().1[number].count = 0);
+        }
+        for (first, second) in (0..RECORDS).flat_map(|first| (first..RECORDS).map(move |second| (first, second))) {
+            // one record twice is one alone
+            for (one, two) in pairs().filter(|&(one, two)| first < second || one == two) {
+                let mut memory = start.clone();
+                set_counts(&mut memory, 0, &[(first, one), (second, two)]);
+                let sum = memory.counts()[..RECORDS].iter().fold(0, |sum: u64, &count| sum.wrapping_add(count));
+                for answered in BTreeSet::from([sum, sum.wrapping_add(1), sum.wrapping_sub(1), as_made, u64::MAX]) {
+                    memory.head.answered = answered;
+                    if accepted(&mut tally, &mut memory) {
+                        fit += 1;
+                        without += usize::from(memory.counts()[1..=held].contains(&0));
+                    } else {
+                        others += 1;
                     }
                 }
             }
         }
     }
-    println!(
-        "counts at the ends: {accepted} accepted, {without} of them with a held record of count 0, {refused} refused"
-    );
-    assert!(accepted > 5_000 && without > 1_000 && refused > 100_000);
+    println!("counts at the ends: {fit} accepted, {without} of them with a held record of count 0, {others} refused");
+    assert!(fit > 10_000 && without > 5_000 && others > 200_000);
 }
 
 /// Counts past the 33rd record are neither summed nor altered.
@@ -470,13 +466,13 @@ fn counts_at_the_ends() {
 fn counts_past_the_records() {
     let mut tally = Tally::default();
     for held in [0, 2, 32] {
-        let whole = of_blocks(&mut tally, held);
+        let whole = of_symbols(&mut tally, held);
         for count in [0, 1, 1 << 63, u64::MAX] {
             for other in [0, 1, 1 << 63, u64::MAX] {
                 let mut memory = whole.clone();
                 set_counts(&mut memory, held as u64, &[(RECORDS, count), (RECORDS + 1, other)]);
                 bodies(&mut tally, &mut memory);
-                assert_eq!(enter(&mut tally, &mut memory, &of_block(1)), Ok(1));
+                assert_eq!(enter(&mut tally, &mut memory, &of_symbol(1)), Ok(1));
                 assert_eq!(memory.counts()[RECORDS..], [count, other]);
                 let stock = memory.area()[..67].to_vec();
                 assert_eq!(make(&mut tally, &mut memory, &stock), Ok(()));
