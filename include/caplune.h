@@ -100,8 +100,10 @@ struct caplune_head {
     uint64_t answered;
 };
 
-/* Where a registry has the alphabets (record 0) or a normal form (the record of its number) in its area, and how often
- * it answered with that number; an unused record is 0, 0 and 0. */
+/*
+ * Where a registry has the alphabets (record 0) or a normal form (the record of its number) in its area, and how often
+ * it answered with that number. An unused record is 0, 0 and 0.
+ */
 struct caplune_record {
     /* The byte at which it starts. */
     size_t start;

@@ -355,32 +355,30 @@ fn damaged() {
             set_counts(memory, answered, &[(1, count), (2, 0)]);
         });
     }
-    // counts that sum to the answers in another way, and counts that do not or stand elsewhere
-    let counts: [(u64, &[(usize, u64)], bool); 20] = [
-        (2, &[(1, 2), (2, 0)], true),
-        (2, &[(1, 0), (2, 2)], true),
-        (0, &[(1, 0), (2, 0)], true),
-        (2, &[(33, 0), (34, 5)], true),
-        (2, &[(1, 2)], false),
-        (2, &[(1, 0)], false),
-        (3, &[], false),
-        (1, &[], false),
-        (0, &[], false),
-        (3, &[(0, 1)], false),
-        (2, &[(0, 1), (1, 0)], false),
-        (3, &[(3, 1)], false),
-        (2, &[(3, 1), (2, 0)], false),
-        (3, &[(32, 1)], false),
-        (2, &[(33, 0), (2, 2)], false),
-        (2, &[(1, 1 + (1 << 63)), (2, 1 + (1 << 63))], false),
-        (2, &[(1, u64::MAX), (2, 3)], false),
-        (2, &[(0, 1 << 63), (3, 1 << 63)], false),
-        (2, &[(0, u64::MAX), (1, 2)], false),
-        (u64::MAX, &[(1, u64::MAX - 1)], false),
+    // the answers and some counts: a sum that is right in another way, one that is not, and counts that stand elsewhere
+    type Counts = (u64, &'static [(usize, u64)]);
+    let fitting: [Counts; 4] =
+        [(2, &[(1, 2), (2, 0)]), (2, &[(1, 0), (2, 2)]), (0, &[(1, 0), (2, 0)]), (2, &[(33, 0), (34, 5)])];
+    let others: [Counts; 16] = [
+        (2, &[(1, 2)]),
+        (2, &[(1, 0)]),
+        (3, &[]),
+        (1, &[]),
+        (0, &[]),
+        (3, &[(0, 1)]),
+        (2, &[(0, 1), (1, 0)]),
+        (3, &[(3, 1)]),
+        (2, &[(3, 1), (2, 0)]),
+        (3, &[(32, 1)]),
+        (2, &[(33, 0), (2, 2)]),
+        (2, &[(1, 1 + (1 << 63)), (2, 1 + (1 << 63))]),
+        (2, &[(1, u64::MAX), (2, 3)]),
+        (2, &[(0, 1 << 63), (3, 1 << 63)]),
+        (2, &[(0, u64::MAX), (1, 2)]),
+        (u64::MAX, &[(1, u64::MAX - 1)]),
     ];
-    for (answered, counts, fits) in counts {
-        entry(if fits { Ok(1) } else { Err(9) }, &|memory| set_counts(memory, answered, counts));
-    }
+    fitting.iter().for_each(|&(answered, counts)| entry(Ok(1), &|memory| set_counts(memory, answered, counts)));
+    others.iter().for_each(|&(answered, counts)| entry(Err(9), &|memory| set_counts(memory, answered, counts)));
 }
 
 /// Sets the answers of the head, and the counts of these records.
