@@ -935,7 +935,7 @@ static void counts(struct book book)
     other.records[2].count = half - 2;
     expected = other;
     expect_answer(&expected, 2);
-    check("the last answer, counted in two records", enters(&other, U, 2, &expected));
+    check("the last answer, behind counts in two records", enters(&other, U, 2, &expected));
     check("the answer after it: 9", refuses_counts(other));
 }
 

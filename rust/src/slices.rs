@@ -369,7 +369,7 @@ pub fn shorter<'a>(stock: &[u8], first: &'a [u8], second: &'a [u8]) -> Option<&'
 /// Makes a registry of normal forms of transducers over one stock (the paper: a book).
 ///
 /// It is the head, the first [`RECORDS`] records and the area, all of them lent to each call that has
-/// to do with it, and holds the stock alone, whatever stood there before; the count of every record is 0.
+/// to do with it, and holds the stock alone, whatever stood there before; the counts in these are 0.
 /// Records past these, and the area behind the stock, stay. Refuses by 9 fewer records, by 2 what is not a
 /// stock, and by 8 an area that is shorter than the stock; head, records and area then are as they were.
 pub fn make_registry(head: &mut Head, records: &mut [Record], area: &mut [u8], stock: &[u8]) -> Result<(), Refusal> {
