@@ -173,14 +173,16 @@ impl Memory {
         let among = if random.once_in(2) { held.saturating_add(2).min(lent) } else { lent };
         let (first, second) = (random.below(among), random.below(among));
         let records = self.lend().1;
+        let all = records[second].count;
         let mut add = |index: usize, by: u64| records[index].count = records[index].count.wrapping_add(by);
         match random.below(6) {
             0 => records[first].count = near(random, records[first].count as usize) as u64,
             1 => add(first, random.pick(&[1, u64::MAX, 1 << 63])),
             // the sum goes round, and is right again but for that
             2 => [first, second].into_iter().for_each(|index| add(index, 1 << 63)),
+            // a count is moved, to record 0 or an unused one too: all of it, or so much that one goes round
             3 => {
-                let by = random.next();
+                let by = if random.once_in(2) { all } else { random.next() };
                 add(first, by);
                 add(second, by.wrapping_neg());
             }
