@@ -26,7 +26,7 @@
  *
  * Stack. All work memory is local. Bytes of stack of one call, measured on x86-64 (docs/AREAS.md, which has the
  * local arrays of each function): translate 275,159, symbol_at 78,111 and read_tree 65,647 on a chain of 512 levels,
- * shorter 123,023, enter 121,407, compare 105,295, clean 100,831, earliest_form 66,735, join 55,519, read_xml
+ * shorter 123,023, enter 121,423, compare 105,295, clean 100,831, earliest_form 66,735, join 55,519, read_xml
  * 16,719, write_xml 12,575, is_linear 9,207; the others under 4,600. Mind this where a thread's stack is made small.
  */
 #ifndef CAPLUNE_H
@@ -100,12 +100,17 @@ struct caplune_head {
     uint64_t answered;
 };
 
-/* Where a registry has the alphabets (record 0) or a normal form in its area; an unused record is 0 and 0. */
+/*
+ * Where a registry has the alphabets (record 0) or a normal form (the record of its number) in its area, and how often
+ * it answered with that number. An unused record is 0, 0 and 0.
+ */
 struct caplune_record {
     /* The byte at which it starts. */
     size_t start;
     /* How many bytes it has. */
     size_t size;
+    /* The entries answered with its number; 0 for the alphabets. The counts of all records together are `answered`. */
+    uint64_t count;
 };
 
 /*
@@ -237,7 +242,7 @@ size_t caplune_shorter(const uint8_t *stock, size_t stock_length, const uint8_t 
  * Makes a registry of normal forms (the paper: a book) over two alphabets, whatever stood in head, records and area
  * before.
  * Writes the head (0 held, `stock_length` used, 0 answered), the first CAPLUNE_RECORDS records (the alphabets, then
- * unused ones), and a copy of `stock` to the start of `area`. Further records stay.
+ * unused ones, the count of each 0), and a copy of `stock` to the start of `area`. Further records stay.
  * Refuses by 9 where there are fewer than CAPLUNE_RECORDS records, then 2, then 8 where the area is shorter than the
  * stock; all then is as it was.
  */
@@ -249,10 +254,13 @@ uint32_t caplune_make_registry(struct caplune_head *head, struct caplune_record 
  * before it left them.
  * Writes to `number` the lowest number, from 1 on, under which its normal form is held. One that is not held is
  * added: behind the bytes used in the area, with the next record and number, `held` and `used` of the head growing.
- * In either case `answered` grows by one. Two transducers get one number exactly if they are equivalent.
- * Refuses by 9 for what is not a registry, or where no further answer can be counted, then 4, 5 and 7 as
- * caplune_clean does under the registry's alphabets, then 8 where the normal form is not held and 32 are or the area
- * has no room for it; all then is as it was.
+ * In either case `answered` and the count of the record with that number grow by one, and no other count does. Two
+ * transducers get one number exactly if they are equivalent.
+ * Refuses by 9 for what is not a registry, also where the counts of the first CAPLUNE_RECORDS records do not sum to
+ * `answered` or record 0 or an unused one has another count than 0, or where `answered` is UINT64_MAX, so that no
+ * further answer can be counted; a count of 0 in a record that is used is no fault, and no count has a limit of its
+ * own. Then refuses by 4, 5 and 7 as caplune_clean does under the registry's alphabets, then by 8 where the normal form
+ * is not held and 32 are or the area has no room for it; all then is as it was.
  */
 uint32_t caplune_enter(struct caplune_head *head, struct caplune_record *records, size_t records_length, uint8_t *area,
                        size_t area_length, const uint8_t *file, size_t file_length, size_t *number);
@@ -261,7 +269,8 @@ uint32_t caplune_enter(struct caplune_head *head, struct caplune_record *records
  * Finds the normal form of this number in a registry (the paper: the body of a sheet in a book).
  * Returns how many bytes its file has, and writes to `start` at which byte of the area it starts. Returns 0 and
  * writes 0 wherever that part is empty: for the number 0, for one that is not held, where caplune_enter would refuse
- * by 9, and for one that is held with no bytes, as a registry that was made elsewhere may do. No refusal is told.
+ * by 9 (for wrong counts too), and for one that is held with no bytes, as a registry that was made elsewhere may do. No
+ * refusal is told.
  */
 size_t caplune_body(const struct caplune_head *head, const struct caplune_record *records, size_t records_length,
                     const uint8_t *area, size_t area_length, size_t number, size_t *start);

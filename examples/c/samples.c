@@ -775,7 +775,8 @@ static struct book no_book(size_t length)
 {
     struct book book = {.head = {.held = 77, .used = 78, .answered = 79}, .length = length};
     for (size_t index = 0; index <= CAPLUNE_RECORDS; index++)
-        book.records[index] = (struct caplune_record){.start = 1000 + index, .size = 2000 + index};
+        book.records[index] =
+            (struct caplune_record){.start = 1000 + index, .size = 2000 + index, .count = UINT64_MAX - index};
     fill(book.all, sizeof book.all);
     return book;
 }
@@ -784,7 +785,8 @@ static bool same(const struct book *first, const struct book *second)
 {
     for (size_t index = 0; index <= CAPLUNE_RECORDS; index++)
         if (first->records[index].start != second->records[index].start ||
-            first->records[index].size != second->records[index].size)
+            first->records[index].size != second->records[index].size ||
+            first->records[index].count != second->records[index].count)
             return false;
     return first->head.held == second->head.held && first->head.used == second->head.used &&
            first->head.answered == second->head.answered && memcmp(first->all, second->all, sizeof first->all) == 0;
@@ -795,10 +797,17 @@ static void expect(struct book *book, size_t record, struct bytes file)
 {
     if (file.length > book->length - book->head.used)
         return;
-    book->records[record] = (struct caplune_record){.start = book->head.used, .size = file.length};
+    book->records[record] = (struct caplune_record){.start = book->head.used, .size = file.length, .count = 0};
     memcpy(book->all + AROUND + book->head.used, file.at, file.length);
     book->head.held = record;
     book->head.used += file.length;
+}
+
+/* Counts an answer with this number in the book that is expected. */
+static void expect_answer(struct book *book, size_t number)
+{
+    book->head.answered++;
+    book->records[number].count++;
 }
 
 /* The book of this length that holds the alphabets alone. */
@@ -806,7 +815,7 @@ static struct book expected_book(size_t length, struct bytes stock)
 {
     struct book book = no_book(length);
     for (size_t index = 0; index < CAPLUNE_RECORDS; index++)
-        book.records[index] = (struct caplune_record){.start = 0, .size = 0};
+        book.records[index] = (struct caplune_record){.start = 0, .size = 0, .count = 0};
     book.head = (struct caplune_head){.held = 0, .used = 0, .answered = 0};
     expect(&book, 0, stock);
     return book;
@@ -868,21 +877,86 @@ static bool refuses_entry(struct book book, size_t records, struct bytes file, u
     return refuses(enter(&book, records, file), refusal) && same(&book, &before);
 }
 
+/* Whether a book with wrong counts is refused by 9, before 4, and leaves all, and its bodies are empty. */
+static bool refuses_counts(struct book book)
+{
+    return refuses_entry(book, CAPLUNE_RECORDS, T, CAPLUNE_BAD_REGISTRY) &&
+           refuses_entry(book, CAPLUNE_RECORDS, NO_CONTENTS, CAPLUNE_BAD_REGISTRY) &&
+           gives(body(&book, CAPLUNE_RECORDS, 1), NUMBERS(0, 0)) &&
+           gives(body(&book, CAPLUNE_RECORDS, 2), NUMBERS(0, 0));
+}
+
+/* The counts of a book that holds T and U, and answered twice with 1 and once with 2. */
+static void counts(struct book book)
+{
+    const uint64_t half = (uint64_t)1 << 63;
+    struct book other = book, expected;
+
+    other.records[0].count = 1;
+    check("a count in record 0: 9", refuses_counts(other));
+    other.head.answered++;
+    check("a count in record 0 that fits the answers: 9", refuses_counts(other));
+    other = book;
+    other.records[3].count = 1;
+    check("a count in an unused record: 9", refuses_counts(other));
+    other.head.answered++;
+    check("a count in an unused record that fits the answers: 9", refuses_counts(other));
+    other = book;
+    other.records[CAPLUNE_RECORDS - 1].count = other.records[2].count;
+    other.records[2].count = 0;
+    check("a count moved into the last record: 9", refuses_counts(other));
+    other = book;
+    other.records[1].count++;
+    check("a sum that is one too high: 9", refuses_counts(other));
+    other = book;
+    other.records[2].count--;
+    check("a sum that is one too low: 9", refuses_counts(other));
+    other = book;
+    other.records[1].count += half;
+    other.records[2].count += half;
+    check("two counts raised by half of all numbers each: 9", refuses_counts(other));
+    other = book;
+    other.head.answered = 0;
+    other.records[1].count = UINT64_MAX;
+    other.records[2].count = 1;
+    check("a sum that goes round to 0: 9", refuses_counts(other));
+
+    other = book;
+    other.records[1].count = 0;
+    other.records[2].count = 3;
+    check("a body that is held with count 0", gives(body(&other, CAPLUNE_RECORDS, 1), NUMBERS(21, 6)));
+    expected = other;
+    expect_answer(&expected, 1);
+    check("a held record with count 0 is no fault", enters(&other, T, 1, &expected));
+
+    other = book;
+    other.head.answered = UINT64_MAX - 1;
+    other.records[1].count = half;
+    other.records[2].count = half - 2;
+    expected = other;
+    expect_answer(&expected, 2);
+    check("the last answer, behind counts in two records", enters(&other, U, 2, &expected));
+    check("the answer after it: 9", refuses_counts(other));
+}
+
 static void books(void)
 {
     struct answer answer = clean(S, U, CAPLUNE_LONGEST_SHEET);
     struct bytes clean_u = keep(answer);
     struct book book = book_of("making a book of area 60", 60, S), expected = expected_book(60, S);
     expect(&expected, 1, T);
-    expected.head.answered = 1;
+    expect_answer(&expected, 1);
     check("book of area 60: T gets 1", enters(&book, T, 1, &expected));
-    expected.head.answered = 2;
+    expect_answer(&expected, 1);
     check("book of area 60: T' gets 1", enters(&book, T_PRIME, 1, &expected));
     expect(&expected, 2, clean_u);
-    expected.head.answered = 3;
+    expect_answer(&expected, 2);
     check("book of area 60: U gets 2", enters(&book, U, 2, &expected));
     check("book of area 60: 56 bytes used, 3 answered",
           book.head.held == 2 && book.head.used == 56 && book.head.answered == 3);
+    check("book of area 60: 2 answered with 1, and 1 with 2",
+          book.records[0].count == 0 && book.records[1].count == 2 && book.records[2].count == 1);
+    counts(book);
     check("body 1 is T", gives(body(&book, CAPLUNE_RECORDS, 1), NUMBERS(21, 6)));
     check("body 2 is the clean U", gives(body(&book, CAPLUNE_RECORDS, 2), NUMBERS(29, 27)));
     check("body 0 is empty", gives(body(&book, CAPLUNE_RECORDS, 0), NUMBERS(0, 0)));
@@ -898,9 +972,9 @@ static void short_books(void)
 {
     struct book book = book_of("making a book of area 55", 55, S), expected = expected_book(55, S);
     expect(&expected, 1, T);
-    expected.head.answered = 1;
+    expect_answer(&expected, 1);
     check("book of area 55: T gets 1", enters(&book, T, 1, &expected));
-    expected.head.answered = 2;
+    expect_answer(&expected, 1);
     check("book of area 55: T' gets 1", enters(&book, T_PRIME, 1, &expected));
     check("book of area 55: U is refused by 8", refuses_entry(book, CAPLUNE_RECORDS, U, CAPLUNE_FULL_REGISTRY));
     check("row 8: T, area 26", refuses_entry(expected_book(26, S), CAPLUNE_RECORDS, T, CAPLUNE_FULL_REGISTRY));
@@ -911,10 +985,11 @@ static void short_books(void)
     check("entry: 4", refuses_entry(book, CAPLUNE_RECORDS, NO_CONTENTS, CAPLUNE_BAD_CONTENTS));
     check("entry: 5", refuses_entry(book, CAPLUNE_RECORDS, NO_BODY, CAPLUNE_BAD_BODY));
     check("entry: 7 before 8", refuses_entry(book, CAPLUNE_RECORDS, open_ends(17), CAPLUNE_OVER_LIMITS));
-    book.head.answered = UINT64_MAX - 1;
-    expected.head.answered = UINT64_MAX;
+    book.head.answered = book.records[1].count = UINT64_MAX - 1;
+    expected.head.answered = expected.records[1].count = UINT64_MAX;
     check("the last entry that can be counted", enters(&book, T, 1, &expected));
     check("entry after it: 9 before 4", refuses_entry(book, CAPLUNE_RECORDS, NO_CONTENTS, CAPLUNE_BAD_REGISTRY));
+    check("a body after it is empty", gives(body(&book, CAPLUNE_RECORDS, 1), NUMBERS(0, 0)));
 }
 
 /* 32 initial terms of one output symbol each, and another one. */
@@ -926,14 +1001,19 @@ static void full_book(void)
     bool entered = true;
     for (uint8_t number = 1; number <= 32; number++) {
         expect(&expected, number, BYTES(0, 0, 1, 0, number));
-        expected.head.answered++;
+        expect_answer(&expected, number);
         entered = enters(&book, BYTES(0, 0, 1, 0, number), number, &expected) && entered;
     }
     check("32 sheets get 1 to 32", entered);
     check("the 33rd is refused by 8",
           refuses_entry(book, CAPLUNE_RECORDS, BYTES(0, 0, 1, 0, 33), CAPLUNE_FULL_REGISTRY));
-    expected.head.answered++;
+    expect_answer(&expected, 32);
     check("the 32nd once more gets 32", enters(&book, BYTES(0, 0, 1, 0, 32), 32, &expected));
+    expected.records[1].count = expected.records[32].count = 0;
+    expected.records[16].count += 3;
+    book = expected;
+    expect_answer(&expected, 32);
+    check("moved counts of the full book are taken", enters(&book, BYTES(0, 0, 1, 0, 32), 32, &expected));
 }
 
 int main(void)

@@ -449,29 +449,31 @@ fn entry(name: &str, stock: &[u8], held: &[Vec<u8>], file: &[u8]) {
         slices::enter(&mut head, &mut records, &mut area, file).expect("it is entered");
     }
     let mut other = independent::Head { held: head.held, used: head.used, answered: head.answered };
-    let mut others = records.map(|record| independent::Record { start: record.start, length: record.size });
+    let other_record = |slices::Record { start, size, count }| independent::Record { start, length: size, count };
+    let mut others = records.map(other_record);
     let mut other_area = area;
-    let (before, other_before, next) = (head, other, (head.held + 1).min(32));
-    let (record, other_record) = (records[next], others[next]);
+    let (before, other_before) = ((head, records), (other, others));
     let mut proved = || {
-        (head, records[next]) = (before, record);
+        (head, records) = before;
         slices::enter(&mut head, &mut records, &mut area, black_box(file)).map_err(caplune::Refusal::number)
     };
     let mut independent = || {
-        (other, others[next]) = (other_before, other_record);
+        (other, others) = other_before;
         let mut book = independent::Book { head: &mut other, records: &mut others, area: &mut other_area };
         book.enter(black_box(file))
     };
     let answer = proved();
     assert_eq!(answer, independent(), "{name}");
     let outcome = match answer {
-        Ok(number) if number > before.held => "added".to_string(),
+        Ok(number) if number > before.0.held => "added".to_string(),
         Ok(_) => "found".to_string(),
         Err(number) => format!("refused by {number}"),
     };
     line(&format!("enter, {name}: {outcome}"), file.len(), &mut || discard(black_box(proved())), &mut || {
         discard(black_box(independent()))
     });
+    // every call was this one
+    assert_eq!((proved(), independent()), (answer, answer), "{name}");
 }
 
 /// Two transducers to join.

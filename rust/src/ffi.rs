@@ -438,7 +438,7 @@ pub fn shorter(stock: &[u8], first: &[u8], second: &[u8], start: &mut usize, siz
     }
 }
 
-/// Makes a registry of alphabets, whatever stood in the head, the records and the area before.
+/// Makes a registry of alphabets, whatever stood in the head, the records and the area before. All counts are 0 then.
 /// Refuses by 9, 2 and 8.
 pub fn make_registry(head: &mut Head, records: &mut [Record], area: &mut [u8], stock: &[u8]) -> u32 {
     // SAFETY: the arguments are borrows, as said above.
@@ -455,7 +455,8 @@ pub fn make_registry(head: &mut Head, records: &mut [Record], area: &mut [u8], s
     }
 }
 
-/// Enters a transducer into a registry: the number of its normal form. Refuses by 9, 4, 5, 7 and 8.
+/// Enters a transducer into a registry: the number of its normal form. One more answer is counted, in the head and in
+/// the record of that number. Refuses by 9, also for counts that do not fit, 4, 5, 7 and 8.
 pub fn enter(head: &mut Head, records: &mut [Record], area: &mut [u8], file: &[u8], number: &mut usize) -> u32 {
     // SAFETY: the arguments are borrows, as said above.
     unsafe {
@@ -473,7 +474,8 @@ pub fn enter(head: &mut Head, records: &mut [Record], area: &mut [u8], file: &[u
 }
 
 /// Finds the normal form of this number. Returns its length, with its start in the area; or 0 and 0 wherever that part
-/// is empty: for the number 0, for one that is not held or is held with no bytes, and where the call is refused.
+/// is empty: for the number 0, for one that is not held or is held with no bytes, and where the call is refused, as an
+/// entry is by 9.
 pub fn body(head: &Head, records: &[Record], area: &[u8], number: usize, start: &mut usize) -> usize {
     // SAFETY: the arguments are borrows, as said above.
     unsafe { c::caplune_body(head, records.as_ptr(), records.len(), area.as_ptr(), area.len(), number, start) }

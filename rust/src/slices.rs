@@ -56,6 +56,8 @@
 //! let mut enter = |file: &[u8]| slices::enter(&mut head, &mut records, &mut area, file).unwrap();
 //! assert_eq!((enter(&file), enter(&other), enter(&third)), (1, 1, 2));
 //! assert_eq!(head, slices::Head { held: 2, used: 56, answered: 3 });
+//! // two entries got the number 1, and one the number 2
+//! assert_eq!(records.map(|record| record.count)[..4], [0, 2, 1, 0]);
 //! assert_eq!(slices::body(&head, &records, &area, 1), &file[..]);
 //! // the codes of all output symbols: that of symbol 63 are the last two bytes
 //! let mut codes = [0; slices::CODES_AREA];
@@ -367,9 +369,9 @@ pub fn shorter<'a>(stock: &[u8], first: &'a [u8], second: &'a [u8]) -> Option<&'
 /// Makes a registry of normal forms of transducers over one stock (the paper: a book).
 ///
 /// It is the head, the first [`RECORDS`] records and the area, all of them lent to each call that has
-/// to do with it, and holds the stock alone, whatever stood there before. Records past these, and the
-/// area behind the stock, stay. Refuses by 9 fewer records, by 2 what is not a stock, and by 8 an area
-/// that is shorter than the stock; head, records and area then are as they were.
+/// to do with it, and holds the stock alone, whatever stood there before; the counts in these are 0.
+/// Records past these, and the area behind the stock, stay. Refuses by 9 fewer records, by 2 what is not a
+/// stock, and by 8 an area that is shorter than the stock; head, records and area then are as they were.
 pub fn make_registry(head: &mut Head, records: &mut [Record], area: &mut [u8], stock: &[u8]) -> Result<(), Refusal> {
     let number = ffi::make_registry(head, records, area, stock);
     answer(number, || ())
@@ -378,11 +380,16 @@ pub fn make_registry(head: &mut Head, records: &mut [Record], area: &mut [u8], s
 /// Enters a transducer into a registry.
 ///
 /// Returns the lowest number, from 1 on, under which its normal form is held; a normal form that is not
-/// held is added behind the others and gets the next number. Either way one more answer is counted. So
-/// two transducers get one number exactly if they are equivalent. Refuses by 9 what is not a registry
-/// or has counted as many answers as can be counted, by 4, 5 and 7 as [`clean`] does under the stock of
-/// the registry, and by 8 a normal form that is not held where 32 are or the area has no room for it;
-/// head, records and area then are as they were.
+/// held is added behind the others and gets the next number. Either way one more answer is counted, in
+/// the head and in the record of that number, and in no other. So two transducers get one number exactly
+/// if they are equivalent, and the count of a record is how many entries were answered with its number.
+///
+/// Refuses by 9 what is not a registry, also where the counts of the first [`RECORDS`] records do not sum
+/// to the answers of the head, or record 0 or an unused one has another count than 0, and one that has
+/// counted as many answers as can be counted, which are [`u64::MAX`]; a count of 0 in a record that is
+/// used is no fault. Then refuses by 4, 5 and 7 as [`clean`] does under the stock of the registry, and by
+/// 8 a normal form that is not held where 32 are or the area has no room for it; head, records and area
+/// then are as they were.
 pub fn enter(head: &mut Head, records: &mut [Record], area: &mut [u8], file: &[u8]) -> Result<usize, Refusal> {
     let mut entered = 0;
     let number = ffi::enter(head, records, area, file, &mut entered);
@@ -392,7 +399,7 @@ pub fn enter(head: &mut Head, records: &mut [Record], area: &mut [u8], file: &[u
 /// Finds a normal form in a registry by its number.
 ///
 /// Returns its file as a part of `area`; an empty part for 0, for a number that is not held, and where
-/// [`enter`] would refuse by 9.
+/// [`enter`] would refuse by 9, for wrong counts too.
 pub fn body<'a>(head: &Head, records: &[Record], area: &'a [u8], number: usize) -> &'a [u8] {
     let mut start = 0;
     let size = ffi::body(head, records, area, number, &mut start);

@@ -309,6 +309,9 @@ fn enter(case: &Case) -> Checked {
     let refused = ffi::enter(head, records, area, &case.entered, &mut number);
     agree(refused, [number], expected.map(|number| [number]))?;
     let added = other.head.held > case.registry.head.held;
+    if !memory.counted(&case.registry, expected) {
+        return Err(format!("the counts are {:?}, of {:?}", memory.counts(), memory.head));
+    }
     same(memory, other)?;
     Ok(expected.map(|_| if added { "added" } else { "found" }))
 }

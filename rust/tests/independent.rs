@@ -99,7 +99,7 @@ fn order_of_refusals() {
 
 /// Head, records and area with a pattern in them.
 fn lent(area: usize) -> (Head, Vec<Record>, Vec<u8>) {
-    (Head { held: 77, used: 78, answered: 79 }, vec![Record { start: 7, length: 8 }; 35], vec![0xa5; area])
+    (Head { held: 77, used: 78, answered: 79 }, vec![Record { start: 7, length: 8, count: 9 }; 35], vec![0xa5; area])
 }
 
 #[test]
@@ -116,10 +116,10 @@ fn book_samples() {
     assert_eq!(book.body(2).map(<[u8]>::to_vec), clean(S, U));
     assert_eq!([0, 3, 33, usize::MAX].map(|number| book.body(number)), [Ok(&[][..]); 4]);
     let clean_u = clean(S, U).unwrap();
-    let record = |start, length| Record { start, length };
-    assert_eq!(records[..4], [record(0, 6), record(6, 21), record(27, 29), record(0, 0)]);
-    assert!(records[4..33].iter().all(|&unused| unused == record(0, 0)));
-    assert!(records[33..].iter().all(|&past| past == record(7, 8)));
+    let record = |start, length, count| Record { start, length, count };
+    assert_eq!(records[..4], [record(0, 6, 0), record(6, 21, 2), record(27, 29, 1), record(0, 0, 0)]);
+    assert!(records[4..33].iter().all(|&unused| unused == record(0, 0, 0)));
+    assert!(records[33..].iter().all(|&past| past == record(7, 8, 9)));
     assert_eq!(area, [S, T, &clean_u, &[0xa5; 4]].concat());
     // with area 55 the third is refused by 8, and with area 26 the first
     for (bytes, entries) in [(55, vec![Ok(1), Ok(1), Err(8)]), (26, vec![Err(8); 3]), (27, vec![Ok(1), Ok(1), Err(8)])]
@@ -172,6 +172,18 @@ fn book_refusals() {
     refused(&|_, records, _| records[1].length = usize::MAX, 9, T);
     refused(&|_, records, _| records[2].start = 27, 9, T);
     refused(&|_, records, _| records[32].length = 1, 9, T);
+    refused(&|head, _, _| head.answered = 0, 9, T);
+    refused(&|head, _, _| head.answered = 2, 9, T);
+    refused(&|_, records, _| records[1].count = 0, 9, T);
+    refused(&|_, records, _| records[1].count = 2, 9, T);
+    refused(&|_, records, _| records[1].count = 0, 9, &[]);
+    for (index, count) in [0, 2, 32].into_iter().flat_map(|index| [1, 1 << 63, u64::MAX].map(|count| (index, count))) {
+        refused(&|_, records, _| records[index].count = count, 9, T);
+        // the sum is right, but where it goes round
+        refused(&|head, records, _| (records[index].count, head.answered) = (count, count.wrapping_add(1)), 9, T);
+    }
+    refused(&|_, records, _| (records[0].count, records[1].count) = (1, 0), 9, T);
+    refused(&|_, records, _| (records[1].count, records[2].count) = (0, 1), 9, T);
     refused(&|_, _, area| area.truncate(26), 9, T);
     refused(&|_, _, area| area[0] = 0, 9, T);
     refused(&|_, _, area| area[0] = 0, 9, &[]);
@@ -181,10 +193,52 @@ fn book_refusals() {
     refused(&|_, _, area| area.truncate(27), 8, U);
     // a lent book that is in order, with records past the 33rd of any kind
     let (mut head, mut records, mut area) = made.clone();
-    head.answered = u64::MAX - 1;
+    (head.answered, records[1].count) = (u64::MAX - 1, u64::MAX - 1);
     let mut book = Book { head: &mut head, records: &mut records, area: &mut area };
     assert_eq!(book.enter(T_PRIME), Ok(1));
+    assert_eq!((book.head.answered, book.records[1].count), (u64::MAX, u64::MAX));
     assert_eq!(book.enter(T_PRIME), Err(9));
+}
+
+/// The counts of the 33 records sum to the entries answered, as natural numbers; any way to sum to them is taken.
+#[test]
+fn book_counts() {
+    let (mut head, mut records, mut area) = lent(90);
+    let mut book = Book::make(S, &mut head, &mut records, &mut area).unwrap();
+    assert_eq!([T, U, CONSTANT].map(|file| book.enter(file)), [Ok(1), Ok(2), Ok(3)]);
+    let made = (head, records, area);
+    let half = 1 << 63;
+    for (answered, counts, fits) in [
+        (3, [1, 1, 1], true),
+        (3, [3, 0, 0], true),
+        (3, [0, 0, 3], true),
+        (0, [0, 0, 0], true),
+        (3, [1, 1, 0], false),
+        (3, [1, 1, 2], false),
+        (3, [1 + half, 1 + half, 1], false),
+        (0, [half, half, 0], false),
+        (0, [u64::MAX, 1, 0], false),
+        (half, [half - 1, 0, 1], true),
+        (u64::MAX - 1, [half, half - 2, 0], true),
+        (u64::MAX - 1, [0, 0, u64::MAX - 1], true),
+        (u64::MAX, [half, half - 1, 0], false),
+    ] {
+        let (mut head, mut records, mut area) = made.clone();
+        head.answered = answered;
+        (1..4).for_each(|number| records[number].count = counts[number - 1]);
+        records[33].count = 1;
+        let before = (head, records.clone(), area.clone());
+        let mut book = Book { head: &mut head, records: &mut records, area: &mut area };
+        let found = book.body(2).map(<[u8]>::to_vec);
+        assert_eq!(found, if fits { clean(S, U) } else { Err(9) }, "{answered} {counts:?}");
+        assert_eq!(book.enter(T_PRIME), if fits { Ok(1) } else { Err(9) }, "{answered} {counts:?}");
+        let mut expected = before;
+        if fits {
+            expected.0.answered += 1;
+            expected.1[1].count += 1;
+        }
+        assert_eq!((head, records, area), expected, "{answered} {counts:?}");
+    }
 }
 
 /// In a book with one body twice an entry answers the lower number.
@@ -194,12 +248,13 @@ fn lowest_number() {
     let mut records = vec![Record::default(); 33];
     let mut area = [S, U, T, T, &[0; 9]].concat();
     // bodies 1 to 3: U as it is, which is not minimal; T; T
-    records[..4]
-        .copy_from_slice(&[(0, 6), (6, 25), (31, 21), (52, 21)].map(|(start, length)| Record { start, length }));
+    let record = |(start, length, count)| Record { start, length, count };
+    records[..4].copy_from_slice(&[(0, 6, 0), (6, 25, 3), (31, 21, 0), (52, 21, 2)].map(record));
     let mut book = Book { head: &mut head, records: &mut records, area: &mut area };
     assert_eq!(book.enter(T_PRIME), Ok(2));
     assert_eq!(book.enter(U), Err(8));
     assert_eq!(*book.head, Head { held: 3, used: 73, answered: 6 });
+    assert_eq!(records[..5].iter().map(|record| record.count).collect::<Vec<_>>(), [0, 3, 1, 2, 0]);
 }
 
 #[test]
@@ -216,6 +271,7 @@ fn full_book() {
         }
         assert_eq!(book.enter(&sheet(33)), Err(8));
         assert_eq!((book.head.held, book.head.answered), (32, 32 * (round + 1)));
+        assert!(book.records[1..33].iter().all(|record| record.count == round + 1));
     }
 }
 

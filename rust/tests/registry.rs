@@ -1,5 +1,5 @@
 //! Holds the proved registry against the independent one (the paper: the book): on the paper's samples,
-//! on lists of entries, and on heads, records and areas that are damaged.
+//! on lists of entries, and on heads, records, counts and areas that are damaged.
 //!
 //! Every call is made three times, each time on a memory of its own: by the safe function of this crate,
 //! by the C function itself, and by the independent function. The answers have to be the same, and so
@@ -16,7 +16,7 @@ use generate::memory::Memory;
 use generate::samples::*;
 use generate::{Alphabets, Random, Transducer};
 use lent::{number, Tally, BEFORE};
-use std::collections::BTreeMap;
+use std::collections::{BTreeMap, BTreeSet};
 
 /// Makes a registry in the memory three times, and answers what all three do.
 fn make(tally: &mut Tally, memory: &mut Memory, stock: &[u8]) -> Result<(), u32> {
@@ -33,11 +33,12 @@ fn make(tally: &mut Tally, memory: &mut Memory, stock: &[u8]) -> Result<(), u32>
     expected
 }
 
-/// Enters a transducer three times, and answers the number of all three.
+/// Enters a transducer three times, and answers the number of all three. One more answer is counted, at that
+/// number alone.
 fn enter(tally: &mut Tally, memory: &mut Memory, file: &[u8]) -> Result<usize, u32> {
-    let [mut safe, mut exported] = [memory.clone(), memory.clone()];
-    let (before, file_lent) = (memory.head, file.to_vec());
-    let told = || format!("{before:?} {file:?}");
+    let [before, mut safe, mut exported] = [memory.clone(), memory.clone(), memory.clone()];
+    let file_lent = file.to_vec();
+    let told = || format!("{:?} {:?} {file:?}", before.head, before.counts());
     let expected = memory.enter(file);
     let (head, records, area) = safe.lend();
     assert_eq!(number(slices::enter(head, records, area, &file_lent)), expected, "{}", told());
@@ -47,7 +48,8 @@ fn enter(tally: &mut Tally, memory: &mut Memory, file: &[u8]) -> Result<usize, u
     let left = (expected.err().unwrap_or(0), expected.unwrap_or(BEFORE[0]));
     assert_eq!((refused, entered), left, "{}", told());
     assert!(safe == *memory && exported == *memory && file_lent == file, "{}", told());
-    let added = if memory.head.held > before.held { "added" } else { "found" };
+    assert!(safe.counted(&before, expected), "{} {:?}", told(), safe.counts());
+    let added = if memory.head.held > before.head.held { "added" } else { "found" };
     tally.count("enter", &expected, added);
     expected
 }
@@ -78,6 +80,9 @@ fn bodies(tally: &mut Tally, memory: &mut Memory) {
     }
     assert_eq!(*memory, before);
 }
+
+/// How many lists are drawn to look at the counts.
+const LISTS: u64 = 20_000;
 
 /// The outcomes that the paper has.
 const OUTCOMES: [(&str, &str); 14] = [
@@ -129,27 +134,27 @@ fn samples() {
     assert_eq!(memory, before);
 }
 
-/// The samples once more, number by number: the head, every record, where each body stands. The 34th record
-/// stays as it was.
+/// The samples once more, number by number: the head, every record with its count, where each body stands. The 34th
+/// record stays as it was.
 #[test]
 fn records_of_samples() {
     let mut tally = Tally::default();
     for (size, head, held) in [
-        (60, Head { held: 2, used: 56, answered: 3 }, &[(0, 6), (6, 21), (27, 29)][..]),
-        (55, Head { held: 1, used: 27, answered: 2 }, &[(0, 6), (6, 21)]),
-        (26, Head { held: 0, used: 6, answered: 0 }, &[(0, 6)]),
+        (60, Head { held: 2, used: 56, answered: 3 }, &[(0, 6, 0), (6, 21, 2), (27, 29, 1)][..]),
+        (55, Head { held: 1, used: 27, answered: 2 }, &[(0, 6, 0), (6, 21, 2)]),
+        (26, Head { held: 0, used: 6, answered: 0 }, &[(0, 6, 0)]),
     ] {
         let mut memory = Memory::new(RECORDS + 1, size);
         let mut records = vec![Record::default(); RECORDS];
         records.push(memory.records()[RECORDS]);
-        for (record, &(start, size)) in records.iter_mut().zip(held) {
-            *record = Record { start, size };
+        for (record, &(start, size, count)) in records.iter_mut().zip(held) {
+            *record = Record { start, size, count };
         }
         assert_eq!(make(&mut tally, &mut memory, S), Ok(()));
         let _ = [T, T_PRIME, U].map(|file| enter(&mut tally, &mut memory, file));
         assert_eq!((memory.head, memory.records()), (head, &records[..]));
         for number in 0..RECORDS + 3 {
-            let (start, size) = if number > 0 { *held.get(number).unwrap_or(&(0, 0)) } else { (0, 0) };
+            let (start, size, _) = if number > 0 { *held.get(number).unwrap_or(&(0, 0, 0)) } else { (0, 0, 0) };
             let from = memory.area().as_ptr() as usize + start;
             let part = body(&mut tally, &mut memory, number);
             assert_eq!(part.len(), size);
@@ -196,8 +201,11 @@ fn heads_of_samples() {
     assert!(body(&mut tally, &mut memory, 1).is_empty());
     let mut memory = whole.clone();
     memory.head.answered = u64::MAX - 1;
+    memory.lend().1[2].count = u64::MAX - 3;
     assert_eq!(enter(&mut tally, &mut memory, T), Ok(1));
     whole.head.answered = u64::MAX;
+    whole.lend().1[1].count = 3;
+    whole.lend().1[2].count = u64::MAX - 3;
     assert_eq!(memory, whole);
 }
 
@@ -243,7 +251,8 @@ fn damaged() {
     let made = made(&mut tally);
     type Damage = fn(&mut Memory);
     let record = |memory: &mut Memory, index: usize, start: usize, size: usize| {
-        memory.lend().1[index] = Record { start, size };
+        let count = memory.records()[index].count;
+        memory.lend().1[index] = Record { start, size, count };
     };
     // an entry of T is answered so, and one of what is not read is refused by 9 where that is
     let mut entry = |expected: Result<usize, u32>, damage: &dyn Fn(&mut Memory)| {
@@ -257,13 +266,13 @@ fn damaged() {
     };
     let in_order: [Damage; 5] = [
         |_| (),
-        |memory| memory.head.answered = u64::MAX - 1,
+        |memory| set_counts(memory, u64::MAX - 1, &[(1, 1 << 63), (2, (1 << 63) - 2)]),
         |memory| memory.size = 56,
         |memory| memory.lend().1[33] = Record::default(),
         |memory| memory.lend().2[56..].fill(0),
     ];
     in_order.iter().for_each(|damage| entry(Ok(1), damage));
-    let heads: [Damage; 12] = [
+    let heads: [Damage; 13] = [
         |memory| memory.head.held = 33,
         |memory| memory.head.held = 34,
         |memory| memory.head.held = 3,
@@ -275,6 +284,7 @@ fn damaged() {
         |memory| memory.head.used = 0,
         |memory| memory.head.used = usize::MAX,
         |memory| memory.head.answered = u64::MAX,
+        |memory| set_counts(memory, u64::MAX, &[(1, 1 << 63), (2, (1 << 63) - 1)]),
         |memory| memory.head = Head::default(),
     ];
     heads.iter().for_each(|damage| entry(Err(9), damage));
@@ -330,34 +340,179 @@ fn damaged() {
         record(memory, 3, 56, 0);
         memory.head.held = 3;
     });
-    // one record fewer, and the bytes used to its end
-    entry(Ok(1), &|memory| {
-        record(memory, 2, 0, 0);
-        memory.head = Head { held: 1, used: 27, answered: 0 };
-    });
-    entry(Ok(1), &|memory| {
-        (1..3).for_each(|index| record(memory, index, 0, 0));
-        memory.head = Head { held: 0, used: 6, answered: 7 };
-    });
+    // one record fewer, and the bytes used to its end; without its answers, and with them
+    for (answered, count, expected) in [(0, 0, Ok(1)), (7, 7, Ok(1)), (2, 1, Err(9)), (1, 2, Err(9)), (0, 7, Err(9))] {
+        entry(expected, &|memory| {
+            record(memory, 2, 0, 0);
+            memory.head = Head { held: 1, used: 27, answered };
+            set_counts(memory, answered, &[(1, count), (2, 0)]);
+        });
+    }
+    for (answered, count, expected) in [(0, 0, Ok(1)), (7, 0, Err(9)), (7, 7, Err(9)), (0, 7, Err(9))] {
+        entry(expected, &|memory| {
+            (1..3).for_each(|index| record(memory, index, 0, 0));
+            memory.head = Head { held: 0, used: 6, answered };
+            set_counts(memory, answered, &[(1, count), (2, 0)]);
+        });
+    }
+    // the answers and some counts: a sum that is right in another way, one that is not, and counts that stand elsewhere
+    type Counts = (u64, &'static [(usize, u64)]);
+    let fitting: [Counts; 4] =
+        [(2, &[(1, 2), (2, 0)]), (2, &[(1, 0), (2, 2)]), (0, &[(1, 0), (2, 0)]), (2, &[(33, 0), (34, 5)])];
+    let others: [Counts; 16] = [
+        (2, &[(1, 2)]),
+        (2, &[(1, 0)]),
+        (3, &[]),
+        (1, &[]),
+        (0, &[]),
+        (3, &[(0, 1)]),
+        (2, &[(0, 1), (1, 0)]),
+        (3, &[(3, 1)]),
+        (2, &[(3, 1), (2, 0)]),
+        (3, &[(32, 1)]),
+        (2, &[(33, 0), (2, 2)]),
+        (2, &[(1, 1 + (1 << 63)), (2, 1 + (1 << 63))]),
+        (2, &[(1, u64::MAX), (2, 3)]),
+        (2, &[(0, 1 << 63), (3, 1 << 63)]),
+        (2, &[(0, u64::MAX), (1, 2)]),
+        (u64::MAX, &[(1, u64::MAX - 1)]),
+    ];
+    fitting.iter().for_each(|&(answered, counts)| entry(Ok(1), &|memory| set_counts(memory, answered, counts)));
+    others.iter().for_each(|&(answered, counts)| entry(Err(9), &|memory| set_counts(memory, answered, counts)));
 }
 
-/// The count of answers goes up to the last number but no further; a refused entry is not counted.
+/// Sets the answers of the head, and the counts of these records.
+fn set_counts(memory: &mut Memory, answered: u64, counts: &[(usize, u64)]) {
+    let (head, records, _) = memory.lend();
+    head.answered = answered;
+    counts.iter().for_each(|&(index, count)| records[index].count = count);
+}
+
+/// A registry over one input symbol and 64 output symbols that holds so many transducers of one symbol each, in an area
+/// with room for one more.
+fn of_symbols(tally: &mut Tally, held: usize) -> Memory {
+    let stock = [&[1, 0, 64][..], &[0; 64]].concat();
+    let mut memory = Memory::new(RECORDS + 2, stock.len() + 5 * (held + 1));
+    assert_eq!(make(tally, &mut memory, &stock), Ok(()));
+    for symbol in 1..=held {
+        assert_eq!(enter(tally, &mut memory, &of_symbol(symbol)), Ok(symbol));
+    }
+    memory
+}
+
+/// The transducer whose output is always this symbol.
+fn of_symbol(symbol: usize) -> [u8; 5] {
+    [0, 0, 1, 0, symbol as u8]
+}
+
+/// Whether the counts of a memory that is a registry otherwise are those of a registry.
+fn counts_fit(memory: &Memory) -> bool {
+    let (counts, Head { held, answered, .. }) = (memory.counts(), memory.head);
+    let others = [&counts[..1], &counts[1 + held..RECORDS]].concat();
+    let sum: u128 = counts[..RECORDS].iter().map(|&count| u128::from(count)).sum();
+    others.iter().all(|&count| count == 0) && sum == u128::from(answered) && answered < u64::MAX
+}
+
+/// Whether these counts are accepted: an entry and a body by number take them or not, as they fit or not.
+fn accepted(tally: &mut Tally, memory: &mut Memory) -> bool {
+    let (fits, held) = (counts_fit(memory), memory.head.held);
+    let answer = enter(tally, &mut memory.clone(), &of_symbol(1));
+    assert_eq!(answer, if fits { Ok(1) } else { Err(9) }, "{:?} {:?}", memory.head, memory.counts());
+    assert_eq!(body(tally, memory, 1).len(), if fits && held > 0 { 5 } else { 0 });
+    fits
+}
+
+/// Every way to have 0, 1, 2^63 or 2^64 - 1 in one of the 33 records, or in two, the other counts being as they were or
+/// 0; with answers that are this sum, or what is left of it where it goes round, one more, one less, as they were, and
+/// the last number.
+#[test]
+fn counts_at_the_ends() {
+    let mut tally = Tally::default();
+    let ends = || [0, 1, 1 << 63, u64::MAX].into_iter();
+    let pairs = || ends().flat_map(move |one| ends().map(move |two| (one, two)));
+    let [mut fit, mut others, mut without] = [0; 3];
+    for (held, stay) in [0, 1, 2, 32].into_iter().flat_map(|held| [(held, false), (held, true)]) {
+        let mut start = of_symbols(&mut tally, held);
+        let as_made = start.head.answered;
+        if !stay {
+            (1..=held).for_each(|number| start.lend().1[number].count = 0);
+        }
+        for (first, second) in (0..RECORDS).flat_map(|first| (first..RECORDS).map(move |second| (first, second))) {
+            // one record twice is one alone
+            for (one, two) in pairs().filter(|&(one, two)| first < second || one == two) {
+                let mut memory = start.clone();
+                set_counts(&mut memory, 0, &[(first, one), (second, two)]);
+                let sum = memory.counts()[..RECORDS].iter().fold(0, |sum: u64, &count| sum.wrapping_add(count));
+                for answered in BTreeSet::from([sum, sum.wrapping_add(1), sum.wrapping_sub(1), as_made, u64::MAX]) {
+                    memory.head.answered = answered;
+                    if accepted(&mut tally, &mut memory) {
+                        fit += 1;
+                        without += usize::from(memory.counts()[1..=held].contains(&0));
+                    } else {
+                        others += 1;
+                    }
+                }
+            }
+        }
+    }
+    println!("counts at the ends: {fit} accepted, {without} of them with a held record of count 0, {others} refused");
+    assert!(fit > 10_000 && without > 5_000 && others > 200_000);
+}
+
+/// Counts past the 33rd record are neither summed nor altered.
+#[test]
+fn counts_past_the_records() {
+    let mut tally = Tally::default();
+    for held in [0, 2, 32] {
+        let whole = of_symbols(&mut tally, held);
+        for count in [0, 1, 1 << 63, u64::MAX] {
+            for other in [0, 1, 1 << 63, u64::MAX] {
+                let mut memory = whole.clone();
+                set_counts(&mut memory, held as u64, &[(RECORDS, count), (RECORDS + 1, other)]);
+                bodies(&mut tally, &mut memory);
+                assert_eq!(enter(&mut tally, &mut memory, &of_symbol(1)), Ok(1));
+                assert_eq!(memory.counts()[RECORDS..], [count, other]);
+                let stock = memory.area()[..67].to_vec();
+                assert_eq!(make(&mut tally, &mut memory, &stock), Ok(()));
+                assert_eq!(memory.counts(), [vec![0; RECORDS], vec![count, other]].concat());
+            }
+        }
+    }
+}
+
+/// The count of answers goes up to the last number but no further; a refused entry is not counted. A record's count
+/// has no limit of its own: it goes as far.
 #[test]
 fn last_answer() {
     let mut tally = Tally::default();
-    let mut memory = made(&mut tally);
-    memory.head.answered = u64::MAX - 2;
-    assert_eq!(enter(&mut tally, &mut memory, T_PRIME), Ok(1));
-    assert_eq!(enter(&mut tally, &mut memory, &[]), Err(4));
-    assert_eq!(memory.head.answered, u64::MAX - 1);
-    bodies(&mut tally, &mut memory);
+    for [one, two] in [[u64::MAX - 2, 0], [0, u64::MAX - 2], [1 << 63, (1 << 63) - 3], [1, u64::MAX - 3]] {
+        let mut memory = made(&mut tally);
+        set_counts(&mut memory, u64::MAX - 2, &[(1, one), (2, two)]);
+        assert_eq!(enter(&mut tally, &mut memory, T_PRIME), Ok(1));
+        assert_eq!(enter(&mut tally, &mut memory, &[]), Err(4));
+        assert_eq!(memory.head.answered, u64::MAX - 1);
+        bodies(&mut tally, &mut memory);
+        for (file, number) in [(T, 1), (U, 2)] {
+            let mut memory = memory.clone();
+            assert_eq!(enter(&mut tally, &mut memory, file), Ok(number));
+            assert_eq!(memory.head.answered, u64::MAX);
+            let expected = [0, one + 1 + u64::from(number == 1), two + u64::from(number == 2), 0];
+            assert_eq!(memory.counts()[..4], expected);
+            let before = memory.clone();
+            assert_eq!(enter(&mut tally, &mut memory, T), Err(9));
+            assert_eq!(enter(&mut tally, &mut memory, &[]), Err(9));
+            bodies(&mut tally, &mut memory);
+            assert_eq!(memory, before);
+        }
+    }
+    // the last answer is that of a first entry
+    let mut memory = Memory::new(RECORDS, 60);
+    assert_eq!(make(&mut tally, &mut memory, S), Ok(()));
+    assert_eq!(enter(&mut tally, &mut memory, T), Ok(1));
+    set_counts(&mut memory, u64::MAX - 1, &[(1, u64::MAX - 1)]);
     assert_eq!(enter(&mut tally, &mut memory, U), Ok(2));
-    assert_eq!(memory.head.answered, u64::MAX);
-    let before = memory.clone();
-    assert_eq!(enter(&mut tally, &mut memory, T), Err(9));
-    assert_eq!(enter(&mut tally, &mut memory, &[]), Err(9));
-    bodies(&mut tally, &mut memory);
-    assert_eq!(memory, before);
+    assert_eq!((memory.head.answered, &memory.counts()[..4]), (u64::MAX, &[0, u64::MAX - 1, 1, 0][..]));
+    assert_eq!(enter(&mut tally, &mut memory, U), Err(9));
 }
 
 /// With one body twice, an entry answers the lower number.
@@ -369,12 +524,14 @@ fn lowest_number() {
     *head = Head { held: 3, used: 73, answered: 5 };
     // bodies 1 to 3: U as it is, which is not minimal; T; T
     records.fill(Record::default());
-    let rows = [(0, 6), (6, 25), (31, 21), (52, 21)].map(|(start, size)| Record { start, size });
+    let record = |(start, size, count)| Record { start, size, count };
+    let rows = [(0, 6, 0), (6, 25, 3), (31, 21, 0), (52, 21, 2)].map(record);
     records[..4].copy_from_slice(&rows);
     area[..73].copy_from_slice(&[S, U, T, T].concat());
     assert_eq!(enter(&mut tally, &mut memory, T_PRIME), Ok(2));
     assert_eq!(enter(&mut tally, &mut memory, U), Err(8));
     assert_eq!(memory.head, Head { held: 3, used: 73, answered: 6 });
+    assert_eq!(memory.counts()[..5], [0, 3, 1, 2, 0]);
     bodies(&mut tally, &mut memory);
 }
 
@@ -396,17 +553,19 @@ fn full() {
                 assert_eq!(enter(&mut tally, &mut memory, &sheet(number)), expected);
             }
             assert_eq!((memory.head.held, memory.head.answered), (most, (most * round) as u64));
+            let counts: Vec<u64> = (0..RECORDS).map(|number| u64::from((1..=most).contains(&number))).collect();
+            assert_eq!(memory.counts(), counts.iter().map(|one| one * round as u64).collect::<Vec<_>>());
             bodies(&mut tally, &mut memory);
         }
     }
 }
 
-/// Alphabets, and transducers of few shapes over them, many of them equivalent, with some that are
-/// refused.
-fn pool(random: &mut Random) -> (Alphabets, Vec<Vec<u8>>) {
+/// Alphabets, and one of these numbers of transducers of few shapes over them, many of them equivalent, with some
+/// that are refused.
+fn pool(random: &mut Random, counts: &[usize]) -> (Alphabets, Vec<Vec<u8>>) {
     let alphabets = if random.once_in(3) { chain_alphabets() } else { small_alphabets(random) };
     let mut sheets: Vec<Transducer> = Vec::new();
-    for _ in 0..random.pick(&[3, 10, 45]) {
+    for _ in 0..random.pick(counts) {
         sheets.push(match random.below(4) {
             0 => prefixed_transducer(random, &alphabets, 4, 9),
             1 if alphabets.inputs == [1, 0] && alphabets.outputs == [1, 0, 0] => {
@@ -437,14 +596,14 @@ fn pool(random: &mut Random) -> (Alphabets, Vec<Vec<u8>>) {
 }
 
 /// Lists of entries: any two accepted ones got one number exactly if their minimal transducers are one,
-/// each is still held at its number, and as many are counted as were accepted.
+/// each is still held at its number, and as many are counted as were accepted, at each number and in all.
 #[test]
 fn lists() {
     let mut tally = Tally::default();
     let mut full = 0;
     for seed in 0..120 {
         let mut random = Random::new(seed + 30_000_000);
-        let (alphabets, files) = pool(&mut random);
+        let (alphabets, files) = pool(&mut random, &[3, 10, 45]);
         let stock = alphabets.file();
         let size = match random.below(6) {
             0 => random.range(0, 40),
@@ -457,14 +616,14 @@ fn lists() {
             continue;
         }
         let mut numbers: BTreeMap<Vec<u8>, usize> = BTreeMap::new();
-        let mut accepted = 0;
+        let mut accepted = [0; RECORDS];
         for _ in 0..250 {
             let file = &files[random.below(files.len())];
             if let Ok(number) = enter(&mut tally, &mut memory, file) {
                 let clean = independent::clean(&stock, file).expect("it was accepted");
                 let next = numbers.len() + 1;
                 assert_eq!(*numbers.entry(clean).or_insert(next), number);
-                accepted += 1;
+                accepted[number] += 1;
             }
             if random.once_in(10) {
                 let mut other = memory.clone();
@@ -476,7 +635,8 @@ fn lists() {
                 }
             }
         }
-        assert_eq!((memory.head.held, memory.head.answered), (numbers.len(), accepted));
+        assert_eq!((memory.head.held, memory.head.answered), (numbers.len(), accepted.iter().sum()));
+        assert_eq!(memory.counts()[..RECORDS], accepted);
         bodies(&mut tally, &mut memory);
         for (clean, number) in numbers {
             assert_eq!(body(&mut tally, &mut memory, number), clean);
@@ -489,4 +649,86 @@ fn lists() {
     println!("{full} with 32 transducers");
     assert!(full > 10);
     tally.settle(&OUTCOMES, 10);
+}
+
+/// Many lists of a few entries each, valid, damaged and alike ones. Any two accepted entries got one number exactly if
+/// the comparison calls them alike; the count of each record is how many accepted entries got its number, and their sum
+/// the answers. At times the counts were others before, moved from one number to another or raised near the last
+/// answer: what is counted is added to them.
+#[test]
+fn counts_of_lists() {
+    let mut tally = Tally::default();
+    let mut seen = BTreeMap::<&str, usize>::new();
+    for seed in 0..LISTS {
+        let mut random = Random::new(seed + 40_000_000);
+        let (alphabets, mut files) = pool(&mut random, &[1, 2, 3, 4]);
+        files.extend([vec![], vec![1, 0, 3], vec![0, 0, 1, 1, 0]]);
+        let stock = alphabets.file();
+        let room = random.pick(&[40, 100, 300, 5_000]);
+        let mut memory = Memory::new(random.pick(&[33, 34, 40]), stock.len() + room);
+        assert_eq!(make(&mut tally, &mut memory, &stock), Ok(()));
+        let past = memory.counts()[RECORDS..].to_vec();
+        // how many accepted entries got a number, and what was there besides
+        let (mut got, mut besides) = ([0u64; RECORDS], [0i128; RECORDS]);
+        let mut entries: Vec<(usize, usize)> = Vec::new();
+        for _ in 0..random.range(1, 24) {
+            let which = random.below(files.len());
+            match enter(&mut tally, &mut memory, &files[which]) {
+                Ok(number) => {
+                    got[number] += 1;
+                    entries.push((which, number));
+                }
+                Err(_) => *seen.entry("refused entries").or_default() += 1,
+            }
+            if random.once_in(25) {
+                let before = memory.counts();
+                let name = if random.once_in(4) { "counts raised" } else { "counts moved" };
+                match name {
+                    "counts moved" => memory.move_counts(&mut random),
+                    _ => memory.raise_counts(&mut random),
+                }
+                let after = memory.counts();
+                (0..RECORDS).for_each(|index| besides[index] += i128::from(after[index]) - i128::from(before[index]));
+                *seen.entry(name).or_default() += usize::from(after != before);
+            }
+            if random.once_in(6) {
+                let mut other = memory.clone();
+                other.damage(&mut random);
+                let _ = enter(&mut tally, &mut other, &files[which]);
+                let number = random.below(4);
+                body(&mut tally, &mut other, number);
+            }
+        }
+        let counts = memory.counts();
+        let expected: Vec<i128> = got.iter().zip(besides).map(|(&got, besides)| i128::from(got) + besides).collect();
+        assert_eq!(counts[..RECORDS].iter().map(|&count| i128::from(count)).collect::<Vec<_>>(), expected);
+        assert_eq!(expected.iter().sum::<i128>(), i128::from(memory.head.answered));
+        assert_eq!(counts[RECORDS..], past);
+        if besides == [0; RECORDS] {
+            assert_eq!(memory.head.answered, entries.len() as u64);
+        }
+        *seen.entry("accepted entries").or_default() += entries.len();
+        *seen.entry("lists with a number of several entries").or_default() +=
+            usize::from(got.iter().any(|&got| got > 1));
+        // one number exactly for those that sew alike, by the comparison
+        entries.sort_unstable();
+        entries.dedup();
+        let (mut tree, mut address) = ([0; slices::TREE_AREA], [0; slices::ADDRESS_AREA]);
+        for (index, &(first, number)) in entries.iter().enumerate().take(8) {
+            for &(second, other) in &entries[..index] {
+                let [first, second] = [first, second].map(|which| &files[which]);
+                let alike = slices::compare(&stock, first, second, &mut tree, &mut address);
+                let alike = matches!(alike, Ok(slices::Comparison::Alike));
+                assert_eq!(alike, number == other, "{stock:?} {first:?} {second:?}");
+                *seen.entry(if alike { "pairs alike" } else { "pairs that differ" }).or_default() += 1;
+            }
+        }
+    }
+    seen.iter().for_each(|(name, times)| println!("{name:40} {times:8}"));
+    for name in ["counts moved", "counts raised", "pairs alike", "pairs that differ"] {
+        assert!(seen[name] > 500, "{name}");
+    }
+    let wanted: Vec<_> =
+        OUTCOMES.into_iter().filter(|&(name, outcome)| name != "make_registry" || outcome == "accepted").collect();
+    tally.settle(&wanted, 100);
 }

@@ -18,11 +18,12 @@ pub struct Head {
     pub answered: u64,
 }
 
-/// Where a body stands in the area.
+/// Where a body stands in the area, and how many entries were answered with it.
 #[derive(Clone, Copy, Debug, Default, PartialEq, Eq)]
 pub struct Record {
     pub start: usize,
     pub length: usize,
+    pub count: u64,
 }
 
 /// A book: head, contents and bodies, all of them lent. Body 0 is the alphabets' file; the bodies
@@ -35,9 +36,9 @@ pub struct Book<'a> {
 }
 
 impl<'a> Book<'a> {
-    /// Makes a book that holds no transducer, whatever stood in the memory before. Records past the
-    /// 33rd, and the area behind the alphabets, are left. Refuses by 9 fewer than 33 records, by 2
-    /// what is not a pair of alphabets, and by 8 an area that is shorter than their file.
+    /// Makes a book that holds no transducer and has counted no answer, whatever stood in the memory before.
+    /// Records past the 33rd, and the area behind the alphabets, are left. Refuses by 9 fewer than 33
+    /// records, by 2 what is not a pair of alphabets, and by 8 an area that is shorter than their file.
     pub fn make(
         stock: &[u8],
         head: &'a mut Head,
@@ -57,9 +58,9 @@ impl<'a> Book<'a> {
     }
 
     /// Enters the transducer `file`: answers the lowest number from 1 on whose body is the minimal
-    /// earliest transducer that is equivalent to it, which is added where there is none. Refuses by
-    /// 9 what is not a book, by 4, 5 and 7 as `clean` does, and by 8 a body that is not there and for
-    /// which there is no record or no room.
+    /// earliest transducer that is equivalent to it, which is added where there is none, and counts the
+    /// answer in the head and in the record of that number. Refuses by 9 what is not a book, by 4, 5 and
+    /// 7 as `clean` does, and by 8 a body that is not there and for which there is no record or no room.
     pub fn enter(&mut self, file: &[u8]) -> Result<usize, u32> {
         self.test()?;
         let alphabets = read_alphabets(&self.area[..self.records[0].length])?;
@@ -73,9 +74,11 @@ impl<'a> Book<'a> {
             }
             self.head.held = next;
             self.head.used = start + clean.len();
-            self.records[next] = Record { start, length: clean.len() };
+            self.records[next] = Record { start, length: clean.len(), count: 0 };
             self.area[start..self.head.used].copy_from_slice(&clean);
         }
+        // neither goes round: the count is at most the answers, and these are not yet the last number
+        self.records[number].count += 1;
         self.head.answered += 1;
         Ok(number)
     }
@@ -88,13 +91,13 @@ impl<'a> Book<'a> {
     }
 
     fn part(&self, number: usize) -> &[u8] {
-        let Record { start, length } = self.records[number];
+        let Record { start, length, .. } = self.records[number];
         &self.area[start..start + length]
     }
 
     /// Refuses by 9 what is not a book: the bodies held follow one another from byte 0 to the bytes
-    /// used, which are in the area, the other records are 0, body 0 is a pair of alphabets, and one
-    /// more answer can be counted.
+    /// used, which are in the area, the other records are 0, body 0 is a pair of alphabets, with which no
+    /// entry was answered, the counts sum to the entries answered, and one more answer can be counted.
     fn test(&self) -> Result<(), u32> {
         let Head { held, used, answered } = *self.head;
         let is_book = || {
@@ -111,7 +114,10 @@ impl<'a> Book<'a> {
             };
             let in_order = bodies.iter().try_fold(0, chain)? == used && used <= self.area.len();
             let others = unused.iter().all(|&record| record == Record::default());
-            (in_order && others && read_alphabets(self.part(0)).is_ok()).then_some(())
+            // 33 counts of 64 bits do not go round in 128
+            let sum: u128 = bodies.iter().map(|body| u128::from(body.count)).sum();
+            let counted = bodies[0].count == 0 && sum == u128::from(answered);
+            (in_order && others && counted && read_alphabets(self.part(0)).is_ok()).then_some(())
         };
         is_book().ok_or(NOT_A_BOOK)
     }

@@ -315,6 +315,12 @@ fn registry(random: &mut Random, stock: &[u8], files: [&Vec<u8>; 2]) -> (Memory,
         // what is refused is not in it
         let _ = memory.enter(files[random.below(2)]);
     }
+    // as other entries would have left it
+    match random.below(8) {
+        0 => memory.move_counts(random),
+        1 => memory.raise_counts(random),
+        _ => {}
+    }
     if random.once_in(3) {
         // as long as it is used, as the form that is entered needs, or one byte less
         let form = independent::clean(stock, &entered).map_or(0, |form| form.len());
