@@ -53,7 +53,7 @@ mod tree;
 
 pub use alphabets::Alphabets;
 pub use refusal::Refusal;
-pub use registry::{DamagedRegistry, Registry};
+pub use registry::{DamagedRegistry, EarlierRegistry, NotCarried, Registry, StoredRegistry};
 pub use transducer::{Comparison, Difference, Mark, Transducer};
 pub use tree::{Address, InputTree, NoAddress, OutputTree};
 
