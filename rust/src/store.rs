@@ -4,7 +4,7 @@
 //! one. Those who change a registry keep each other waiting by a lock on a file beside it, which the system frees when
 //! a process ends, however it ends; those who only read it need none.
 use crate::registry::LONGEST_FILE;
-use crate::{DamagedRegistry, Refusal, Registry, StoredRegistry};
+use crate::{DamagedRegistry, Registry, StoredRegistry};
 use std::ffi::OsString;
 use std::fmt;
 use std::fs::{self, File, TryLockError};
@@ -257,10 +257,8 @@ fn write_through(path: &Path, file: &mut File, write: impl FnOnce(&mut dyn Write
 pub enum Error {
     /// The system cannot read or write a file.
     System(io::Error),
-    /// The file is not that of a registry.
+    /// The file is not that of a registry, or is one of another make.
     Damaged(DamagedRegistry),
-    /// The library refuses.
-    Refused(Refusal),
 }
 
 impl From<io::Error> for Error {
@@ -275,18 +273,11 @@ impl From<DamagedRegistry> for Error {
     }
 }
 
-impl From<Refusal> for Error {
-    fn from(refusal: Refusal) -> Self {
-        Error::Refused(refusal)
-    }
-}
-
 impl fmt::Display for Error {
     fn fmt(&self, f: &mut fmt::Formatter) -> fmt::Result {
         match self {
             Error::System(error) => error.fmt(f),
             Error::Damaged(damaged) => damaged.fmt(f),
-            Error::Refused(refusal) => refusal.fmt(f),
         }
     }
 }
@@ -296,7 +287,27 @@ impl std::error::Error for Error {
         match self {
             Error::System(error) => Some(error),
             Error::Damaged(damaged) => Some(damaged),
-            Error::Refused(refusal) => Some(refusal),
         }
     }
+}
+
+/// Another file than was written is not renamed.
+#[test]
+fn read_back_again() {
+    let alphabets = crate::Alphabets::new(&[1, 0], &[2, 0]).unwrap();
+    let [one, two] = [60, 61].map(|area| Registry::new(&alphabets, area).unwrap());
+    let path = std::env::temp_dir().join(format!("caplune-read-back-{}", std::process::id()));
+    let mut damaged = one.to_bytes();
+    damaged[20] ^= 1;
+    for (bytes, is_same) in [(one.to_bytes(), true), (two.to_bytes(), false), (damaged, false), (vec![], false)] {
+        let _ = fs::remove_file(&path);
+        let made = write_and_rename(
+            &path,
+            &beside(&path, ".new~"),
+            |file| file.write_all(&bytes),
+            || read_back(&beside(&path, ".new~"), &one),
+        );
+        assert_eq!((made.is_ok(), path.exists()), (is_same, is_same));
+    }
+    fs::remove_file(&path).unwrap_or(());
 }

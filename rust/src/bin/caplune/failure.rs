@@ -49,7 +49,6 @@ impl Failure {
     /// A book is not made, read or changed.
     pub fn of_book(file: &str, error: store::Error) -> Self {
         match error {
-            store::Error::Refused(refusal) => Failure::refused(file, refusal),
             store::Error::Damaged(damaged) => Failure::damaged(file, damaged),
             other => Failure::of_file(file, other),
         }
