@@ -171,13 +171,17 @@ fn folder_of(path: &Path) -> &Path {
     path.parent().filter(|folder| !folder.as_os_str().is_empty()).unwrap_or(Path::new("."))
 }
 
-/// Why a file cannot be made or removed: that its folder cannot be written, if that is it.
+/// Why a file cannot be made or removed: that its folder is missing or cannot be written, if that is it.
 fn not_made(path: &Path, error: io::Error) -> io::Error {
+    let folder = folder_of(path);
+    let whole = fs::canonicalize(folder).unwrap_or(folder.to_path_buf());
+    let shown = whole.to_string_lossy().escape_debug().to_string();
     match error.kind() {
         io::ErrorKind::PermissionDenied | io::ErrorKind::ReadOnlyFilesystem => {
-            let folder = fs::canonicalize(folder_of(path)).unwrap_or(folder_of(path).to_path_buf());
-            let shown = folder.to_string_lossy().escape_debug().to_string();
             io::Error::new(error.kind(), format!("the folder {shown} cannot be written: {error}"))
+        }
+        io::ErrorKind::NotFound if !folder.is_dir() => {
+            io::Error::new(error.kind(), format!("there is no folder {shown}"))
         }
         _ => named(path, error),
     }
@@ -212,7 +216,7 @@ fn wait_for(file: &File, waits: impl FnOnce()) -> io::Result<()> {
         }
     }
     waits();
-    // from here on those who wait are served in turn
+    // the system wakes those who wait from here on
     file.lock()
 }
 
@@ -224,7 +228,7 @@ fn write_and_rename(
     ready: impl FnOnce() -> io::Result<()>,
 ) -> io::Result<()> {
     // opened first, so that nothing has changed where it cannot be
-    let folder = File::open(folder_of(path))?;
+    let folder = File::open(folder_of(path)).map_err(|error| not_made(beside, error))?;
     let mut file =
         File::options().write(true).create_new(true).open(beside).map_err(|error| not_made(beside, error))?;
     let written = write_through(path, &mut file, write).and_then(|()| ready()).and_then(|()| fs::rename(beside, path));
@@ -310,4 +314,19 @@ fn read_back_again() {
         assert_eq!((made.is_ok(), path.exists()), (is_same, is_same));
     }
     fs::remove_file(&path).unwrap_or(());
+}
+
+/// A folder that is missing or cannot be written is told by its name, on one line, and any other error by the file's.
+#[test]
+fn folders_told() {
+    let folder = fs::canonicalize(std::env::temp_dir()).unwrap();
+    let told = |path: &Path, kind: io::ErrorKind| not_made(path, kind.into()).to_string();
+    for kind in [io::ErrorKind::PermissionDenied, io::ErrorKind::ReadOnlyFilesystem] {
+        let begun = format!("the folder {} cannot be written: ", folder.display());
+        assert!(told(&folder.join("book.lock"), kind).starts_with(&begun));
+    }
+    assert_eq!(told(Path::new("no\nfolder/book"), io::ErrorKind::NotFound), "there is no folder no\\nfolder");
+    for kind in [io::ErrorKind::NotFound, io::ErrorKind::AlreadyExists] {
+        assert!(told(&folder.join("book.lock"), kind).starts_with("book.lock: "));
+    }
 }

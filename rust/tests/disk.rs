@@ -486,7 +486,7 @@ fn chains(sheets: usize) -> (Folder, Vec<Transducer>) {
     let folder = Folder::new();
     let alphabets = Alphabets::read(&chain_alphabets().file()).unwrap();
     let read = |states: usize| Transducer::read(&alphabets, &chain(states, 2, 1).file()).unwrap();
-    let sheets: Vec<_> = (1..=sheets).map(|number| read(128 - number)).collect();
+    let sheets: Vec<_> = (1..=sheets).map(|number| read(60 - number)).collect();
     for (number, sheet) in sheets.iter().enumerate() {
         folder.write(&format!("{number}"), sheet.as_bytes());
     }

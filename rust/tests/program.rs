@@ -1237,8 +1237,10 @@ fn write_protected_folders() {
 fn outputs_that_fail() {
     let folder = first();
     let before = folder.names();
-    assert!(folder.says("clean -o no/such stock.txt t.txt").starts_with("no/such: "));
-    assert!(folder.says("clean --bytes -o no/such stock.txt t.txt").starts_with("no/such"));
+    for line in ["clean -o no/such stock.txt t.txt", "clean --bytes -o no/such stock.txt t.txt"] {
+        assert_eq!(folder.says(line), "no/such: there is no folder no");
+    }
+    assert_eq!(folder.says("book make no/such stock.txt"), "no/such: there is no folder no");
     assert!(folder.says("clean -o . stock.txt t.txt").starts_with(".: "));
     folder.says("clean -o u.txt stock.txt missing");
     assert_eq!(folder.read("u.txt"), fs::read(repository("examples/first/u.txt")).unwrap());
