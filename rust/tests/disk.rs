@@ -704,3 +704,33 @@ fn no_room() {
     assert_eq!(folder.read("book"), before);
     assert_eq!(folder.names(), ["0", "1", "book", "book.lock"]);
 }
+
+/// A book that is replaced while an entry waits for its lock: the sheet was read under other names, and is not entered.
+#[cfg(unix)]
+#[test]
+fn replaced_while_waiting() {
+    let alphabets = Alphabets::read(&[2, 0, 0, 2, 0, 0]).unwrap();
+    let book = Registry::new(&alphabets, 60).unwrap();
+    let book = |words: [&str; 4]| book.clone().with_names(names(words)).unwrap();
+    let folder = Folder::with(&[("sheet", b"sheet opening red")]);
+    let path = folder.file("book");
+    store::make(&path, &book(["a", "e", "red", "blue"]), not_waited).unwrap();
+    let lock = fs::File::options().write(true).open(folder.file("book.lock")).unwrap();
+    lock.lock().unwrap();
+    let mut command = Command::new(PROGRAM);
+    command.args(["book", "enter", "book", "sheet"]).current_dir(&folder.0);
+    let mut writer = command.stdout(Stdio::piped()).stderr(Stdio::piped()).spawn().unwrap();
+    let mut errors = BufReader::new(writer.stderr.take().unwrap());
+    let mut told = String::new();
+    errors.read_line(&mut told).unwrap();
+    let other = book(["a", "e", "blue", "red"]);
+    fs::write(&path, other.to_bytes()).unwrap();
+    lock.unlock().unwrap();
+    told.clear();
+    errors.read_line(&mut told).unwrap();
+    let said = "another book of another stock has taken its place meanwhile; what to do: enter once more";
+    assert_eq!(told, format!("caplune: book: {said}\n"));
+    let ended = writer.wait_with_output().unwrap();
+    assert_eq!((ended.status.code(), ended.stdout), (Some(2), vec![]));
+    assert_eq!(store::read(&path).unwrap(), other);
+}

@@ -79,13 +79,13 @@ fn failed(path: &Path, error: store::Error) -> Failure {
 pub fn enter(arguments: &Arguments) -> Result<Status, Failure> {
     let path = path_of(&arguments.plain[0])?;
     keep_beside(path, &[UNFINISHED], &arguments.plain[1..])?;
-    // the stock of a book never changes, so it can be read before the book is kept from others
-    let registry = store::read(path).map_err(|error| failed(path, error))?;
-    let stock = Stock { alphabets: registry.alphabets().clone(), names: registry.names().clone() };
+    // no entry changes the stock of a book, so the sheets can be read before the book is kept from others
+    let stock = stock_in(&store::read(path).map_err(|error| failed(path, error))?);
     let mut inputs = Inputs::default();
     let sheets: Vec<_> = arguments.plain[1..].iter().map(|sheet| inputs.sheet(sheet, &stock)).collect();
-    let answers = store::change(path, tell_wait, |registry| {
-        sheets.into_iter().map(|sheet| entered(registry, sheet?)).collect::<Vec<_>>()
+    let answers = store::change(path, tell_wait, |registry| match stock_in(registry) == stock {
+        true => sheets.into_iter().map(|sheet| entered(registry, sheet?)).collect(),
+        false => vec![Err(Failure::of_file(&shown(path.as_os_str()), REPLACED))],
     });
     let answers = answers.map_err(|error| failed(path, error))?;
     let mut refused = false;
@@ -103,6 +103,14 @@ pub fn enter(arguments: &Arguments) -> Result<Status, Failure> {
     } else {
         Ok(Status::Done)
     }
+}
+
+/// Why sheets are not entered that were read under the stock of another book.
+const REPLACED: &str = "another book of another stock has taken its place meanwhile; what to do: enter once more";
+
+/// The stock of a book, with the names of its kinds.
+fn stock_in(registry: &Registry) -> Stock {
+    Stock { alphabets: registry.alphabets().clone(), names: registry.names().clone() }
 }
 
 /// The line that tells the number of a sheet that is entered.
@@ -180,8 +188,7 @@ pub fn show(arguments: &Arguments) -> Result<Status, Failure> {
     let asked = number(&arguments.plain[1]);
     let (held, form, stock) = match open(file)? {
         StoredRegistry::Current(book) => {
-            let stock = Stock { alphabets: book.alphabets().clone(), names: book.names().clone() };
-            (book.held(), asked.and_then(|number| book.normal_form(number)), stock)
+            (book.held(), asked.and_then(|number| book.normal_form(number)), stock_in(&book))
         }
         StoredRegistry::Earlier(book) => {
             (book.held(), asked.and_then(|number| book.normal_form(number)), stock_of(&book, file)?)

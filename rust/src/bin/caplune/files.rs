@@ -23,6 +23,7 @@ pub struct Input {
 }
 
 /// A stock with the names of its kinds.
+#[derive(PartialEq)]
 pub struct Stock {
     /// The stock.
     pub alphabets: Alphabets,
