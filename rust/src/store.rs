@@ -208,11 +208,12 @@ fn lock(path: &Path, waits: impl FnOnce(&Path)) -> io::Result<File> {
 /// Waits for a lock; `waits` is called where that takes longer than a while.
 fn wait_for(file: &File, waits: impl FnOnce()) -> io::Result<()> {
     let begun = Instant::now();
-    while begun.elapsed() < SILENCE {
+    loop {
         match file.try_lock() {
             Ok(()) => return Ok(()),
-            Err(TryLockError::WouldBlock) => thread::sleep(PAUSE),
             Err(TryLockError::Error(error)) => return Err(error),
+            Err(TryLockError::WouldBlock) if begun.elapsed() < SILENCE => thread::sleep(PAUSE),
+            Err(TryLockError::WouldBlock) => break,
         }
     }
     waits();

@@ -15,6 +15,7 @@ use std::fs;
 use std::io::{BufRead, BufReader};
 use std::path::Path;
 use std::process::{Child, Command, Stdio};
+use std::sync::mpsc;
 use std::time::{Duration, Instant};
 
 const PROGRAM: &str = env!("CARGO_BIN_EXE_caplune");
@@ -161,7 +162,10 @@ fn altered_numbers() {
         numbers.iter().for_each(|&number| assert!(with(index, number).is_err(), "{index} {number}"));
     }
     // a byte of the bodies as one of the names, and the other way; lengths that sum to more than there are numbers
-    for changes in [[(2, 60), (4, 32)], [(2, 62), (4, 30)], [(2, u64::MAX), (4, 93)], [(2, 0), (4, 92)]] {
+    let most = u64::MAX;
+    for changes in
+        [[(2, 60), (4, 32)], [(2, 62), (4, 30)], [(2, 0), (4, 92)], [(2, most), (4, 93)], [(2, 93), (4, most)]]
+    {
         assert!(with_numbers(&changes).is_err(), "{changes:?}");
     }
     let bytes = sample().to_bytes();
@@ -675,19 +679,20 @@ fn held_locks() {
     lock.unlock().unwrap();
     let ended = writer.wait_with_output().unwrap();
     assert_eq!((ended.stdout, ended.stderr), (b"0: 1\n".to_vec(), vec![]));
-    // a short wait is not told, and the library calls back with the path
-    for (held, calls) in [(100, 0), (1_300, 1)] {
+    // a short wait is not told, and of a long one the library calls back with the path
+    for is_long in [false, true] {
         lock.lock().unwrap();
-        let (path, mut called) = (folder.file("book"), Vec::new());
+        let (path, (tell, told)) = (folder.file("book"), mpsc::channel());
         std::thread::scope(|scope| {
-            let changes = scope.spawn(|| {
-                store::change(&path, |lock| called.push(lock.to_path_buf()), |registry| registry.enter(&sheets[1]))
+            let change = scope.spawn(|| {
+                store::change(&path, |lock| tell.send(lock.to_path_buf()).unwrap(), |book| book.enter(&sheets[1]))
             });
-            std::thread::sleep(Duration::from_millis(held));
+            let held = Duration::from_millis(if is_long { 10_000 } else { 100 });
+            assert_eq!(told.recv_timeout(held).ok(), is_long.then_some(expected.clone()));
             lock.unlock().unwrap();
-            assert_eq!(changes.join().unwrap().unwrap(), Ok(2));
+            assert_eq!(change.join().unwrap().unwrap(), Ok(2));
         });
-        assert_eq!(called, vec![expected.clone(); calls]);
+        assert!(told.try_recv().is_err());
     }
 }
 

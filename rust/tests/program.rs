@@ -408,7 +408,7 @@ fn refusals() {
         let said = "book: refused by 9: the file of the book ends too early; what to do: put back a copy of it";
         assert_eq!(folder.says("book list book"), said);
     }
-    let said = "t: refused by 9: not the file of a book: it does not begin with `caplune book 2`; \
+    let said = "t: refused by 9: not the file of a book: it does not begin with `caplune book`; \
                 what to do: give the file of a book, or put back a copy of it";
     assert_eq!(folder.says("book enter t t"), said);
     assert!(folder.says("show t").starts_with("t: refused by 2: "));

@@ -178,7 +178,7 @@ impl fmt::Display for DamagedRegistry {
         let last = CURRENT.number;
         match self {
             DamagedRegistry::NotARegistry => {
-                write!(f, "not the file of a book: it does not begin with `caplune book {last}`")
+                f.write_str("not the file of a book: it does not begin with `caplune book`")
             }
             DamagedRegistry::Cut => f.write_str("the file of the book ends too early"),
             DamagedRegistry::Altered => f.write_str("the file of the book has been altered since it was written"),
