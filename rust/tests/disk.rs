@@ -657,6 +657,16 @@ fn longest_names() {
     assert_eq!(store::read(&folder.file("book")).unwrap(), registry);
 }
 
+/// What happens at all has happened by then.
+const SOON: Duration = Duration::from_secs(10);
+
+/// The lines that a program tells on standard error, as they come.
+fn lines_of(program: &mut Child) -> mpsc::Receiver<String> {
+    let (errors, (tell, told)) = (program.stderr.take().unwrap(), mpsc::channel());
+    std::thread::spawn(move || BufReader::new(errors).lines().try_for_each(|line| tell.send(line.unwrap())));
+    told
+}
+
 /// A lock that another holds: for less than a second nothing is told, then one line, and the entry is made when it is
 /// free.
 #[cfg(unix)]
@@ -667,18 +677,23 @@ fn held_locks() {
     lock.lock().unwrap();
     let mut writer = enter(&folder, 0);
     let begun = Instant::now();
-    let mut told = String::new();
-    BufReader::new(writer.stderr.as_mut().unwrap()).read_line(&mut told).unwrap();
+    let errors = lines_of(&mut writer);
+    let told = errors.recv_timeout(SOON);
     let waited = begun.elapsed();
+    // so that nobody waits for ever
+    if told.is_err() {
+        writer.kill().unwrap();
+    }
     let expected = fs::canonicalize(folder.file("book.lock")).unwrap();
-    assert_eq!(told, format!("caplune: another caplune holds {}, and this one waits\n", expected.display()));
+    let said = format!("caplune: another caplune holds {}, and this one waits", expected.display());
+    assert_eq!(told, Ok(said));
     assert!(waited > Duration::from_millis(900) && waited < Duration::from_secs(5), "{waited:?}");
     // it still waits
     std::thread::sleep(Duration::from_millis(100));
     assert!(writer.try_wait().unwrap().is_none());
     lock.unlock().unwrap();
-    let ended = writer.wait_with_output().unwrap();
-    assert_eq!((ended.stdout, ended.stderr), (b"0: 1\n".to_vec(), vec![]));
+    assert_eq!(writer.wait_with_output().unwrap().stdout, b"0: 1\n");
+    assert!(errors.recv_timeout(SOON).is_err());
     // a short wait is not told, and of a long one the library calls back with the path
     for is_long in [false, true] {
         lock.lock().unwrap();
@@ -687,7 +702,7 @@ fn held_locks() {
             let change = scope.spawn(|| {
                 store::change(&path, |lock| tell.send(lock.to_path_buf()).unwrap(), |book| book.enter(&sheets[1]))
             });
-            let held = Duration::from_millis(if is_long { 10_000 } else { 100 });
+            let held = if is_long { SOON } else { Duration::from_millis(100) };
             assert_eq!(told.recv_timeout(held).ok(), is_long.then_some(expected.clone()));
             lock.unlock().unwrap();
             assert_eq!(change.join().unwrap().unwrap(), Ok(2));
@@ -725,16 +740,15 @@ fn replaced_while_waiting() {
     let mut command = Command::new(PROGRAM);
     command.args(["book", "enter", "book", "sheet"]).current_dir(&folder.0);
     let mut writer = command.stdout(Stdio::piped()).stderr(Stdio::piped()).spawn().unwrap();
-    let mut errors = BufReader::new(writer.stderr.take().unwrap());
-    let mut told = String::new();
-    errors.read_line(&mut told).unwrap();
+    let errors = lines_of(&mut writer);
+    // it waits now
+    let waits = errors.recv_timeout(SOON);
     let other = book(["a", "e", "blue", "red"]);
     fs::write(&path, other.to_bytes()).unwrap();
     lock.unlock().unwrap();
-    told.clear();
-    errors.read_line(&mut told).unwrap();
+    assert!(waits.is_ok());
     let said = "another book of another stock has taken its place meanwhile; what to do: enter once more";
-    assert_eq!(told, format!("caplune: book: {said}\n"));
+    assert_eq!(errors.recv_timeout(SOON), Ok(format!("caplune: book: {said}")));
     let ended = writer.wait_with_output().unwrap();
     assert_eq!((ended.status.code(), ended.stdout), (Some(2), vec![]));
     assert_eq!(store::read(&path).unwrap(), other);
