@@ -586,7 +586,9 @@ fn stopped_writers() {
 
 /// A stock of the most kinds with the longest names, as text, and the book that is made for it.
 fn longest_stock() -> (String, Registry) {
-    let name = |symbol: usize| format!("n{symbol:02}{}", "\u{10400}".repeat(97));
+    // letters of four bytes each
+    let letter = |symbol: usize| char::from_u32(0x10400 + symbol as u32).unwrap();
+    let name = |symbol: usize| format!("{}{}", letter(symbol), "\u{10400}".repeat(99));
     let kinds = |count: usize| (0..count).map(|symbol| format!(" {}/0", name(symbol))).collect::<String>();
     let text = format!("stock parts{} blocks{}", kinds(16), kinds(64));
     let (alphabets, names) = text::read_alphabets(text.as_bytes()).unwrap();
@@ -651,8 +653,8 @@ fn longest_names() {
     let (_, registry) = longest_stock();
     let folder = Folder::new();
     let table = text::write_names(registry.names());
-    // 80 names of 97 characters of four bytes and three of one, each behind a space
-    assert_eq!(table.len(), 19 + 80 * (1 + 3 + 4 * 97));
+    // three words and three line ends, and 80 names of 100 characters of four bytes, each behind a space
+    assert_eq!(table.len(), 19 + 80 * (1 + 4 * 100));
     store::make(&folder.file("book"), &registry, not_waited).unwrap();
     assert_eq!(store::read(&folder.file("book")).unwrap(), registry);
 }

@@ -68,14 +68,18 @@ fn first_line(bytes: &[u8]) -> Result<(&'static Make, &[u8]), DamagedRegistry> {
     match (digits, rest) {
         (_, []) => Err(DamagedRegistry::Cut),
         ([b'1'..=b'9', ..], [b'\n', rest @ ..]) => {
-            let told = digits
-                .iter()
-                .fold(0, |number: u64, digit| number.saturating_mul(10).saturating_add(u64::from(digit - b'0')));
+            let told = decimal(digits);
             let make = MAKES.iter().find(|make| make.number == told);
             Ok((make.ok_or(DamagedRegistry::LaterMake(told))?, rest))
         }
         _ => Err(DamagedRegistry::Altered),
     }
+}
+
+/// The number of these digits, or the highest where it is higher.
+fn decimal(digits: &[u8]) -> u64 {
+    let next = |number: u64, digit: &u8| number.saturating_mul(10).saturating_add(u64::from(digit - b'0'));
+    digits.iter().fold(0, next)
 }
 
 /// A number that no address can be is none of a registry.
@@ -103,14 +107,10 @@ impl<'a> Parts<'a> {
         let names = next(usize::from(make.names)).first().copied().unwrap_or(0);
         let records = std::array::from_fn(|_| record(&next(make.record)));
         let (used, head) = (head[1], Head { held: size(head[0]), used: size(head[1]), answered: head[2] });
-        let stored = rest.len().checked_sub(8).ok_or(DamagedRegistry::Cut)?;
-        match (u128::from(used) + u128::from(names)).cmp(&(stored as u128)) {
-            Ordering::Greater => return Err(DamagedRegistry::Cut),
-            Ordering::Less => return Err(DamagedRegistry::Altered),
-            Ordering::Equal => {}
-        }
-        let (stored, sum) = rest.split_at(stored);
-        if number(sum) != check(&bytes[..bytes.len() - 8]) || area < used || area > Registry::LONGEST_AREA as u64 {
+        let (stored, sum) = rest.split_last_chunk::<8>().ok_or(DamagedRegistry::Cut)?;
+        fit([used, names], stored)?;
+        let is_right = number(sum) == check(&bytes[..bytes.len() - 8]);
+        if !is_right || area < used || area > Registry::LONGEST_AREA as u64 {
             return Err(DamagedRegistry::Altered);
         }
         let (bodies, names) = stored.split_at(head.used);
@@ -122,6 +122,15 @@ impl<'a> Parts<'a> {
         let mut area = self.bodies.to_vec();
         area.resize(self.area, 0);
         area
+    }
+}
+
+/// What is stored has these lengths together, which may be any numbers.
+fn fit(lengths: [u64; 2], stored: &[u8]) -> Result<(), DamagedRegistry> {
+    match lengths.into_iter().map(u128::from).sum::<u128>().cmp(&(stored.len() as u128)) {
+        Ordering::Greater => Err(DamagedRegistry::Cut),
+        Ordering::Less => Err(DamagedRegistry::Altered),
+        Ordering::Equal => Ok(()),
     }
 }
 
