@@ -14,7 +14,7 @@
 //! | sheet, pass, line, opening | [`Transducer`], state, right-hand side, initial term |
 //! | sew, clean, join | [`Transducer::translate`], [`Transducer::normal_form`], [`Transducer::then`] |
 //! | alike, or the design and place that differ | [`Comparison`], [`Difference`] |
-//! | book | [`Registry`] |
+//! | book, and one of an earlier make | [`Registry`], [`EarlierRegistry`] |
 //! | codes of blocks, card | [`text::Names::codes`], [`text::write_card`], [`slices::write_codes`] |
 //! | plans as XML | [`OutputTree::to_xml`], [`OutputTree::from_xml`] |
 //!
@@ -53,7 +53,7 @@ mod tree;
 
 pub use alphabets::Alphabets;
 pub use refusal::Refusal;
-pub use registry::{DamagedRegistry, Registry};
+pub use registry::{DamagedRegistry, EarlierRegistry, NotCarried, Registry, StoredRegistry};
 pub use transducer::{Comparison, Difference, Mark, Transducer};
 pub use tree::{Address, InputTree, NoAddress, OutputTree};
 

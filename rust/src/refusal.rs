@@ -128,7 +128,7 @@ impl Refusal {
                 "make another book for the further sheets, or one with more room (`caplune book make --size N`, up to \
                  655538): numbers given stay"
             }
-            Refusal::BadRegistry => "lend the book as it was left last; make it anew if it is lost",
+            Refusal::BadRegistry => "lend the book as it was left last; put back a copy of it if it is lost",
             Refusal::DeepOutput => {
                 "take a design of fewer levels, or a sheet that nests less: 256 are the most, the top block being level \
                  1; the block at one place can be had at any level (`caplune place`)"

@@ -1,10 +1,17 @@
 //! Registries of normal forms, in memory and as the bytes of a file.
 use crate::slices::{self, Head, Record, RECORDS};
+use crate::text::{self, Names};
 use crate::{Alphabets, Refusal, Transducer};
-use std::fmt;
+
+mod earlier;
+mod file;
+
+pub use earlier::{EarlierRegistry, NotCarried};
+pub(crate) use file::LONGEST_FILE;
+pub use file::{DamagedRegistry, StoredRegistry};
 
 /// A registry of the normal forms of transducers over the same alphabets (the paper: a book). It owns its head, its
-/// records and its area.
+/// records and its area, and the names of the symbols.
 ///
 /// ```
 /// use caplune::{Alphabets, Refusal, Registry, Transducer};
@@ -14,8 +21,8 @@ use std::fmt;
 /// let mut registry = Registry::new(&alphabets, 60)?;
 /// assert_eq!((registry.enter(&one)?, registry.enter(&alike)?), (1, 1));
 /// assert_eq!((registry.held(), registry.answered()), (1, 2));
-/// assert_eq!(registry.normal_form(1), Some(one));
-/// assert_eq!(registry.normal_form(2), None);
+/// assert_eq!((registry.normal_form(1), registry.count(1)), (Some(one), Some(2)));
+/// assert_eq!((registry.normal_form(2), registry.count(2)), (None, None));
 /// // what is written is read again
 /// assert_eq!(Registry::from_bytes(&registry.to_bytes()), Ok(registry));
 /// # Ok::<(), Refusal>(())
@@ -25,6 +32,7 @@ use std::fmt;
 #[derive(Clone, Debug, PartialEq, Eq)]
 pub struct Registry {
     alphabets: Alphabets,
+    names: Names,
     head: Head,
     records: [Record; RECORDS],
     area: Vec<u8>,
@@ -35,11 +43,19 @@ impl Registry {
     pub const LONGEST_AREA: usize =
         2 + Alphabets::MOST_INPUTS + Alphabets::MOST_OUTPUTS + (RECORDS - 1) * Transducer::LONGEST_FILE;
 
+    /// The most normal forms that a registry holds.
+    pub const MOST_HELD: usize = RECORDS - 1;
+
+    /// The make of the file that is written.
+    pub const MAKE: u64 = file::CURRENT.number;
+
     /// A registry that holds no normal form, with an area of so many bytes, at most
-    /// [`LONGEST_AREA`](Self::LONGEST_AREA). Refuses by 8 an area that is shorter than the file of the alphabets.
+    /// [`LONGEST_AREA`](Self::LONGEST_AREA). Its symbols have their codes as names. Refuses by 8 an area that is
+    /// shorter than the file of the alphabets.
     pub fn new(alphabets: &Alphabets, area: usize) -> Result<Self, Refusal> {
         let mut registry = Registry {
             alphabets: alphabets.clone(),
+            names: Names::codes(alphabets),
             head: Head::default(),
             records: [Record::default(); RECORDS],
             area: vec![0; area.min(Self::LONGEST_AREA)],
@@ -47,6 +63,25 @@ impl Registry {
         let Registry { head, records, area, .. } = &mut registry;
         slices::make_registry(head, records, area, alphabets.as_bytes())?;
         Ok(registry)
+    }
+
+    /// The registry with these names of its symbols. `None` where there are not as many as symbols.
+    ///
+    /// ```
+    /// use caplune::{text::Names, Alphabets, Registry};
+    /// let alphabets = Alphabets::new(&[1, 0], &[2, 0])?;
+    /// let strings = |names: &[&str]| names.iter().map(|name| name.to_string()).collect();
+    /// let [two, three] = [&["f", "e"][..], &["f", "e", "g"]].map(|of| Names::new(strings(&["a", "e"]), strings(of)));
+    /// let named = Registry::new(&alphabets, 60)?.with_names(two.unwrap());
+    /// assert_eq!(named.unwrap().names().outputs(), ["f", "e"]);
+    /// assert!(Registry::new(&alphabets, 60)?.with_names(three.unwrap()).is_none());
+    /// # Ok::<(), caplune::Refusal>(())
+    /// ```
+    #[must_use]
+    pub fn with_names(self, names: Names) -> Option<Self> {
+        let [inputs, outputs] = [self.alphabets.input_ranks().len(), self.alphabets.output_ranks().len()];
+        let fit = names.inputs().len() == inputs && names.outputs().len() == outputs;
+        fit.then_some(Registry { names, ..self })
     }
 
     /// Enters a transducer: the number, from 1 on, under which its normal form is held, which is the next number if it
@@ -63,9 +98,21 @@ impl Registry {
         Transducer::read(&self.alphabets, slices::body(&self.head, &self.records, &self.area, number)).ok()
     }
 
+    /// How many entries were answered with this number; `None` for 0 and for a number that is not held.
+    #[must_use]
+    pub fn count(&self, number: usize) -> Option<u64> {
+        let is_held = (1..=self.head.held).contains(&number);
+        self.records.get(number).filter(|_| is_held).map(|record| record.count)
+    }
+
     /// Its alphabets.
     pub fn alphabets(&self) -> &Alphabets {
         &self.alphabets
+    }
+
+    /// The names of their symbols.
+    pub fn names(&self) -> &Names {
+        &self.names
     }
 
     /// How many normal forms it holds, 0 to 32.
@@ -95,108 +142,56 @@ impl Registry {
     /// The bytes of its file (docs/FORMATS.md).
     #[must_use]
     pub fn to_bytes(&self) -> Vec<u8> {
-        let records = self.records.iter().flat_map(|record| [record.start as u64, record.size as u64, record.count]);
         let numbers = [self.area.len() as u64, self.head.held as u64, self.head.used as u64, self.head.answered];
-        let mut bytes = FIRST_LINE.to_vec();
-        bytes.extend(numbers.into_iter().chain(records).flat_map(u64::to_be_bytes));
-        bytes.extend(&self.area[..self.head.used]);
-        bytes.extend(check(&bytes).to_be_bytes());
-        bytes
+        let names = text::write_names(&self.names);
+        let records = self.records.iter().flat_map(|record| [record.start as u64, record.size as u64, record.count]);
+        let numbers = numbers.into_iter().chain([names.len() as u64]).chain(records);
+        file::written(numbers, &[&self.area[..self.head.used], names.as_bytes()])
     }
 
     /// Whether bytes begin as the file of a registry does, of this make or another.
     ///
     /// ```
     /// use caplune::Registry;
-    /// assert!(Registry::is_begun(b"caplune book 1\n") && !Registry::is_begun(b"caplune"));
+    /// assert!(Registry::is_begun(b"caplune book 2\n") && !Registry::is_begun(b"caplune"));
     /// ```
     #[must_use]
     pub fn is_begun(bytes: &[u8]) -> bool {
-        bytes.starts_with(FIRST_WORDS)
+        file::is_begun(bytes)
     }
 
-    /// Reads the bytes of a file. Whatever they are, the answer is a registry as [`new`](Self::new) and
-    /// [`enter`](Self::enter) make them, or why they are none.
+    /// Reads the bytes of a file of the make that [`to_bytes`](Self::to_bytes) writes. Whatever they are, the answer is
+    /// a registry as [`new`](Self::new) and [`enter`](Self::enter) make them, whose bytes are these, or why they are
+    /// none.
     pub fn from_bytes(bytes: &[u8]) -> Result<Self, DamagedRegistry> {
-        let rest = bytes.strip_prefix(FIRST_LINE).ok_or(DamagedRegistry::NotARegistry)?;
-        let (numbers, rest) = rest.split_at_checked(8 * NUMBERS).ok_or(DamagedRegistry::Cut)?;
-        let mut numbers = numbers.chunks_exact(8).map(number);
-        let mut next = || numbers.next().unwrap_or(0);
-        let [area, held, used, answered] = std::array::from_fn(|_| next());
-        // a number that no address can be is none of a registry
-        let size = |number: u64| usize::try_from(number).unwrap_or(usize::MAX);
-        let head = Head { held: size(held), used: size(used), answered };
-        let records = std::array::from_fn(|_| Record { start: size(next()), size: size(next()), count: next() });
-        let stored = rest.len().checked_sub(8).ok_or(DamagedRegistry::Cut)?;
-        if used != stored as u64 {
-            return Err(if used > stored as u64 { DamagedRegistry::Cut } else { DamagedRegistry::Altered });
+        match StoredRegistry::from_bytes(bytes)? {
+            StoredRegistry::Current(registry) => Ok(registry),
+            StoredRegistry::Earlier(earlier) => Err(DamagedRegistry::EarlierMake(earlier.make())),
         }
-        let (stored, sum) = rest.split_at(stored);
-        if number(sum) != check(&bytes[..bytes.len() - 8]) || area < used || area > Self::LONGEST_AREA as u64 {
-            return Err(DamagedRegistry::Altered);
-        }
-        let mut area = vec![0; area as usize];
-        area[..stored.len()].copy_from_slice(stored);
-        Self::whole(head, records, area).ok_or(DamagedRegistry::Altered)
     }
 
-    /// The registry of this head, these records and this area, if it is one and holds different normal forms.
+    /// The registry of this head, these records and this area, if it is one, holds different normal forms and has
+    /// answered an entry with each. Its symbols have their codes as names.
     fn whole(mut head: Head, mut records: [Record; RECORDS], mut area: Vec<u8>) -> Option<Self> {
         // What is not a registry is refused by 9 before the empty file is looked at, which then is refused by 4.
         if slices::enter(&mut head, &mut records, &mut area, &[]) != Err(Refusal::BadContents) {
             return None;
         }
         let alphabets = Alphabets::read(&area[..records[0].size]).ok()?;
-        let registry = Registry { alphabets, head, records, area };
+        let names = Names::codes(&alphabets);
+        let registry = Registry { alphabets, names, head, records, area };
         let held: Option<Vec<_>> = (1..=head.held).map(|number| registry.normal_form(number)).collect();
         let held = held?;
         let clean = held.iter().all(|form| form.normal_form().as_ref() == Ok(form));
         let different = held.iter().enumerate().all(|(index, form)| !held[..index].contains(form));
-        (clean && different && head.answered >= head.held as u64).then_some(registry)
+        // 9 does not ask this of a lent registry, but no entry leaves less
+        let counted = (1..=head.held).all(|number| registry.count(number) > Some(0));
+        (clean && different && counted).then_some(registry)
+    }
+
+    /// The registry with the names of a table, which must be just as [`text::write_names`] writes it.
+    fn with_table(self, table: &[u8]) -> Option<Self> {
+        let names = text::read_names(table, &self.alphabets).ok()?;
+        (text::write_names(&names).as_bytes() == table).then(|| self.with_names(names)).flatten()
     }
 }
-
-/// How the file of a registry begins: what it is, and which make.
-const FIRST_LINE: &[u8] = b"caplune book 2\n";
-/// That of every make.
-const FIRST_WORDS: &[u8] = b"caplune book ";
-/// The numbers of the file: the length of the area, the head's three, and three of each record.
-const NUMBERS: usize = 4 + 3 * RECORDS;
-
-/// The length of the longest file: the first line, the numbers, the longest area, and the sum.
-pub(crate) const LONGEST_FILE: u64 = (FIRST_LINE.len() + 8 * (NUMBERS + 1) + Registry::LONGEST_AREA) as u64;
-
-/// Eight bytes, the high one first.
-fn number(bytes: &[u8]) -> u64 {
-    bytes.iter().fold(0, |number, &byte| number << 8 | u64::from(byte))
-}
-
-/// The last number of the file: FNV-1a of all bytes before it. Each step takes different sums to different sums, so a
-/// file of which one byte was altered has another sum.
-fn check(bytes: &[u8]) -> u64 {
-    bytes.iter().fold(0xcbf2_9ce4_8422_2325, |sum, &byte| (sum ^ u64::from(byte)).wrapping_mul(0x0100_0000_01b3))
-}
-
-/// Why bytes are not those of a registry's file.
-#[non_exhaustive]
-#[derive(Clone, Copy, Debug, PartialEq, Eq)]
-pub enum DamagedRegistry {
-    /// They do not begin as such a file does.
-    NotARegistry,
-    /// They end too early.
-    Cut,
-    /// They have been altered since the file was written.
-    Altered,
-}
-
-impl fmt::Display for DamagedRegistry {
-    fn fmt(&self, f: &mut fmt::Formatter) -> fmt::Result {
-        f.write_str(match self {
-            DamagedRegistry::NotARegistry => "not the file of a book: it does not begin with `caplune book 2`",
-            DamagedRegistry::Cut => "the file of the book ends too early",
-            DamagedRegistry::Altered => "the file of the book has been altered since it was written",
-        })
-    }
-}
-
-impl std::error::Error for DamagedRegistry {}

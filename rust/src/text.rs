@@ -30,7 +30,7 @@ mod rules;
 mod words;
 mod writing;
 
-use words::is_name;
+use words::{is_name, LONGEST_NAME};
 
 pub use reading::{
     kind, read_alphabets, read_input_tree, read_names, read_output_tree, read_state_names, read_transducer,
@@ -38,6 +38,11 @@ pub use reading::{
 pub use writing::{
     write_alphabets, write_card, write_input_tree, write_names, write_output_tree, write_state_names, write_transducer,
 };
+
+/// The bytes of the longest text that [`write_names`] writes: its words, and of each symbol a space and a name, of which
+/// a character has at most four bytes.
+pub(crate) const LONGEST_NAMES: usize =
+    "names\nparts\nblocks\n".len() + (Alphabets::MOST_INPUTS + Alphabets::MOST_OUTPUTS) * (1 + 4 * LONGEST_NAME);
 
 /// The names of the symbols of two alphabets. Within each of the two lists no name stands twice.
 #[must_use]

@@ -2,11 +2,14 @@
 //! ends, and what it says of files that it cannot use.
 mod folder;
 mod generate;
+mod makes;
 
 use caplune::{text, Alphabets, InputTree, Refusal, Registry, Transducer};
 use folder::{Ended, Folder};
+use generate::alike::{chain, chain_alphabets};
 use generate::samples::*;
 use generate::{joins, Random};
+use makes::make_1;
 use std::fs;
 use std::path::{Path, PathBuf};
 
@@ -142,7 +145,9 @@ fn help() {
     let overview = folder.prints("--help");
     assert_eq!((folder.prints("help"), folder.prints("-h")), (overview.clone(), overview.clone()));
     let commands: Vec<&str> = overview.lines().filter_map(|line| line.strip_prefix("  caplune ")).collect();
-    assert_eq!(commands.len(), 15);
+    assert_eq!(commands.len(), 16);
+    folder.write("old", &book_of_make_1(&[T, T, U]));
+    folder.write("old.names", NAMES_OF_S);
     folder.caplune("convert -o stock stock.txt");
     folder.caplune("convert -o t stock.txt t.txt");
     folder.write("plan.txt", b"plan f(e, e)");
@@ -162,8 +167,9 @@ fn help() {
         assert!(matches!(ended.status, Some(0 | 1)) && ended.err.is_empty(), "{example}: {ended:?}");
         tried += 1;
     }
-    assert_eq!(tried, 15);
-    assert_eq!(folder.prints("book --help").lines().filter(|line| line.starts_with("  caplune book ")).count(), 4);
+    assert_eq!(tried, 16);
+    assert_eq!(folder.prints("book --help").lines().filter(|line| line.starts_with("  caplune book ")).count(), 5);
+    assert!(folder.prints("book --help").starts_with("A book holds clean sheets"));
     assert_eq!((folder.prints("--version"), folder.prints("-V")), ("caplune 0.1.0\n".into(), "caplune 0.1.0\n".into()));
     // what it is for comes first, then the five words, a line or two each
     let before = overview.split("usage: ").next().unwrap();
@@ -235,13 +241,13 @@ fn words_of_messages() {
     let commands = overview.lines().filter_map(|line| line.strip_prefix("  caplune "));
     let names = commands.map(|line| line.split_terminator(|c: char| c.is_uppercase() || c == '[').next().unwrap());
     let helps: Vec<String> = names.map(|name| folder.prints(&format!("{name} --help"))).collect();
-    assert_eq!(helps.len(), 15);
+    assert_eq!(helps.len(), 16);
     let refusals = Refusal::ALL.iter().map(|refusal| format!("{refusal}; {}", refusal.remedy()));
     for text in [overview.clone(), folder.prints("book --help")].into_iter().chain(helps).chain(refusals) {
         assert_eq!(not_said(&text), None, "{text}");
     }
     let mut checked = 0;
-    for part in ["src", "src/text", "src/bin/caplune"] {
+    for part in ["src", "src/registry", "src/text", "src/bin/caplune"] {
         for entry in fs::read_dir(repository("rust").join(part)).unwrap() {
             let path = entry.unwrap().path();
             if path.is_dir() || path.ends_with("src/ffi.rs") {
@@ -272,8 +278,8 @@ fn wrong_usage() {
     for (line, said) in [
         ("", "no command is given; `caplune --help` tells more"),
         ("sewing", "there is no command `sewing`; `caplune --help` tells more"),
-        ("book", "book is followed by make, enter, list or show; `caplune --help` tells more"),
-        ("book makes", "book is followed by make, enter, list or show; `caplune --help` tells more"),
+        ("book", "book is followed by make, enter, list, show or carry; `caplune --help` tells more"),
+        ("book makes", "book is followed by make, enter, list, show or carry; `caplune --help` tells more"),
         ("sew stock.txt t.txt", "sew: it takes STOCK SHEET DESIGN; `caplune sew --help` tells more"),
         ("sew --fast stock.txt t.txt design.txt", "sew: there is no option --fast; `caplune sew --help` tells more"),
         ("sew -o", "sew: -o takes FILE; `caplune sew --help` tells more"),
@@ -366,8 +372,6 @@ fn refusals() {
         ("compare stock over over", "over", 7),
         ("compare stock t over", "over", 7),
         ("book enter book over", "over", 7),
-        ("book enter small t", "t", 8),
-        ("book make --size 5 other stock", "other", 8),
         ("sew unary copy deeper", "deeper", 10),
         ("sew --most 257 -o plan unary copy deeper", "deeper", 10),
         ("sew --bytes -o plan unary copy deeper", "deeper", 10),
@@ -399,13 +403,14 @@ fn refusals() {
     assert_eq!(folder.prints(&format!("place unary copy deeper 1{}", ".1".repeat(255))), "A2\n");
     let said = folder.says("sew unary copy deeper");
     assert!(said.starts_with("deeper: refused by 10: the plan has more than 256 levels; what to do: "), "{said}");
-    folder.write("book", b"caplune book 1\n");
-    assert_eq!(
-        folder.says("book list book"),
-        "book: refused by 9: the file of the book ends too early; \
-         what to do: put back a copy of it, or make the book anew"
-    );
-    assert!(folder.says("book enter t t").starts_with("t: refused by 9: not the file of a book"));
+    for make in ["1", "2"] {
+        folder.write("book", format!("caplune book {make}\n").as_bytes());
+        let said = "book: refused by 9: the file of the book ends too early; what to do: put back a copy of it";
+        assert_eq!(folder.says("book list book"), said);
+    }
+    let said = "t: refused by 9: not the file of a book: it does not begin with `caplune book`; \
+                what to do: give the file of a book, or put back a copy of it";
+    assert_eq!(folder.says("book enter t t"), said);
     assert!(folder.says("show t").starts_with("t: refused by 2: "));
     assert!(folder.says("show missing").starts_with("missing: "));
     assert!(folder.says("sew stock . design").starts_with(".: "));
@@ -857,8 +862,14 @@ fn tables_of_names() {
     folder.write("n.names", b"a letter");
     let said = "it would be overwritten by the names, and is no table of names";
     assert!(folder.says("convert -o n stock.txt").ends_with(said) && !folder.file("n").exists());
-    assert!(folder.says("book make n stock.txt").ends_with(said) && !folder.file("n").exists());
     assert_eq!(folder.read("n.names"), b"a letter");
+    // a book has its names in it, so what stands beside it is not looked at
+    folder.prints("book make n stock.txt");
+    assert_eq!(folder.prints("book enter n t.txt u.txt"), "t.txt: 1\nu.txt: 2\n");
+    assert_eq!(folder.prints("book show n 0"), folder.prints("show stock.txt"));
+    folder.write("n.names", b"names parts a e blocks e f");
+    assert_eq!(folder.prints("book enter n u.txt t.txt"), "u.txt: 2\nt.txt: 1\n");
+    assert_eq!(folder.read("n.names"), b"names parts a e blocks e f");
     // a write that fails leaves the old file with its names
     folder.prints("convert -o t stock.txt t.txt");
     let script = "trap '' XFSZ; ulimit -f 0; exec \"$0\" convert -o t stock.txt u.txt";
@@ -903,8 +914,10 @@ fn books() {
         said[0].starts_with("caplune: missing: ") && said[1].starts_with("caplune: bad:1:15: expected "),
         "{said:?}"
     );
-    let listed = "# 2 sheets, 56 of 60 bytes used, entries answered: 4\n1: 1 pass, 7 marks\n2: 1 pass, 11 marks\n";
-    assert_eq!(folder.prints("book list book"), listed);
+    let head = "# 2 sheets, 56 of 60 bytes used, entries answered: 4\n";
+    let listed = "1: 1 pass, 7 marks, 3 entries\n2: 1 pass, 11 marks, 1 entry\n";
+    assert_eq!(folder.prints("book list book"), format!("{head}{listed}"));
+    assert_eq!(folder.names().iter().filter(|name| name.starts_with("book")).count(), 2);
     assert_eq!(folder.prints("book show book 0"), "stock\nparts  a/1 e/0\nblocks f/2 e/0\n");
     let sheet = "sheet\nopening f(q0(x1), q0(x1))\nq0(a(x1)) -> f(q0(x1), q0(x1))\nq0(e) -> e\n";
     assert_eq!(folder.prints("book show book 1"), sheet);
@@ -923,6 +936,300 @@ fn books() {
     assert!(ended.err.starts_with("caplune: other: refused by 8: "));
     let registry = Registry::from_bytes(&folder.read("book")).unwrap();
     assert_eq!((registry.held(), registry.answered()), (2, 5));
+    assert_eq!((registry.count(1), registry.count(2)), (Some(4), Some(1)));
+}
+
+/// Which limit a full book is at, and what a book needs that is made too small.
+#[test]
+fn full_books() {
+    let folder = first();
+    let another = "make another book for the further sheets";
+    assert_eq!(
+        folder.says("book make --size 5 other stock.txt"),
+        "other: refused by 8: the book is full: the stock alone needs 6 bytes, and --size gives 5; \
+         what to do: give more by --size, up to 655538: clean sheets need room too"
+    );
+    assert!(!folder.names().iter().any(|name| name.starts_with("other")));
+    folder.prints("book make --size 6 other stock.txt");
+    folder.prints("book make --size 50 small stock.txt");
+    let ended = folder.caplune("book enter small t.txt u.txt t2.txt");
+    assert_eq!((ended.status, ended.text()), (Some(2), "t.txt: 1\nt2.txt: 1\n"));
+    assert_eq!(
+        ended.err,
+        format!(
+            "caplune: u.txt: refused by 8: the book is full: the clean sheet has 29 bytes, and 23 are free; what to do: \
+             {another}, with more room (`caplune book make --size N`, up to 655538): numbers given stay\n"
+        )
+    );
+    // what is not clean yet is told by the length of its clean sheet
+    folder.write("long", b"sheet opening e q(a(x1)) -> f(e, e) q(e) -> e");
+    assert!(folder.says("book enter other long").contains(": the clean sheet has 5 bytes, and 0 are free; "));
+    // 32 sheets, with room for more
+    folder.write("stock", &chain_alphabets().file());
+    folder.prints("book make book stock");
+    let sheets: Vec<String> = (1..=33).map(|states| format!("s{states}")).collect();
+    for (index, name) in sheets.iter().enumerate() {
+        folder.write(name, &chain(index + 1, 2, 1).file());
+    }
+    let ended = folder.caplune(&format!("book enter book {}", sheets.join(" ")));
+    assert_eq!((ended.status, ended.text().lines().last()), (Some(2), Some("s32: 32")));
+    let most = "32 sheets are held, the most that a book can hold";
+    let said = format!("refused by 8: the book is full: {most}; what to do: {another}: numbers given stay");
+    assert_eq!(ended.err, format!("caplune: s33: {said}\n"));
+    assert!(folder.prints("book list book").starts_with("# 32 sheets, "));
+    assert_eq!(folder.prints("book enter book s7"), "s7: 7\n");
+}
+
+/// The table of names of stock S.
+const NAMES_OF_S: &[u8] = b"names\nparts a e\nblocks f e\n";
+
+/// The file of a book of make 1, with room for 100 bytes, into which these sheets under stock S were entered.
+fn book_of_make_1(sheets: &[&[u8]]) -> Vec<u8> {
+    let alphabets = Alphabets::read(S).unwrap();
+    let mut registry = Registry::new(&alphabets, 100).unwrap();
+    for sheet in sheets {
+        registry.enter(&Transducer::read(&alphabets, sheet).unwrap()).unwrap();
+    }
+    make_1(&registry)
+}
+
+/// A book of make 1 is listed and shown, takes no entries, and is carried over with what it does not keep.
+#[test]
+fn earlier_makes() {
+    let folder = first();
+    let old = book_of_make_1(&[T, U, T]);
+    folder.write("old", &old);
+    folder.write("old.names", NAMES_OF_S);
+    let before = folder.names();
+    let head = "# 2 sheets, 56 of 100 bytes used, entries answered: 3\n";
+    let listed = "# make 1: counts by number are not kept\n1: 1 pass, 7 marks\n2: 1 pass, 11 marks\n";
+    assert_eq!(folder.prints("book list old"), format!("{head}{listed}"));
+    assert_eq!(folder.prints("book show old 0"), "stock\nparts  a/1 e/0\nblocks f/2 e/0\n");
+    assert_eq!(folder.prints("book show old 1"), folder.prints("clean stock.txt t.txt"));
+    let said = "old: there is no number 3: the book holds the numbers 1 to 2, and its stock is 0";
+    assert_eq!(folder.says("book show old 3"), said);
+    assert_eq!(
+        folder.says("book enter old t.txt"),
+        "old: a book of make 1, where one of make 2 is needed; what to do: carry it over into a new one by \
+         `caplune book carry old NEW`, which leaves this one as it is"
+    );
+    assert_eq!(
+        folder.says("book carry old new"),
+        "old: 3 entries were answered with 2 numbers, and make 1 does not keep which; \
+         what to do: give the count of each number by --counts, 2 in all that sum to 3"
+    );
+    assert_eq!(folder.names(), before);
+    assert_eq!(folder.prints("book carry old new --counts 2,1"), "");
+    let listed = "1: 1 pass, 7 marks, 2 entries\n2: 1 pass, 11 marks, 1 entry\n";
+    assert_eq!(folder.prints("book list new"), format!("{head}{listed}"));
+    for number in ["0", "1", "2"] {
+        let [old, new] = ["old", "new"].map(|book| folder.prints(&format!("book show {book} {number}")));
+        assert_eq!(old, new);
+    }
+    assert_eq!(folder.prints("book enter new u.txt t2.txt"), "u.txt: 2\nt2.txt: 1\n");
+    // the old one is as it was
+    assert_eq!((folder.read("old"), folder.read("old.names")), (old, NAMES_OF_S.to_vec()));
+    assert_eq!(folder.says("book carry new newer"), "new: it is of make 2 already: there is nothing to carry over");
+    // a new book is made where there is none, under a name that is free
+    for (line, said) in [
+        ("book carry old new --counts 2,1", "new: there is such a file already"),
+        ("book carry old old --counts 2,1", "old: there is such a file already"),
+        ("book carry old t.txt --counts 2,1", "t.txt: there is such a file already"),
+        ("book carry old - --counts 2,1", "a book is a file with a name, and cannot be `-`"),
+        ("book carry - newer", "a book is a file with a name, and cannot be `-`"),
+    ] {
+        assert_eq!(folder.says(line), said, "{line}");
+    }
+    assert!(folder.says("book carry old newer.lock --counts 2,1").starts_with("newer.lock: names that end in "));
+    assert!(folder.says("book carry missing newer").starts_with("missing: "));
+    assert!(folder.says("book carry t.txt newer").starts_with("t.txt: refused by 9: not the file of a book"));
+    assert!(!folder.names().iter().any(|name| name.starts_with("newer")));
+}
+
+/// Counts that alone are possible are not asked for, and wrong ones are told.
+#[test]
+fn carried_counts() {
+    let folder = first();
+    for (number, (sheets, counts)) in [
+        (&[][..], &[][..]),
+        (&[T], &[1]),
+        (&[T, T_PRIME, T], &[3]),
+        (&[U, T], &[1, 1]),
+        (&[T, U, CONSTANT], &[1, 1, 1]),
+    ]
+    .into_iter()
+    .enumerate()
+    {
+        let (old, new) = (format!("old{number}"), format!("new{number}"));
+        folder.write(&old, &book_of_make_1(sheets));
+        folder.prints(&format!("book carry --stock stock.txt {old} {new}"));
+        let registry = Registry::from_bytes(&folder.read(&new)).unwrap();
+        let kept: Vec<u64> = (1..=registry.held()).map(|number| registry.count(number).unwrap()).collect();
+        assert_eq!(kept, counts, "{number}");
+        assert_eq!(registry.names().outputs(), ["f", "e"]);
+    }
+    // they can be said all the same, and must be right
+    folder.prints("book carry --stock stock.txt --counts 3 old2 said");
+    assert_eq!(folder.read("said"), folder.read("new2"));
+    folder.write("old", &book_of_make_1(&[T, U, T, CONSTANT, U]));
+    let takes = "--counts takes a number for each sheet, with commas between, as 3,1";
+    let held = |given: usize| format!("--counts: counts given: {given}, sheets held: 3; each sheet has one");
+    let sum = |sum: &str| format!("--counts: the counts sum to {sum}, and the book has answered 5");
+    let zero = "--counts: the count of number 2 is 0, and each number was answered at least once";
+    let before = folder.names();
+    for (counts, said) in [
+        ("5", held(1)),
+        ("3,2", held(2)),
+        ("2,1,1,1", held(4)),
+        ("3,0,2", zero.to_string()),
+        ("2,2,2", sum("6")),
+        ("1,1,1", sum("3")),
+        ("9223372036854775808,9223372036854775808,5", sum("18446744073709551621")),
+        ("18446744073709551615,3,3", sum("18446744073709551621")),
+        ("18446744073709551616,1,1", takes.to_string()),
+        ("2,,1", takes.to_string()),
+        ("2,2,1,", takes.to_string()),
+        (",", takes.to_string()),
+        ("2;2;1", takes.to_string()),
+        ("2,2,one", takes.to_string()),
+        ("2,-1,4", takes.to_string()),
+        ("+2,2,1", takes.to_string()),
+    ] {
+        assert_eq!(folder.says(&format!("book carry --stock stock.txt --counts={counts} old new")), said, "{counts}");
+    }
+    let said = "--counts: the counts sum to 2, and the book has answered 3";
+    assert_eq!(folder.says("book carry --stock stock.txt --counts 2 old2 new"), said);
+    let said = "--counts: counts given: 1, sheets held: 0; each sheet has one";
+    assert_eq!(folder.says("book carry --stock stock.txt --counts 1 old0 new"), said);
+    assert_eq!(folder.names(), before);
+    folder.prints("book carry --stock stock.txt --counts 2,2,1 old new");
+    let head = "# 3 sheets, 61 of 100 bytes used, entries answered: 5\n";
+    let listed = "1: 1 pass, 7 marks, 2 entries\n2: 1 pass, 11 marks, 2 entries\n3: 0 passes, 1 mark, 1 entry\n";
+    assert_eq!(folder.prints("book list new"), format!("{head}{listed}"));
+}
+
+/// The names of a book of make 1: from the table beside it, or from a stock.
+#[test]
+fn carried_names() {
+    let folder = first();
+    folder.write("old", &book_of_make_1(&[T, U]));
+    // without a table it is shown by codes, and not carried over
+    assert_eq!(folder.prints("book show old 0"), "stock\nparts  a1/1 a2/0\nblocks A1/2 A2/0\n");
+    let said = "old: no table of names stands beside it; what to do: give the stock that has the names by --stock";
+    assert_eq!(folder.says("book carry old new"), said);
+    for (name, stock) in [
+        ("more", "stock parts a/1 e/0 blocks f/2 e/0 g/0"),
+        ("fewer", "stock parts e/0 blocks f/2 e/0"),
+        ("turned", "stock parts a/1 e/0 blocks e/0 f/2"),
+    ] {
+        folder.write(name, stock.as_bytes());
+        assert_eq!(
+            folder.says(&format!("book carry --stock {name} old new")),
+            format!(
+                "{name}: its kinds are not those of old, in number and places; \
+                 what to do: give the stock that the book was made for"
+            )
+        );
+    }
+    assert!(folder.says("book carry --stock t.txt old new").starts_with("t.txt:"));
+    assert!(folder.says("book carry --stock missing old new").starts_with("missing: "));
+    folder.write("old.names", b"names parts a blocks f e");
+    assert!(folder.says("book carry old new").starts_with("old.names:1:"));
+    assert!(folder.says("book show old 1").starts_with("old.names:1:"));
+    assert!(!folder.file("new").exists());
+    // a stock is taken before the table, and codes are said by a stock in bytes
+    folder.prints("book carry --stock stock.txt old new");
+    assert_eq!(folder.prints("book show new 0"), "stock\nparts  a/1 e/0\nblocks f/2 e/0\n");
+    folder.write("stock", S);
+    folder.prints("book carry --stock stock old coded");
+    assert_eq!(folder.prints("book show coded 0"), "stock\nparts  a1/1 a2/0\nblocks A1/2 A2/0\n");
+    // a table need not be laid out as it is written
+    folder.write("old.names", b"# of S\nnames parts   hem end blocks f e");
+    folder.prints("book carry old hems");
+    assert_eq!(folder.prints("book show hems 0"), "stock\nparts  hem/1 end/0\nblocks f/2 e/0\n");
+    assert_eq!(folder.prints("book list hems"), folder.prints("book list new"));
+}
+
+/// A make that is not known here yet.
+#[test]
+fn later_makes() {
+    let folder = first();
+    folder.prints("book make whole stock.txt");
+    let whole = folder.read("whole");
+    for (make, told) in [
+        ("3", "make 3"),
+        ("4", "make 4"),
+        ("10", "make 10"),
+        ("18446744073709551614", "make 18446744073709551614"),
+        ("99999999999999999999999", "a later make"),
+    ] {
+        for rest in [&b""[..], &whole[15..]] {
+            folder.write("book", &[format!("caplune book {make}\n").as_bytes(), rest].concat());
+            for line in ["book list book", "book show book 0", "book enter book t.txt", "book carry book new"] {
+                let said = format!("book: a book of {told}, and this caplune reads makes up to 2");
+                assert_eq!(folder.says(line), said + "; what to do: use a newer caplune", "{line}");
+            }
+            // it is a book, so nothing is written over it
+            let said = "book: it is a book, and would be overwritten: give another file";
+            assert_eq!(folder.says("clean -o book stock.txt t.txt"), said);
+        }
+    }
+}
+
+/// Nobody is told to make a book anew: its numbers would be lost.
+#[test]
+fn never_anew() {
+    for path in ["README.md", "docs/FORMATS.md", "docs/REFUSALS.md", "rust/src/refusal.rs", "include/caplune.h"] {
+        let text = fs::read_to_string(repository(path)).unwrap();
+        assert!(!text.contains("anew if") && !text.contains("the book anew"), "{path}");
+    }
+    let sources = fs::read_dir(repository("rust/src/bin/caplune")).unwrap();
+    for path in sources.map(|entry| entry.unwrap().path()) {
+        assert!(!fs::read_to_string(&path).unwrap().contains("anew"), "{}", path.display());
+    }
+}
+
+/// A folder in which nothing may be written is told as that.
+#[cfg(unix)]
+#[test]
+fn write_protected_folders() {
+    use std::os::unix::fs::PermissionsExt;
+    let folder = first();
+    fs::copy(PROGRAM, folder.file("caplune")).unwrap();
+    for path in [&folder.0, &folder.file("caplune")] {
+        fs::set_permissions(path, fs::Permissions::from_mode(0o755)).unwrap();
+    }
+    fs::create_dir(folder.file("shut")).unwrap();
+    for line in ["book make shut/book stock.txt", "book make shut/other stock.txt"] {
+        folder.prints(line);
+    }
+    folder.write("shut/old", &book_of_make_1(&[]));
+    folder.write("shut/old.names", NAMES_OF_S);
+    fs::remove_file(folder.file("shut/other.lock")).unwrap();
+    fs::set_permissions(folder.file("shut"), fs::Permissions::from_mode(0o555)).unwrap();
+    // the permissions of others bind root too
+    let other = ["--reuid=65534", "--regid=65534", "--clear-groups", "--", "./caplune"];
+    let setpriv = Path::new("/usr/bin/setpriv");
+    if !setpriv.exists() || folder.run(setpriv, &[&other[..], &["--version"]].concat(), b"").status != Some(0) {
+        println!("skipped: nobody else can be become here");
+        return;
+    }
+    let path = fs::canonicalize(folder.file("shut")).unwrap();
+    let said = format!("the folder {} cannot be written: Permission denied (os error 13)", path.display());
+    for (line, file) in [
+        ("book make shut/new stock.txt", "shut/new"),
+        // with a lock that can only be read, and without one
+        ("book enter shut/book t.txt", "shut/book"),
+        ("book enter shut/other t.txt", "shut/other"),
+        ("book carry shut/old shut/new", "shut/new"),
+        ("clean -o shut/new stock.txt t.txt", "shut/new"),
+        ("convert -o shut/new stock.txt t.txt", "shut/new"),
+    ] {
+        let words: Vec<&str> = other.iter().copied().chain(line.split(' ')).collect();
+        assert_eq!(told(&folder.run(setpriv, &words, b""), line), format!("{file}: {said}"), "{line}");
+    }
+    let words: Vec<&str> = other.iter().copied().chain("book list shut/book".split(' ')).collect();
+    assert_eq!(folder.run(setpriv, &words, b"").status, Some(0));
 }
 
 /// Nothing is left of a result that cannot be written, and what was there stays.
@@ -930,8 +1237,10 @@ fn books() {
 fn outputs_that_fail() {
     let folder = first();
     let before = folder.names();
-    assert!(folder.says("clean -o no/such stock.txt t.txt").starts_with("no/such: "));
-    assert!(folder.says("clean --bytes -o no/such stock.txt t.txt").starts_with("no/such"));
+    for line in ["clean -o no/such stock.txt t.txt", "clean --bytes -o no/such stock.txt t.txt"] {
+        assert_eq!(folder.says(line), "no/such: there is no folder no");
+    }
+    assert_eq!(folder.says("book make no/such stock.txt"), "no/such: there is no folder no");
     assert!(folder.says("clean -o . stock.txt t.txt").starts_with(".: "));
     folder.says("clean -o u.txt stock.txt missing");
     assert_eq!(folder.read("u.txt"), fs::read(repository("examples/first/u.txt")).unwrap());
@@ -1072,6 +1381,7 @@ fn nothing_beside_is_overwritten() {
     {
         folder.write(to, &folder.read(from));
     }
+    folder.write("old", &book_of_make_1(&[T]));
     fs::hard_link(folder.file("y.names"), folder.file("second")).unwrap();
     for (line, file, output) in [
         ("convert -o x x.names", "x.names", "x"),
@@ -1081,8 +1391,8 @@ fn nothing_beside_is_overwritten() {
         ("clean --bytes -o y stock.txt y.names", "y.names", "y"),
         ("join --bytes --stock x -o new x.names t.txt pairs.txt p.txt", "x.names", "x"),
         ("join --bytes --stock new -o y stock.txt y.names pairs.txt p.txt", "y.names", "y"),
-        ("book make x x.names", "x.names", "x"),
         ("book make z z.new~", "z.new~", "z"),
+        ("book carry old z --stock z.new~", "z.new~", "z"),
         ("book enter book t.txt book.new~", "book.new~", "book"),
     ] {
         let said = folder.keeps(line, file);
@@ -1096,9 +1406,11 @@ fn nothing_beside_is_overwritten() {
         let file = line.split(' ').nth(2).unwrap();
         assert!(folder.keeps(line, file).starts_with("names that end in "), "{line}");
     }
-    // a table whose file has gone stays where no book is made
-    folder.write("gone.names", &folder.read("stock.names"));
+    assert!(folder.keeps("book carry old n.lock", "n.lock").starts_with("names that end in "));
     assert!(folder.keeps("book make --size 5 gone stock.txt", "gone").starts_with("refused by 8: "));
+    // what stands beside a book, as a table whose file has gone, stays
+    folder.prints("book make x x.names");
+    assert_eq!(folder.read("x.names"), folder.read("stock.txt"));
     // the second of two outputs is refused before the first is written
     let line = "join --bytes --stock new -o n stock.txt t.txt pairs.txt p.txt";
     folder.write("n.names", b"a letter");

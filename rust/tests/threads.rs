@@ -4,7 +4,8 @@ mod generate;
 
 use caplune::{drawing, slices, store, text};
 use caplune::{Address, Alphabets, InputTree, OutputTree, Registry, Transducer};
-use caplune::{Comparison, DamagedRegistry, Difference, Mark, NoAddress, Refusal};
+use caplune::{Comparison, DamagedRegistry, Difference, Mark, NoAddress, NotCarried, Refusal};
+use caplune::{EarlierRegistry, StoredRegistry};
 use generate::alike::{any, chain, chain_alphabets};
 use generate::joins::{self, Pair};
 use generate::samples::*;
@@ -21,12 +22,15 @@ const _: () = {
     can_be_sent_and_shared::<Comparison>();
     can_be_sent_and_shared::<DamagedRegistry>();
     can_be_sent_and_shared::<Difference>();
+    can_be_sent_and_shared::<EarlierRegistry>();
     can_be_sent_and_shared::<InputTree>();
     can_be_sent_and_shared::<Mark>();
     can_be_sent_and_shared::<NoAddress>();
+    can_be_sent_and_shared::<NotCarried>();
     can_be_sent_and_shared::<OutputTree>();
     can_be_sent_and_shared::<Refusal>();
     can_be_sent_and_shared::<Registry>();
+    can_be_sent_and_shared::<StoredRegistry>();
     can_be_sent_and_shared::<Transducer>();
     can_be_sent_and_shared::<drawing::Drawn>();
     can_be_sent_and_shared::<slices::Comparison>();

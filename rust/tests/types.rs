@@ -2,7 +2,7 @@
 mod generate;
 
 use caplune::text::{Names, StateNames};
-use caplune::{Address, Alphabets, InputTree, Mark, Refusal, Registry, Transducer};
+use caplune::{Address, Alphabets, DamagedRegistry, InputTree, Mark, Refusal, Registry, Transducer};
 use generate::samples::*;
 use std::error::Error;
 
@@ -157,7 +157,7 @@ fn errors() {
         assert!(!refusal.meaning().is_empty() && !refusal.remedy().is_empty());
     }
     let text = caplune::text::read_alphabets(b"stock parts blocks").unwrap_err();
-    let store = caplune::store::Error::from(Refusal::FullRegistry);
+    let store = caplune::store::Error::from(DamagedRegistry::Cut);
     assert_eq!(text.source().map(|error| error.to_string()), Some(Refusal::BadAlphabets.to_string()));
-    assert_eq!(store.source().map(|error| error.to_string()), Some(Refusal::FullRegistry.to_string()));
+    assert_eq!(store.source().map(|error| error.to_string()), Some(DamagedRegistry::Cut.to_string()));
 }

@@ -4,7 +4,7 @@ use super::Error;
 /// The most characters of a word that a message shows.
 const MOST_SHOWN: usize = 30;
 /// The most characters of a name: it may stand millions of times in a text that is written.
-const LONGEST_NAME: usize = 100;
+pub(super) const LONGEST_NAME: usize = 100;
 /// The most names of a list that a message shows.
 const MOST_LISTED: usize = 8;
 

@@ -1,6 +1,7 @@
 //! The words of a command line.
 use crate::failure::Failure;
 use std::ffi::{OsStr, OsString};
+use std::str::FromStr;
 
 /// What an option takes that names a file to be written.
 pub const FILE: &str = "FILE";
@@ -104,7 +105,7 @@ impl Arguments {
 }
 
 /// The number that a word is: digits and nothing else.
-pub fn number(word: &OsStr) -> Option<usize> {
+pub fn number<N: FromStr>(word: &OsStr) -> Option<N> {
     let text = word.to_str().filter(|text| text.bytes().all(|byte| byte.is_ascii_digit()))?;
     text.parse().ok()
 }

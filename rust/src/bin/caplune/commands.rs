@@ -6,7 +6,7 @@ use crate::{book, comparing, Status};
 use caplune::text::{self, Names};
 use caplune::{Address, Refusal, Transducer};
 use std::ffi::{OsStr, OsString};
-use std::fmt::Write;
+use std::fmt::{Display, Write};
 
 /// A command of the program.
 pub struct Command {
@@ -41,6 +41,14 @@ const SIZE: Choice = Choice {
     name: "--size",
     takes: Some("N"),
     says: "the book has room for N bytes, at most 655538 (else for any 32 sheets)",
+};
+
+const COUNTS: Choice =
+    Choice { name: "--counts", takes: Some("N,N,..."), says: "how many entries got each number, from 1 on" };
+const OLD_STOCK: Choice = Choice {
+    name: "--stock",
+    takes: Some("STOCK"),
+    says: "take the names of the kinds from STOCK, whose kinds are the book's",
 };
 
 /// As many words as a command line can have.
@@ -176,7 +184,7 @@ const COMMANDS: &[Command] = &[
         words: (2, 2),
         choices: &[SIZE],
         does: "make a book for sheets under a stock",
-        more: "The names of the kinds go to the table BOOK.names. A book that is there already stays.",
+        more: "The names of the kinds are kept in the book. A book that is there already stays.",
         example: "caplune book make book stock.txt",
         run: book::make,
     },
@@ -196,8 +204,8 @@ const COMMANDS: &[Command] = &[
         takes: "BOOK",
         words: (1, 1),
         choices: &[],
-        does: "list the sheets of a book by number",
-        more: "",
+        does: "list the sheets of a book by number, and how many entries got each number",
+        more: "A book of make 1 does not keep how many, which is told.",
         example: "caplune book list book",
         run: book::list,
     },
@@ -210,6 +218,20 @@ const COMMANDS: &[Command] = &[
         more: "",
         example: "caplune book show book 1",
         run: book::show,
+    },
+    Command {
+        name: "book carry",
+        takes: "OLD NEW",
+        words: (2, 2),
+        choices: &[COUNTS, OLD_STOCK],
+        does: "carry a book of an earlier make over into a new file, of the make that takes entries",
+        more: "OLD stays as it is, and NEW must not be there yet. Make 1 does not keep how many entries got each\n\
+               number, so --counts is needed where that is not certain: N for number 1, then for number 2 and so\n\
+               on, each at least 1, which sum to the entries answered (`caplune book list OLD`). It is certain where\n\
+               no sheet is held or one, and where there were as many entries as sheets. Make 1 has the names of\n\
+               the kinds in the table OLD.names.",
+        example: "caplune book carry --counts 2,1 old new",
+        run: book::carry,
     },
 ];
 
@@ -230,7 +252,7 @@ pub fn run(words: &[OsString]) -> Result<Status, Failure> {
     let group: Vec<&Command> =
         COMMANDS.iter().filter(|command| command.name.split(' ').next() == first.to_str()).collect();
     if group.len() > 1 && words.get(1).is_some_and(helped) {
-        return print(&overview(group)).map(|()| Status::Done);
+        return print(&(BOOK.to_string() + &overview(group))).map(|()| Status::Done);
     }
     let (command, rest) = find(words)?;
     if rest.iter().take_while(|word| *word != "--").any(helped) {
@@ -255,7 +277,7 @@ fn find(words: &[OsString]) -> Result<(&'static Command, &[OsString]), Failure> 
     }
     let first = words.first().map(|word| shown(word)).unwrap_or_default();
     let why = match first.as_str() {
-        "book" => "book is followed by make, enter, list or show".to_string(),
+        "book" => "book is followed by make, enter, list, show or carry".to_string(),
         _ => format!("there is no command `{first}`"),
     };
     Err(wrong(&why, None))
@@ -282,6 +304,15 @@ where they do not. It sews, cleans and joins sheets, and keeps a book of them.
                whose open ends say which pass goes on with which smaller part
   clean sheet  a sheet that lays every block as early as it is certain, holds no
                two passes that do the same, and numbers its passes as they are met
+
+";
+
+/// What a book is.
+const BOOK: &str = "\
+A book holds clean sheets under one stock, by number from 1 on, at most 32. Sheets
+that sew alike get one number, and the book counts how often it gave each. It is
+one file, with the names of the kinds in it; who changes it keeps others waiting
+by BOOK.lock. A stop at any moment leaves the old book or the new one.
 
 ";
 
@@ -324,15 +355,16 @@ impl Command {
             text.push('\n');
         }
         for Choice { name, takes, says } in *choices {
-            let _ = writeln!(text, "  {:14} {says}", format!("{name} {}", takes.unwrap_or_default()));
+            let _ = writeln!(text, "  {:16} {says}", format!("{name} {}", takes.unwrap_or_default()));
         }
         text + &format!("\nexample: {example}\n")
     }
 }
 
 /// A number of things.
-pub fn count(number: usize, one: &str, more: &str) -> String {
-    format!("{number} {}", if number == 1 { one } else { more })
+pub fn count<N: Display + PartialEq + From<u8>>(number: N, one: &str, more: &str) -> String {
+    let word = if number == N::from(1) { one } else { more };
+    format!("{number} {word}")
 }
 
 fn show(arguments: &Arguments) -> Result<Status, Failure> {

@@ -1,5 +1,5 @@
 //! What a command ends with that cannot do what was asked.
-use caplune::{store, text, Refusal};
+use caplune::{store, text, DamagedRegistry, Refusal};
 use std::io::{self, Write};
 
 /// Why a command ends with status 2.
@@ -40,16 +40,34 @@ impl Failure {
         }
     }
 
+    /// A book has no room for a file: why, and what to do about just this.
+    pub fn full(file: &str, why: &str, remedy: &str) -> Self {
+        let refusal = Refusal::FullRegistry;
+        Failure::of_file(file, format!("{refusal}: {why}; what to do: {remedy}"))
+    }
+
     /// A book is not made, read or changed.
     pub fn of_book(file: &str, error: store::Error) -> Self {
         match error {
-            store::Error::Refused(refusal) => Failure::refused(file, refusal),
-            store::Error::Damaged(damaged) => Failure::of_file(
-                file,
-                format!("refused by 9: {damaged}; what to do: put back a copy of it, or make the book anew"),
-            ),
+            store::Error::Damaged(damaged) => Failure::damaged(file, damaged),
             other => Failure::of_file(file, other),
         }
+    }
+
+    /// What is at a path is not a book that can be used.
+    fn damaged(file: &str, damaged: DamagedRegistry) -> Self {
+        let (number, remedy) = match damaged {
+            DamagedRegistry::EarlierMake(_) => {
+                let command = format!("`caplune book carry {file} NEW`");
+                ("", format!("carry it over into a new one by {command}, which leaves this one as it is"))
+            }
+            DamagedRegistry::LaterMake(_) => ("", "use a newer caplune".to_string()),
+            DamagedRegistry::NotARegistry => {
+                ("refused by 9: ", "give the file of a book, or put back a copy of it".into())
+            }
+            _ => ("refused by 9: ", "put back a copy of it".to_string()),
+        };
+        Failure::of_file(file, format!("{number}{damaged}; what to do: {remedy}"))
     }
 
     /// Standard output cannot be written.

@@ -23,6 +23,7 @@ pub struct Input {
 }
 
 /// A stock with the names of its kinds.
+#[derive(PartialEq)]
 pub struct Stock {
     /// The stock.
     pub alphabets: Alphabets,
@@ -254,12 +255,16 @@ fn table_beside(path: Option<&Path>) -> Result<Option<Input>, Failure> {
     }
 }
 
-/// The names of the kinds of a stock, or of a book, from the table beside its file; codes where there is none.
+/// The names of the kinds of a stock, or of a book of make 1, from the table beside its file; codes where there is none.
 pub fn names_beside(path: Option<&Path>, alphabets: &Alphabets) -> Result<Names, Failure> {
-    match table_beside(path)? {
-        None => Ok(Names::codes(alphabets)),
-        Some(table) => text::read_names(&table.bytes, alphabets).map_err(|error| table.unread(error)),
-    }
+    let names = path.map_or(Ok(None), |path| table_names(path, alphabets))?;
+    Ok(names.unwrap_or_else(|| Names::codes(alphabets)))
+}
+
+/// The names of kinds from the table beside a file, if there is one.
+pub fn table_names(path: &Path, alphabets: &Alphabets) -> Result<Option<Names>, Failure> {
+    let Some(table) = table_beside(Some(path))? else { return Ok(None) };
+    text::read_names(&table.bytes, alphabets).map(Some).map_err(|error| table.unread(error))
 }
 
 /// Writes a content, as bytes or as text.
@@ -368,7 +373,7 @@ fn is_replaced(path: &Path) -> bool {
 }
 
 /// There is no file where the table of names beside a file is to stand, or it is such a table.
-pub fn own_table(path: &Path) -> Result<(), Failure> {
+fn own_table(path: &Path) -> Result<(), Failure> {
     match table_beside(Some(path))? {
         Some(table) if text::kind(&table.bytes) != Ok(Kind::Names) => {
             Err(Failure::of_file(&table.name, "it would be overwritten by the names, and is no table of names"))
@@ -378,7 +383,7 @@ pub fn own_table(path: &Path) -> Result<(), Failure> {
 }
 
 /// Removes the table of names beside a file, if there is one.
-pub fn remove_table(path: &Path) -> io::Result<()> {
+fn remove_table(path: &Path) -> io::Result<()> {
     match std::fs::remove_file(table_of(path)) {
         Err(error) if error.kind() != io::ErrorKind::NotFound => Err(error),
         _ => Ok(()),
@@ -386,7 +391,7 @@ pub fn remove_table(path: &Path) -> io::Result<()> {
 }
 
 /// Writes the table of names beside a file.
-pub fn write_table(path: &Path, names: &str) -> Result<(), Failure> {
+fn write_table(path: &Path, names: &str) -> Result<(), Failure> {
     write_file(&table_of(path), names)
 }
 
@@ -400,7 +405,7 @@ pub fn write_file(path: &Path, text: &str) -> Result<(), Failure> {
 const KEPT_ENDINGS: [(&str, &str); 3] =
     [(NAMES, "tables of names"), (".lock", "locks of books"), (UNFINISHED, "files that are not whole yet")];
 /// The ending of a table of names.
-pub const NAMES: &str = ".names";
+const NAMES: &str = ".names";
 /// The ending of a file that is not whole yet.
 pub const UNFINISHED: &str = ".new~";
 
