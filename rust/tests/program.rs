@@ -957,13 +957,15 @@ fn full_books() {
     assert_eq!(
         ended.err,
         format!(
-            "caplune: u.txt: refused by 8: the book is full: the clean sheet has 29 bytes, and 23 are free; what to do: \
-             {another}, with more room (`caplune book make --size N`, up to 655538): numbers given stay\n"
+            "caplune: u.txt: refused by 8: the book is full: the clean sheet has 29 bytes, 23 are free, and 6 bytes are \
+             missing; what to do: {another}, with more room (`caplune book make --size N`, up to 655538): numbers given stay\n"
         )
     );
     // what is not clean yet is told by the length of its clean sheet
     folder.write("long", b"sheet opening e q(a(x1)) -> f(e, e) q(e) -> e");
-    assert!(folder.says("book enter other long").contains(": the clean sheet has 5 bytes, and 0 are free; "));
+    assert!(folder
+        .says("book enter other long")
+        .contains(": the clean sheet has 5 bytes, 0 are free, and 5 bytes are missing; "));
     // 32 sheets, with room for more
     folder.write("stock", &chain_alphabets().file());
     folder.prints("book make book stock");

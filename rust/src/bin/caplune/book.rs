@@ -131,7 +131,8 @@ fn no_room(registry: &Registry, sheet: &Sheet) -> Failure {
     }
     let free = registry.area() - registry.used();
     let length = sheet.transducer.normal_form().map_or(0, |form| form.as_bytes().len());
-    let why = format!("the clean sheet has {length} bytes, and {free} are free");
+    let missing = count(length.saturating_sub(free), "byte is", "bytes are");
+    let why = format!("the clean sheet has {length} bytes, {free} are free, and {missing} missing");
     let room = format!("with more room (`caplune book make --size N`, up to {})", Registry::LONGEST_AREA);
     let remedy = format!("{another}, {room}: numbers given stay");
     Failure::full(&sheet.name, &why, &remedy)
