@@ -3,17 +3,20 @@
 use Prim.Native.Nat.{ℕ, zero, suc, _+_, _-_, _≤_, _<_}
 use native.Mathlib.Decide.{decLt}
 use native.Mathlib.Omega.{arith, by-contra}
+use mathlib.Core.Bool.{Bool, true, false}
 use mathlib.Core.List.{List}
 use mathlib.Core.Logic.{_⊎_, inl, inr, ⊎-elim}
 use mathlib.Core.Path.{_≡_, refl, sym, ap, ap₂, subst, _∙_}
+use lib.Dec.{eqb}
 use lib.ListN.{length, set, take}
 use lib.Seq.{length-sets}
+use borrow.Author.Tests.{eqb-true, eq-eqb}
 use Rattle.theory.proofs.Terms.{conflict}
 use Rattle.trees.specs.Alphabets.{inputs, outputs}
 use Rattle.trees.specs.Refusal.{Outcome, Checks, done, check, Holds, judged, Judged}
 use Rattle.formats.specs.Sheet.{longest, file, sheetCheck}
 use Rattle.trees.specs.declared.refusal.Refusal.{Refusal}
-use Rattle.trees.specs.declared.refusal.Refusal.the-variants.{FullRegistry, BadRegistry}
+use Rattle.trees.specs.declared.refusal.Refusal.the-variants.{FullRegistry, BadRegistry, OtherNumber}
 use Rattle.trees.proofs.Judging.{refuse, pass, accept, accepted-holds, refused-early, better-answer}
 use Rattle.formats.proofs.Sheets.{encodes-counted, file-short}
 use Rattle.earliest.specs.Answers.{formCheck}
@@ -22,17 +25,21 @@ use Rattle.forms.specs.declared.write.Formed.{Formed}
 use Rattle.forms.specs.declared.write.Formed.the-variants as formed
 use Rattle.canonical.specs.Answers.{NormalFile, Cleans}
 use Rattle.canonical.proofs.Laws.{clean-exact, sheets-alike, cleaned, all-alike}
-use Rattle.records.specs.Answers.{CleanFile, Lowest, NotHeld, Room, HasPlace, Gets, Gives, Enters}
+use Rattle.records.specs.Answers.{CleanFile, Lowest, NotHeld, Room, HasPlace, Gets, Gives, numberOf, entryCheck, Enters, Would, Questions, Commits, Registers}
 use Rattle.records.specs.Book.{bodyRecord, countedRecord, recordAt, body, tally, Chained}
-use Rattle.records.specs.Inner.Steps.{clean, Placed, Finds, Ready, Numbers, Granted, Decided, Fits, Fit, Puts, Settled, refusedBy, refusedAsk, unchanged, Asks, Places}
+use Rattle.records.specs.Inner.Steps.{clean, Placed, Finds, Ready, Numbers, Granted, Decided, Fits, Fit, Puts, anyNumber, thisNumber, chosen, onlyNumber, claimedBy, Settled, Gave, Delivered, refusedBy, refusedAsk, unchanged, Asks, Places}
 use Rattle.records.specs.Inner.Writes.{added}
 use Rattle.records.specs.declared.book.Asked.{Asked}
+use Rattle.records.specs.declared.book.Claim.{Claim}
+use Rattle.records.specs.declared.book.Claim.the-variants as claiming
 use Rattle.records.specs.declared.book.Entered.{Entered}
 use Rattle.records.specs.declared.book.Entered.the-variants.{Number, Refused}
 use Rattle.records.specs.declared.book.Entry.{Entry}
 use Rattle.records.specs.declared.book.Head.{Head}
 use Rattle.records.specs.declared.book.Located.{Located}
 use Rattle.records.specs.declared.book.Record.{Record}
+use Rattle.records.specs.declared.book.Reply.{Reply}
+use Rattle.records.specs.declared.book.Submission.{Submission}
 use Rattle.records.specs.declared.book.Verdict.{Verdict}
 use Rattle.records.specs.declared.book.Verdict.the-variants as deciding
 use Rattle.records.proofs.Chains.{body-end}
@@ -234,16 +241,88 @@ module _ {h : Head} {rs : List Record} {area x : List ℕ} {o : Record} {r : Ent
   put-inside : {n : ℕ} → Chained h rs area → Gets h rs area x n → Puts h n o area x r area′ → r .number < length rs
   put-inside C G P = ⊎-elim (λ k. omega (arith, k .0, k .1 .number, C .lies .few, C .lies .many)) (λ k. ⊎-elim (λ L. absurd (omega (arith, L .high, k .0))) (λ N. omega (arith, k .1 .number, N .room .few, C .lies .many)) G) P
 
--- question and commit make an entry
-pub settled : (s : List ℕ) (h : Head) (rs : List Record) (area x : List ℕ) (o : Record) (r : Entry) (area′ : List ℕ) (e : Entered) → Decided s h rs area x o e → Settled h e o area x r area′ → Places s h rs area r area′
+-- the number that bytes would get is one
+pub gets-unique : {h : Head} {rs : List Record} {area x : List ℕ} {m n : ℕ} → Gets h rs area x m → Gets h rs area x n → m ≡ n
+gets-unique {m = m} {n = n} G G′ =
+    ⊎-elim
+    (λ L. ⊎-elim (λ L′. lowest-unique L L′) (λ N. absurd (N .new .none m (L .low) (L .high) (L .there))) G′)
+    (λ N. ⊎-elim (λ L′. absurd (N .new .none n (L′ .low) (L′ .high) (L′ .there))) (λ N′. N .next ∙ sym (N′ .next)) G′)
+    G
+
+-- what is left of a refusal
+left-alone : {s : List ℕ} {h : Head} {rs : List Record} {area : List ℕ} {r : Entry} {area′ : List ℕ} (u : Submission) (q : Refusal) → Registers s u h rs area h rs area (Refused q) → (r ≡ unchanged h (refusedBy q)) × (area′ ≡ area) → Places s u h rs area r area′
 unfolding added
-settled s h rs area x o r area′ (Number n) G P =
-    let w = put-gives (G .its) (G .gets) P in
-    record {
-      enters = subst (λ (v : Entered). Enters s h rs area (r .head) (added rs (r .number) (r .new)) area′ v) (sym (w .0)) (has-number (G .chained) (G .checks) (G .file) (gets-place (G .gets)) (w .1));
-      inside = λ _. put-inside (G .chained) (G .gets) P;
-    }
-settled s h rs area x o r area′ (Refused q) E P = subst (λ (v : Entry). Places s h rs area v area′) (sym (P .0)) (subst (λ l. Places s h rs area (unchanged h (refusedBy q)) l) (sym (P .1)) (record { enters = E; inside = λ g. absurd (omega arith) }))
+left-alone {s} {h} {rs} {area} {r} {area′} u q E P = subst (λ (v : Entry). Places s u h rs area v area′) (sym (P .0)) (subst (λ l. Places s u h rs area (unchanged h (refusedBy q)) l) (sym (P .1)) (record { enters = E; inside = λ g. absurd (omega arith) }))
+
+module _ (s : List ℕ) (h : Head) (rs : List Record) (area x : List ℕ) (o : Record) (r : Entry) (area′ : List ℕ) where
+  -- question and commit make an entry
+  settled-any : (e : Entered) → Decided s h rs area x o e → Settled h e o area x r area′ → Places s anyNumber h rs area r area′
+  settled-any (Number n) G P =
+      let w = put-gives (G .its) (G .gets) P in
+      record {
+        enters = subst (λ (v : Entered). Enters s h rs area (r .head) (added rs (r .number) (r .new)) area′ v) (sym (w .0)) (has-number (G .chained) (G .checks) (G .file) (gets-place (G .gets)) (w .1));
+        inside = λ _. put-inside (G .chained) (G .gets) P;
+      }
+  settled-any (Refused q) E P = left-alone anyNumber q E P
+
+  -- and a commit, where the number is claimed
+  settled-same : {m n : ℕ} → n ≡ m → Granted s h rs area x o n → Puts h n o area x r area′ → Places s (thisNumber m) h rs area r area′
+  unfolding Holds
+  settled-same {m} {n} z G P =
+      let w = put-gives (G .its) (G .gets) P in
+      let c = G .checks in
+      let d : Commits s m h rs area (r .head) (added rs (r .number) (r .new)) area′ (Number n) =
+      pass (G .chained) (pass (c .0) (pass (c .1 .0) (pass (c .1 .1 .0) (pass (x, (G .file, gets-place (G .gets))) (pass (x, (G .file, subst (λ k. Gets h rs area x k) z (G .gets))) (accept (x, (G .file, w .1)))))))) in
+      record { enters = subst (λ (v : Entered). Commits s m h rs area (r .head) (added rs (r .number) (r .new)) area′ v) (sym (w .0)) d; inside = λ _. put-inside (G .chained) (G .gets) P }
+
+  settled-other : {m n : ℕ} → (n ≡ m → ⊥) → Granted s h rs area x o n → (r ≡ unchanged h (refusedBy OtherNumber)) × (area′ ≡ area) → Places s (thisNumber m) h rs area r area′
+  unfolding Holds
+  settled-other {m} {n} f G P =
+      let c = G .checks in
+      left-alone (thisNumber m) OtherNumber
+      (pass (G .chained) (pass (c .0) (pass (c .1 .0) (pass (c .1 .1 .0) (pass (x, (G .file, gets-place (G .gets))) (refuse (λ u. f (gets-unique (G .gets) (subst (λ y. Gets h rs area y m) (clean-unique (u .1 .0) (G .file)) (u .1 .1)))) (refl, refl, refl))))))) P
+
+  settled-number : (m n : ℕ) (b : Bool) → eqb n m ≡ b → Granted s h rs area x o n → Settled h (chosen b (Number n) (Refused OtherNumber)) o area x r area′ → Places s (thisNumber m) h rs area r area′
+  settled-number m n true e G P = settled-same (eqb-true n m e) G P
+  settled-number m n false e G P = settled-other (λ z. conflict (let u : eqb n m ≡ true = eq-eqb n m z in cc)) G P
+
+  settled-claim : (m : ℕ) (e : Entered) → Decided s h rs area x o e → Settled h (onlyNumber m e) o area x r area′ → Places s (thisNumber m) h rs area r area′
+  settled-claim m (Number n) G P = settled-number m n (eqb n m) refl G P
+  settled-claim m (Refused q) E P = left-alone (thisNumber m) q (refused-early (entryCheck s h rs area done) (check 13 (Would s h rs area m) done) (refl, refl, refl) E) P
+
+  settled-by : (claim : Claim) (e : Entered) → Decided s h rs area x o e → Settled h (claimedBy claim e) o area x r area′ → Places s (record { claim = claim }) h rs area r area′
+  settled-by claiming.Any e D P = settled-any e D P
+  settled-by (claiming.Number m) e D P = settled-claim m e D P
+
+  pub settled : (u : Submission) (e : Entered) → Decided s h rs area x o e → Settled h (claimedBy (u .claim) e) o area x r area′ → Places s u h rs area r area′
+  settled u e D P = settled-by (u .claim) e D P
+
+-- ---- a question
+module _ (s : List ℕ) (h : Head) (rs : List Record) (area x : List ℕ) (o : Record) (before after : List ℕ) where
+  gave-questions : longest ≤ length before → (e : Entered) (r : Reply) → Decided s h rs area x o e → Gave e x before after r → Questions s h rs area before after r
+  unfolding Holds
+  gave-questions l (Number n) r G P =
+      let c = G .checks in
+      subst (λ (v : Reply). Questions s h rs area before after v) (sym (P .0))
+      (pass l (pass (G .chained) (pass (c .0) (pass (c .1 .0) (pass (c .1 .1 .0) (pass (x, (G .file, gets-place (G .gets))) (accept (record { clean = x; file = G .file; gets = G .gets; long = refl; wrote = P .1 }))))))))
+  gave-questions l (Refused q) r E P = subst (λ (v : Reply). Questions s h rs area before after v) (sym (P .0)) (pass l (refused-early (entryCheck s h rs area done) done (P .1) E))
+
+  -- what is decided and handed over is a question's answer
+  pub delivered : (e : Entered) (r : Reply) → Decided s h rs area x o e → Delivered e x before after r → Questions s h rs area before after r
+  delivered e r D P = ⊎-elim (λ w. subst (λ (v : Reply). Questions s h rs area before after v) (sym (w .1)) (refuse (λ l. omega (arith, w .0)) (w .2))) (λ w. gave-questions (w .0) e r D (w .1)) P
+
+-- what the commit asks, under a claim
+only-fit : (h : Head) (area x : List ℕ) (r : Record) (m : ℕ) (e : Entered) → Fit h e r area x → Fit h (onlyNumber m e) r area x
+only-fit h area x r m (Number n) F = go (eqb n m)
+  where
+    go : (b : Bool) → Fit h (chosen b (Number n) (Refused OtherNumber)) r area x
+    go true = F
+    go false = tt
+only-fit h area x r m (Refused q) F = tt
+
+pub claimed-fit : (h : Head) (area x : List ℕ) (r : Record) (claim : Claim) (e : Entered) → Fit h e r area x → Fit h (claimedBy claim e) r area x
+claimed-fit h area x r claiming.Any e F = F
+claimed-fit h area x r (claiming.Number m) e F = only-fit h area x r m e F
 
 -- the file of a normal form fits the area that it is cleaned into
 pub clean-fits : {stock s before after : List ℕ} (a : Formed) (k m size : ℕ) → Cleans stock s before after a → a ≡ formed.Form k m size → size ≤ length after

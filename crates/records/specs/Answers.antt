@@ -6,17 +6,22 @@ use mathlib.Core.Path.{_≡_}
 use lib.ListN.{length, set, drop, replicate}
 use lib.Seq.{sets}
 use Rattle.trees.specs.Alphabets.{alphabetCheck}
-use Rattle.trees.specs.Refusal.{refusalNumber, Outcome, accepted, refused, done, check, Judged}
-use Rattle.formats.specs.Sheet.{file, sheetCheck}
+use Rattle.trees.specs.Refusal.{refusalNumber, Outcome, accepted, refused, Checks, done, check, Judged}
+use Rattle.formats.specs.Sheet.{longest, file, sheetCheck}
 use Rattle.earliest.specs.Answers.{formCheck}
 use Rattle.canonical.specs.Answers.{NormalFile}
 use Rattle.records.specs.Book.{noRecord, stockRecord, bodyRecord, countedRecord, newHead, countedHead, grownHead, recordAt, body, Chained}
+use Rattle.records.specs.declared.book.Claim.{Claim}
+use Rattle.records.specs.declared.book.Claim.the-variants as claiming
 use Rattle.records.specs.declared.book.Head.{Head}
 use Rattle.records.specs.declared.book.Record.{Record}
 use Rattle.records.specs.declared.book.Entered.{Entered}
 use Rattle.records.specs.declared.book.Entered.the-variants as entering
 use Rattle.records.specs.declared.book.Made.{Made}
 use Rattle.records.specs.declared.book.Made.the-variants as making
+use Rattle.records.specs.declared.book.Reply.{Reply}
+use Rattle.records.specs.declared.book.Reply.the-variants as replying
+use Rattle.records.specs.declared.book.Submission.{Submission}
 
 -- a refusal leaves head, records and area as they were
 abbrev pub Kept : Head → List Record → List ℕ → Head → List Record → List ℕ → Type 0
@@ -101,12 +106,56 @@ HasPlace h rs area x = ((n : ℕ) × Lowest (h .held) rs area x n) ⊎ Room h ar
 abbrev pub Gives : Head → List Record → List ℕ → List ℕ → ℕ → Head → List Record → List ℕ → Type 0
 Gives h rs area x n h′ rs′ area′ = Known h rs area x n h′ rs′ area′ ⊎ Added h rs area x n h′ rs′ area′
 
+-- the checks of an entry of s, and then others
+abbrev pub entryCheck : List ℕ → Head → List Record → List ℕ → Checks → Checks
+entryCheck s h rs area rest = check 9 (Chained h rs area) (sheetCheck (body rs area 0) s (formCheck (body rs area 0) s (check 8 ((x : List ℕ) × (CleanFile (body rs area 0) s x × HasPlace h rs area x)) rest)))
+
 -- the file s is cleaned under the alphabets of the registry, and its normal form is given a number
 abbrev pub Enters : List ℕ → Head → List Record → List ℕ → Head → List Record → List ℕ → Entered → Type 0
 Enters s h rs area h′ rs′ area′ r =
     Judged (Kept h rs area h′ rs′ area′) (λ n. (x : List ℕ) × (CleanFile (body rs area 0) s x × Gives h rs area x n h′ rs′ area′))
-    (check 9 (Chained h rs area) (sheetCheck (body rs area 0) s (formCheck (body rs area 0) s (check 8 ((x : List ℕ) × (CleanFile (body rs area 0) s x × HasPlace h rs area x)) done))))
+    (entryCheck s h rs area done)
     (numberOf r)
+
+-- ---- question and commit (02, F-6)
+-- the number that an entry would get, and the length of the clean file
+abbrev pub replyOf : Reply → Outcome (ℕ × ℕ)
+replyOf (replying.Number n size) = accepted (n, size)
+replyOf (replying.Refused r) = refused (refusalNumber r)
+
+-- an entry of s would get the number n, and its clean file, which has this size, stands at the start of the editor's area, after for before
+pub record Foretells (s : List ℕ) (h : Head) (rs : List Record) (area before after : List ℕ) (n size : ℕ) : Type 0 where
+  pub clean : List ℕ
+  pub file : CleanFile (body rs area 0) s clean
+  pub gets : Gets h rs area clean n
+  pub long : size ≡ length clean
+  pub wrote : after ≡ sets before 0 clean
+
+-- a question is refused by 1, and then as the entry would be; a refusal leaves the editor's area. Head, records and area of the registry are lent for reading alone
+abbrev pub Questions : List ℕ → Head → List Record → List ℕ → List ℕ → List ℕ → Reply → Type 0
+Questions s h rs area before after r =
+    Judged (after ≡ before) (λ v. Foretells s h rs area before after (v .0) (v .1))
+    (check 1 (longest ≤ length before) (entryCheck s h rs area done))
+    (replyOf r)
+
+-- n is the number that an entry of s would get
+abbrev pub Would : List ℕ → Head → List Record → List ℕ → ℕ → Type 0
+Would s h rs area n = (x : List ℕ) × (CleanFile (body rs area 0) s x × Gets h rs area x n)
+
+-- a commit of s with the number m does what an entry does, where that gets this number; it is refused by 13, last of all, where it gets another
+abbrev pub Commits : List ℕ → ℕ → Head → List Record → List ℕ → Head → List Record → List ℕ → Entered → Type 0
+Commits s m h rs area h′ rs′ area′ r =
+    Judged (Kept h rs area h′ rs′ area′) (λ n. (x : List ℕ) × (CleanFile (body rs area 0) s x × Gives h rs area x n h′ rs′ area′))
+    (entryCheck s h rs area (check 13 (Would s h rs area m) done))
+    (numberOf r)
+
+-- an entry where any number is claimed, a commit where one is
+abbrev pub RegistersBy : Claim → List ℕ → Head → List Record → List ℕ → Head → List Record → List ℕ → Entered → Type 0
+RegistersBy claiming.Any s h rs area h′ rs′ area′ r = Enters s h rs area h′ rs′ area′ r
+RegistersBy (claiming.Number m) s h rs area h′ rs′ area′ r = Commits s m h rs area h′ rs′ area′ r
+
+abbrev pub Registers : List ℕ → Submission → Head → List Record → List ℕ → Head → List Record → List ℕ → Entered → Type 0
+Registers s u h rs area h′ rs′ area′ r = RegistersBy (u .claim) s h rs area h′ rs′ area′ r
 
 -- ---- a body by number: empty for 0, for a number that is not held, and on refusal 9
 abbrev pub HandsBody : Head → List Record → List ℕ → ℕ → List ℕ → Type 0

@@ -23,6 +23,23 @@ pub enum Entered {
     Refused(Refusal),
 }
 
+// The number that a transducer has to get: any, as in an entry, or this one, as in a commit.
+pub enum Claim {
+    Any,
+    Number(usize),
+}
+
+// What an entry or a commit says beside its file.
+pub struct Submission {
+    pub claim: Claim,
+}
+
+// What a question answers: the number that an entry would get and how long the clean file is, or the refusal.
+pub enum Reply {
+    Number(usize, usize),
+    Refused(Refusal),
+}
+
 // A registry that holds nothing but alphabets, or the refusal.
 pub enum Made {
     Empty,

@@ -4,17 +4,20 @@ ghost use mathlib.Core.List.{List};
 ghost use mathlib.Core.Path.{_≡_};
 ghost use lib.ListN.{length, take};
 ghost use Rattle.formats.specs.Sheet.{longest};
-ghost use Rattle.records.specs.Answers.{Room};
+ghost use Rattle.records.specs.Answers.{Room, Questions};
 ghost use Rattle.records.specs.Book.{answersOf, tooMany, countedHead};
-ghost use Rattle.records.specs.Inner.Steps.{clean, Finds, Ready, Numbers, Decided, Fits, Fit, Adds, Counts, Puts, Settled, Searched, refusedBy, refusedAsk, unchanged, Asks, Places};
+ghost use Rattle.records.specs.Inner.Steps.{clean, Finds, Ready, Numbers, Decided, Fits, Fit, Adds, Counts, Puts, Settled, Searched, Delivered, anyNumber, thisNumber, onlyNumber, claimedBy, refusedBy, refusedAsk, unchanged, Asks, Places};
 ghost use Rattle.records.specs.Inner.Surveys.{Surveyed, Told};
 ghost use Rattle.records.specs.declared.book.Record.{Record as Records};
 use crate::book::Asked;
+use crate::book::Claim;
 use crate::book::Entered;
 use crate::book::Entry;
 use crate::book::Head;
 use crate::book::Located;
 use crate::book::Record;
+use crate::book::Reply;
+use crate::book::Submission;
 use crate::book::Survey;
 use crate::book::Verdict;
 use crate::chain::chained;
@@ -79,7 +82,7 @@ fn number_for(h: Head, f: Located, room: usize, size: usize) -> Entered
 }
 
 // The question: what an entry would answer. It changes nothing.
-pub fn decide(h: Head, a: Asked, f: Located, room: usize, size: usize) -> Entered
+fn decide(h: Head, a: Asked, f: Located, room: usize, size: usize) -> Entered
     requires { ⌜ (a .verdict ≡ clean → Ready h room) ⌝ }
     ensures { λ e. ⌜ ((s : List ℕ) (rs : List Records) (area x : List ℕ) → length area ≡ room → length x ≡ size → Asks s h rs area x a → Finds (a .held) rs area x f → Decided s h rs area x (f .its) e) ⌝ }
 {
@@ -87,6 +90,31 @@ pub fn decide(h: Head, a: Asked, f: Located, room: usize, size: usize) -> Entere
     match verdict {
         Verdict::Clean => number_for(h, f, room, size),
         Verdict::Refused(r) => Entered::Refused(r),
+    }
+}
+
+// The answer where it is this number, or a refusal; else refusal 13.
+fn only_number(answer: Entered, m: usize) -> Entered
+    ensures { λ e. ⌜ e ≡ onlyNumber m answer ⌝ }
+{
+    match answer {
+        Entered::Number(n) => {
+            if n == m {
+                return Entered::Number(n);
+            }
+            Entered::Refused(Refusal::OtherNumber)
+        }
+        Entered::Refused(r) => Entered::Refused(r),
+    }
+}
+
+// What is answered under a claim, where a question would answer so.
+fn claimed(answer: Entered, claim: Claim) -> Entered
+    ensures { λ e. ⌜ e ≡ claimedBy claim answer ⌝ }
+{
+    match claim {
+        Claim::Any => answer,
+        Claim::Number(m) => only_number(answer, m),
     }
 }
 
@@ -175,7 +203,7 @@ fn put(h: Head, n: usize, r: Record, area: &mut [u8], bytes: &[u8]) -> Entry
 }
 
 // The commit of what the question answered; r is the record of bytes that are held.
-pub fn settle(h: Head, answer: Entered, r: Record, area: &mut [u8], bytes: &[u8]) -> Entry
+fn settle(h: Head, answer: Entered, r: Record, area: &mut [u8], bytes: &[u8]) -> Entry
     requires { ⌜ Fit h answer r (now area) (now bytes) ⌝ }
     ensures { λ e. ⌜ Settled h answer r (now (area .entry)) (now (bytes .entry)) e (now (area .exit)) ⌝ }
 {
@@ -185,11 +213,55 @@ pub fn settle(h: Head, answer: Entered, r: Record, area: &mut [u8], bytes: &[u8]
     }
 }
 
-// The end of an entry, after the search for the clean file `bytes`, which found f: question and commit.
-pub fn place(h: Head, a: Asked, f: Located, area: &mut [u8], bytes: &[u8]) -> Entry
-    requires { ⌜ Searched h a f (now area) (now bytes) ⌝ }
-    ensures { λ r. ⌜ ((s : List ℕ) (rs : List Records) → Asks s h rs (now (area .entry)) (now (bytes .entry)) a → Finds (a .held) rs (now (area .entry)) (now (bytes .entry)) f → Places s h rs (now (area .entry)) r (now (area .exit))) ⌝ }
+// The clean file `bytes` is handed over with the answer, its number. 1 where the editor's area is too short, whatever the answer: nothing has changed so far.
+fn deliver(answer: Entered, bytes: &[u8], out: &mut [u8]) -> Reply
+    requires { ⌜ length (now bytes) ≤ longest ⌝ }
+    ensures { λ r. ⌜ Delivered answer (now (bytes .entry)) (now (out .entry)) (now (out .exit)) r ⌝ }
 {
-    let answer = decide(h, a, f, area.len(), bytes.len());
+    if out.len() < 20483 {
+        return Reply::Refused(Refusal::ShortArea);
+    }
+    match answer {
+        Entered::Number(n) => {
+            copy_at(bytes, out, 0);
+            Reply::Number(n, bytes.len())
+        }
+        Entered::Refused(r) => Reply::Refused(r),
+    }
+}
+
+// The end of a question, after the search for the clean file `bytes`, which found f.
+pub fn reply(h: Head, a: Asked, f: Located, area: &[u8], bytes: &[u8], out: &mut [u8]) -> Reply
+    requires { ⌜ Searched h a f (now area) (now bytes) × (length (now bytes) ≤ longest) ⌝ }
+    ensures { λ r. ⌜ ((s : List ℕ) (rs : List Records) → Asks s h rs (now (area .entry)) (now (bytes .entry)) a → Finds (a .held) rs (now (area .entry)) (now (bytes .entry)) f → Questions s h rs (now (area .entry)) (now (out .entry)) (now (out .exit)) r) ⌝ }
+{
+    let would = decide(h, a, f, area.len(), bytes.len());
+    deliver(would, bytes, out)
+}
+
+// What an entry says: it may get any number.
+pub fn any_number() -> Submission
+    ensures { λ u. ⌜ u ≡ anyNumber ⌝ }
+{
+    Submission { claim: Claim::Any }
+}
+
+// What a commit says: it has to get this number.
+pub fn this_number(m: usize) -> Submission
+    ensures { λ u. ⌜ u ≡ thisNumber m ⌝ }
+{
+    Submission {
+        claim: Claim::Number(m),
+    }
+}
+
+// The end of an entry or a commit, after the search for the clean file `bytes`, which found f: question, claim and commit.
+pub fn place(h: Head, u: Submission, a: Asked, f: Located, area: &mut [u8], bytes: &[u8]) -> Entry
+    requires { ⌜ Searched h a f (now area) (now bytes) ⌝ }
+    ensures { λ r. ⌜ ((s : List ℕ) (rs : List Records) → Asks s h rs (now (area .entry)) (now (bytes .entry)) a → Finds (a .held) rs (now (area .entry)) (now (bytes .entry)) f → Places s u h rs (now (area .entry)) r (now (area .exit))) ⌝ }
+{
+    let would = decide(h, a, f, area.len(), bytes.len());
+    let claim = u.claim;
+    let answer = claimed(would, claim);
     settle(h, answer, f.its, area, bytes)
 }

@@ -6,3 +6,4 @@ pub mod Keeping
 pub mod Laws
 pub mod Standing
 pub mod Determined
+pub mod Questions

@@ -186,7 +186,7 @@ cleans-to {k} {counts} {bytes} F e E = record { checks = (sheet-counted (F .shee
 no-place : {stock s x : List ℕ} {h : Head} {rs : List Record} {area : List ℕ} → NotHeld (h .held) rs area x → (Room h area x → ⊥) → CleanFile stock s x → (y : List ℕ) × (CleanFile stock s y × HasPlace h rs area y) → ⊥
 no-place {x} {h} {rs} {area} N R c (y, (d, p)) = ⊎-elim (λ w. N .none (w .0) (w .1 .low) (w .1 .high) (w .1 .there ∙ clean-unique d c)) (λ r. R (rw (clean-unique d c) at r)) p
 
-told : (r : Entered) {a : Option ℕ} {n : ℕ} → answerOf r ≡ a → numberOf r ≡ accepted n → a ≡ some n
+pub told : (r : Entered) {a : Option ℕ} {n : ℕ} → answerOf r ≡ a → numberOf r ≡ accepted n → a ≡ some n
 told (Number m) {n = n} e f = let z : m ≡ n = cc in sym e ∙ ap (λ k. some k) z
 told (Refused q) e f = conflict (cc)
 

@@ -1,2 +1,3 @@
--- Calls: lists of calls of the entry points. `Book` and `Answers` of `records` say what a registry is and what one call answers.
+-- Calls: lists of calls of the entry points. Questions: questions and commits. `Book` and `Answers` of `records` say what a registry is and what one call answers.
 pub mod Calls
+pub mod Questions

@@ -2,7 +2,7 @@
 ghost use Prim.Native.Nat.{_≤_, _<_, min};
 ghost use mathlib.Core.Path.{_≡_};
 ghost use lib.ListN.{length};
-ghost use Rattle.records.specs.Answers.{Makes, Enters, HandsBody};
+ghost use Rattle.records.specs.Answers.{Makes, Registers, HandsBody};
 ghost use Rattle.records.specs.Inner.Steps.{Placed, Finds};
 ghost use Rattle.records.specs.Inner.Surveys.{Surveyed};
 ghost use Rattle.records.specs.Inner.Writes.{freshRecords, written, added};
@@ -11,6 +11,7 @@ use records::book::Head;
 use records::book::Located;
 use records::book::Made;
 use records::book::Record;
+use records::book::Submission;
 use records::book::Survey;
 use records::chain::begin;
 use records::chain::look;
@@ -80,9 +81,15 @@ fn renew(rs: &mut [Record], size: usize, n: usize)
     }
 }
 
-// Enters the transducer of the file `sheet`: its normal form is found or added.
-pub fn enter(head: &mut Head, records: &mut [Record], area: &mut [u8], sheet: &[u8]) -> Entered
-    ensures { λ r. ⌜ Enters (now (sheet .entry)) (now (head .entry)) (now (records .entry)) (now (area .entry)) (now (head .exit)) (now (records .exit)) (now (area .exit)) r ⌝ }
+// An entry or a commit, as u says, of the transducer of the file `sheet`: its normal form is found or added. A commit is refused where that would get another number.
+pub fn enter(
+    head: &mut Head,
+    records: &mut [Record],
+    area: &mut [u8],
+    sheet: &[u8],
+    u: Submission,
+) -> Entered
+    ensures { λ r. ⌜ Registers (now (sheet .entry)) u (now (head .entry)) (now (records .entry)) (now (area .entry)) (now (head .exit)) (now (records .exit)) (now (area .exit)) r ⌝ }
 {
     let h = *head;
     let s = survey(records, h, 0);
@@ -90,7 +97,7 @@ pub fn enter(head: &mut Head, records: &mut [Record], area: &mut [u8], sheet: &[
     let a = ask(h, records.len(), s, area, sheet, &mut file);
     let bytes = beginning(&file, a.size);
     let f = find(records, a.held, area, bytes);
-    let e = place(h, a, f, area, bytes);
+    let e = place(h, u, a, f, area, bytes);
     *head = e.head;
     add(records, e.number, e.new);
     e.answer

@@ -9,7 +9,7 @@ use lib.ListN.{length, getD, drop, set, length-append, drop-of-length-le}
 use lib.Seq.{drop-cons}
 use Rattle.trees.specs.Refusal as refusals
 use Rattle.trees.specs.declared.refusal.Refusal.{Refusal}
-use Rattle.trees.specs.declared.refusal.Refusal.the-variants.{ShortArea, BadAlphabets, BadTree, BadContents, BadBody, LongOutput, OverLimits, FullRegistry, BadRegistry, DeepOutput, BadOutput, ShortTarget, OtherAlphabet, JoinOverLimits}
+use Rattle.trees.specs.declared.refusal.Refusal.the-variants.{ShortArea, BadAlphabets, BadTree, BadContents, BadBody, LongOutput, OverLimits, FullRegistry, BadRegistry, DeepOutput, BadOutput, ShortTarget, OtherNumber, OtherAlphabet, JoinOverLimits}
 use Rattle.codes.specs.Codes.{symbolCode}
 use Rattle.formats.proofs.Writing.{Writing, begin, room-word, word-more, finish, then, wrote-as, wrote-long}
 use Rattle.formats.specs.Inner.Written.{Wrote}
@@ -120,6 +120,7 @@ refusal-low BadRegistry = omega arith
 refusal-low DeepOutput = omega arith
 refusal-low BadOutput = omega arith
 refusal-low ShortTarget = omega arith
+refusal-low OtherNumber = omega arith
 refusal-low OtherAlphabet = omega arith
 refusal-low JoinOverLimits = omega arith
 

@@ -8,7 +8,7 @@ use Rattle.theory.proofs.Terms.{conflict}
 use lib.ListN.{getD}
 use Rattle.trees.specs.Refusal.{refusalNumber, Outcome, accepted, refused, Checks, done, check, Holds, judged, Judged}
 use Rattle.trees.specs.declared.refusal.Refusal.{Refusal}
-use Rattle.trees.specs.declared.refusal.Refusal.the-variants.{ShortArea, BadAlphabets, BadTree, BadContents, BadBody, LongOutput, OverLimits, FullRegistry, BadRegistry, DeepOutput, BadOutput, ShortTarget, OtherAlphabet, JoinOverLimits}
+use Rattle.trees.specs.declared.refusal.Refusal.the-variants.{ShortArea, BadAlphabets, BadTree, BadContents, BadBody, LongOutput, OverLimits, FullRegistry, BadRegistry, DeepOutput, BadOutput, ShortTarget, OtherNumber, OtherAlphabet, JoinOverLimits}
 
 module _ {A : Type 0} {Kept : Type 0} {Good : A → Type 0} where
   -- the first check does not hold
@@ -92,7 +92,7 @@ must-refuse {Kept} {Good} {k} {P} {r} checks rest h f J = go checks h (J .verdic
 
 -- a refusal is told by its number
 refusalOf : ℕ → Refusal
-refusalOf k = getD (ShortArea ∷ ShortArea ∷ BadAlphabets ∷ BadTree ∷ BadContents ∷ BadBody ∷ LongOutput ∷ OverLimits ∷ FullRegistry ∷ BadRegistry ∷ DeepOutput ∷ BadOutput ∷ ShortTarget ∷ ShortArea ∷ ShortArea ∷ ShortArea ∷ OtherAlphabet ∷ JoinOverLimits ∷ []) k ShortArea
+refusalOf k = getD (ShortArea ∷ ShortArea ∷ BadAlphabets ∷ BadTree ∷ BadContents ∷ BadBody ∷ LongOutput ∷ OverLimits ∷ FullRegistry ∷ BadRegistry ∷ DeepOutput ∷ BadOutput ∷ ShortTarget ∷ OtherNumber ∷ ShortArea ∷ ShortArea ∷ OtherAlphabet ∷ JoinOverLimits ∷ []) k ShortArea
 
 of-number : (x : Refusal) → refusalOf (refusalNumber x) ≡ x
 unfolding refusalOf
@@ -108,6 +108,7 @@ of-number BadRegistry = refl
 of-number DeepOutput = refl
 of-number BadOutput = refl
 of-number ShortTarget = refl
+of-number OtherNumber = refl
 of-number OtherAlphabet = refl
 of-number JoinOverLimits = refl
 

@@ -5,7 +5,7 @@ use mathlib.Core.List.{List, []}
 use mathlib.Core.Logic.{_⊎_}
 use mathlib.Core.Path.{_≡_}
 use Rattle.trees.specs.declared.refusal.Refusal.{Refusal}
-use Rattle.trees.specs.declared.refusal.Refusal.the-variants.{ShortArea, BadAlphabets, BadTree, BadContents, BadBody, LongOutput, OverLimits, FullRegistry, BadRegistry, DeepOutput, BadOutput, ShortTarget, OtherAlphabet, JoinOverLimits}
+use Rattle.trees.specs.declared.refusal.Refusal.the-variants.{ShortArea, BadAlphabets, BadTree, BadContents, BadBody, LongOutput, OverLimits, FullRegistry, BadRegistry, DeepOutput, BadOutput, ShortTarget, OtherNumber, OtherAlphabet, JoinOverLimits}
 
 -- the table of document 01, and the numbers that 02 adds
 abbrev pub refusalNumber : Refusal → ℕ
@@ -21,6 +21,7 @@ refusalNumber BadRegistry = 9
 refusalNumber DeepOutput = 10
 refusalNumber BadOutput = 11
 refusalNumber ShortTarget = 12
+refusalNumber OtherNumber = 13
 refusalNumber OtherAlphabet = 16
 refusalNumber JoinOverLimits = 17
 

@@ -15,6 +15,7 @@ pub enum Refusal {
     DeepOutput,
     BadOutput,
     ShortTarget,
+    OtherNumber,
     OtherAlphabet,
     JoinOverLimits,
 }
@@ -36,6 +37,7 @@ pub fn number_of(r: Refusal) -> u32
         Refusal::DeepOutput => 10,
         Refusal::BadOutput => 11,
         Refusal::ShortTarget => 12,
+        Refusal::OtherNumber => 13,
         Refusal::OtherAlphabet => 16,
         Refusal::JoinOverLimits => 17,
     }

@@ -1,19 +1,23 @@
 -- What the steps of an entry and of making answer.
 use Prim.Native.Nat.{ℕ, _+_, _≤_, _<_}
+use mathlib.Core.Bool.{Bool, true, false}
 use mathlib.Core.List.{List}
 use mathlib.Core.Logic.{_⊎_}
 use mathlib.Core.Path.{_≡_}
+use lib.Dec.{eqb}
 use lib.ListN.{length}
 use lib.Seq.{sets}
 use Rattle.trees.specs.Refusal.{done, Holds}
-use Rattle.formats.specs.Sheet.{sheetCheck}
+use Rattle.formats.specs.Sheet.{longest, sheetCheck}
 use Rattle.trees.specs.declared.refusal.Refusal.{Refusal}
 use Rattle.trees.specs.declared.refusal.Refusal.the-variants as refusing
 use Rattle.earliest.specs.Answers.{formCheck}
-use Rattle.records.specs.Answers.{CleanFile, Lowest, NotHeld, Room, HasPlace, Gets, Enters}
+use Rattle.records.specs.Answers.{CleanFile, Lowest, NotHeld, Room, HasPlace, Gets, Enters, Registers}
 use Rattle.records.specs.Book.{answersOf, tooMany, noRecord, bodyRecord, countedRecord, countedHead, grownHead, recordAt, body, Chained}
 use Rattle.records.specs.Inner.Writes.{added}
 use Rattle.records.specs.declared.book.Asked.{Asked}
+use Rattle.records.specs.declared.book.Claim.{Claim}
+use Rattle.records.specs.declared.book.Claim.the-variants as claiming
 use Rattle.records.specs.declared.book.Entered.{Entered}
 use Rattle.records.specs.declared.book.Entered.the-variants as entering
 use Rattle.records.specs.declared.book.Entry.{Entry}
@@ -22,7 +26,10 @@ use Rattle.records.specs.declared.book.Located.{Located}
 use Rattle.records.specs.declared.book.Made.{Made}
 use Rattle.records.specs.declared.book.Made.the-variants as making
 use Rattle.records.specs.declared.book.Record.{Record}
+use Rattle.records.specs.declared.book.Reply.{Reply}
+use Rattle.records.specs.declared.book.Reply.the-variants as replying
 use Rattle.records.specs.declared.book.Started.{Started}
+use Rattle.records.specs.declared.book.Submission.{Submission}
 use Rattle.records.specs.declared.book.Verdict.{Verdict}
 use Rattle.records.specs.declared.book.Verdict.the-variants as deciding
 
@@ -84,6 +91,26 @@ abbrev pub Decided : List ℕ → Head → List Record → List ℕ → List ℕ
 Decided s h rs area x r (entering.Number n) = Granted s h rs area x r n
 Decided s h rs area x r (entering.Refused q) = Enters s h rs area h rs area (entering.Refused q)
 
+-- ---- the claim
+-- what an entry says, which may get any number, and a commit, which has to get this one
+abbrev pub anyNumber : Submission
+anyNumber = record { claim = claiming.Any }
+
+abbrev pub thisNumber : ℕ → Submission
+thisNumber m = record { claim = claiming.Number m }
+
+abbrev pub chosen : Bool → Entered → Entered → Entered
+chosen true a b = a
+chosen false a b = b
+
+abbrev pub onlyNumber : ℕ → Entered → Entered
+onlyNumber m (entering.Number n) = chosen (eqb n m) (entering.Number n) (entering.Refused refusing.OtherNumber)
+onlyNumber m (entering.Refused q) = entering.Refused q
+
+abbrev pub claimedBy : Claim → Entered → Entered
+claimedBy claiming.Any a = a
+claimedBy (claiming.Number m) a = onlyNumber m a
+
 -- ---- the commit of the number n for the bytes x, which have the record r where they are held
 -- what it asks of the head, the record and the area
 pub record Fits (h : Head) (n : ℕ) (r : Record) (area x : List ℕ) : Type 0 where
@@ -132,10 +159,18 @@ pub record Searched (h : Head) (a : Asked) (f : Located) (area x : List ℕ) : T
   pub asks : Asks file h records area x a
   pub finds : Finds (a .held) records area x f
 
--- an entry of the file s, with what is left of the records
-pub record Places (s : List ℕ) (h : Head) (rs : List Record) (area : List ℕ) (r : Entry) (area′ : List ℕ) : Type 0 where
-  pub enters : Enters s h rs area (r .head) (added rs (r .number) (r .new)) area′ (r .answer)
+-- an entry or a commit of the file s, with what is left of the records
+pub record Places (s : List ℕ) (u : Submission) (h : Head) (rs : List Record) (area : List ℕ) (r : Entry) (area′ : List ℕ) : Type 0 where
+  pub enters : Registers s u h rs area (r .head) (added rs (r .number) (r .new)) area′ (r .answer)
   pub inside : 0 < r .number → r .number < length rs
+
+-- ---- the end of a question
+abbrev pub Gave : Entered → List ℕ → List ℕ → List ℕ → Reply → Type 0
+Gave (entering.Number n) x before after r = (r ≡ replying.Number n (length x)) × (after ≡ sets before 0 x)
+Gave (entering.Refused q) x before after r = (r ≡ replying.Refused q) × (after ≡ before)
+
+abbrev pub Delivered : Entered → List ℕ → List ℕ → List ℕ → Reply → Type 0
+Delivered e x before after r = ((length before < longest) × (r ≡ replying.Refused refusing.ShortArea) × (after ≡ before)) ⊎ ((longest ≤ length before) × Gave e x before after r)
 
 -- ---- making
 abbrev pub refusedMade : Refusal → Made
