@@ -2,6 +2,7 @@
 -- Determined: the contracts leave no choice.
 pub mod Locals
 pub mod Loans
+pub mod Searching
 pub mod Keeping
 pub mod Laws
 pub mod Standing
