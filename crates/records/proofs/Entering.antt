@@ -17,7 +17,7 @@ use Rattle.trees.specs.Refusal.{Outcome, Checks, done, check, Holds, judged, Ju
 use Rattle.formats.specs.Sheet.{longest, file, sheetCheck}
 use Rattle.trees.specs.declared.refusal.Refusal.{Refusal}
 use Rattle.trees.specs.declared.refusal.Refusal.the-variants.{FullRegistry, BadRegistry, OtherNumber}
-use Rattle.trees.proofs.Judging.{refuse, pass, accept, accepted-holds, refused-early, better-answer}
+use Rattle.trees.proofs.Judging.{refuse, pass, accept, accepted-holds, refused-early}
 use Rattle.formats.proofs.Sheets.{encodes-counted, file-short}
 use Rattle.earliest.specs.Answers.{formCheck}
 use Rattle.forms.specs.Answers.{formOf, FileOf}
@@ -25,7 +25,7 @@ use Rattle.forms.specs.declared.write.Formed.{Formed}
 use Rattle.forms.specs.declared.write.Formed.the-variants as formed
 use Rattle.canonical.specs.Answers.{NormalFile, Cleans}
 use Rattle.canonical.proofs.Laws.{clean-exact, sheets-alike, cleaned, all-alike}
-use Rattle.records.specs.Answers.{CleanFile, Lowest, NotHeld, Room, HasPlace, Gets, Gives, numberOf, entryCheck, Enters, Would, Questions, Commits, Registers}
+use Rattle.records.specs.Answers.{CleanFile, Lowest, NotHeld, Room, HasPlace, Gets, Gives, entryCheck, Enters, Would, Questions, Commits, Registers}
 use Rattle.records.specs.Book.{bodyRecord, countedRecord, recordAt, body, tally, Chained}
 use Rattle.records.specs.Inner.Steps.{clean, Placed, Finds, Ready, Numbers, Granted, Decided, Fits, Fit, Puts, anyNumber, thisNumber, chosen, onlyNumber, claimedBy, Settled, Gave, Delivered, refusedBy, refusedAsk, unchanged, Asks, Places}
 use Rattle.records.specs.Inner.Writes.{added}

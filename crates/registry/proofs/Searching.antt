@@ -18,7 +18,6 @@ use prog.Wp.{Heap}
 use ghost.Atoms.{Atoms}
 use contract.Monad.{Fun}
 use types.Kit.{Given, Item, ‵, ⋆, _$_, _∵_, !, qed, move, join, fjoin, frame, done}
-use denote.Memory.{pointee}
 use denote.Laws.{Is}
 use denote.Plain.{uint-makes}
 use denote.Builtin.{u8, usize}
