@@ -7,6 +7,7 @@ use records::book::Entered;
 use records::book::Head;
 use records::book::Made;
 use records::book::Record;
+use records::entry::any_number;
 use registry::lent::body;
 use registry::lent::enter;
 use registry::lent::make;
@@ -86,7 +87,8 @@ pub extern "C" fn caplune_enter(
 ) -> u32
     ensures { λ r. ⌜ ExportsEntry (now (file .entry)) (now (head .entry)) (now (records .entry)) (now (area .entry)) (now (head .exit)) (now (records .exit)) (now (area .exit)) (now (number .entry)) (now (number .exit)) r ⌝ }
 {
-    let answer = enter(head, records, area, file);
+    let u = any_number();
+    let answer = enter(head, records, area, file, u);
     tell_entered(answer, number)
 }
 
