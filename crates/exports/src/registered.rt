@@ -2,12 +2,13 @@
 // those of `registry`, which answer by an enum; here the answer is a number, as in the other exported functions.
 ghost use mathlib.Core.Path.{_≡_};
 ghost use Rattle.records.specs.Book.{recordAt};
-ghost use Rattle.exports.specs.Registered.{TellsMade, TellsEntered, startOf, ExportsMaking, ExportsEntry, ExportsBody};
+ghost use Rattle.exports.specs.Registered.{TellsMade, TellsEntered, startOf, ExportsMaking, ExportsEntry, ExportsCommit, ExportsBody};
 use records::book::Entered;
 use records::book::Head;
 use records::book::Made;
 use records::book::Record;
 use records::entry::any_number;
+use records::entry::this_number;
 use registry::lent::body;
 use registry::lent::enter;
 use registry::lent::make;
@@ -88,6 +89,24 @@ pub extern "C" fn caplune_enter(
     ensures { λ r. ⌜ ExportsEntry (now (file .entry)) (now (head .entry)) (now (records .entry)) (now (area .entry)) (now (head .exit)) (now (records .exit)) (now (area .exit)) (now (number .entry)) (now (number .exit)) r ⌝ }
 {
     let u = any_number();
+    let answer = enter(head, records, area, file, u);
+    tell_entered(answer, number)
+}
+
+// A commit of the transducer of a file with the number that a question answered; refused by 13 where an entry would get
+// another.
+#[no_mangle]
+pub extern "C" fn caplune_commit(
+    head: &mut Head,
+    records: &mut [Record],
+    area: &mut [u8],
+    file: &[u8],
+    claim: usize,
+    number: &mut usize,
+) -> u32
+    ensures { λ r. ⌜ ExportsCommit (now (file .entry)) claim (now (head .entry)) (now (records .entry)) (now (area .entry)) (now (head .exit)) (now (records .exit)) (now (area .exit)) (now (number .entry)) (now (number .exit)) r ⌝ }
+{
+    let u = this_number(claim);
     let answer = enter(head, records, area, file, u);
     tell_entered(answer, number)
 }

@@ -23,8 +23,9 @@ use ghost.Atoms.{Atoms, sem}
 use contract.Lifetimes.{Lfts, Shares, toks}
 use contract.Monad.{Fun, fact}
 use types.Kit.{Given, Item, Goal, Soaks, Seq, Sq, ‵, raw, _⊛_, some, later, mean, ⋆, _$_, _∵_, !, qed, by, move, drop, use1, split, join, pick, fsplit, fjoin, feqL, frame, await, done}
-use denote.Laws.{Is, shows}
+use denote.Laws.{Is, Ises, Are, valss, shows}
 use denote.Plain.{uint-makes}
+use denote.RattleType.{Denots}
 use denote.Builtin.{u8, u32, usize}
 use denote.Ref.{RefT, MutRef}
 use denote.Slice.{finally}
@@ -45,7 +46,7 @@ use Rattle.records.proofs.book.Head as Hd
 use Rattle.records.proofs.book.Record as R
 use Rattle.records.proofs.book.Submission as Su
 use Rattle.records.proofs.book.Submission.Laws as Su′
-use Rattle.registry.proofs.Locals.{refH, sliceR, sliceB, sliceS, ptrH, ptrR, slR, ptrB, slB, Lendings, References, refs}
+use Rattle.registry.proofs.Locals.{refH, sliceR, sliceB, sliceS, ptrH, ptrR, slR, ptrB, slB, Lendings, lendings, rows, spelled, References, refs}
 use Rattle.registry.proofs.lent.enter as enters
 use Rattle.exports.specs.Registered.{TellsEntered}
 use Rattle.exports.proofs.registered.tell_entered as tells
@@ -66,9 +67,23 @@ module _ {M : Type 1} (𝓤 : URA M) (H : Heap 𝓤) (A : Atoms 𝓤) (at-mem : 
   Tell = tripleOf 𝓤 H A tells.signature (tells.spec 𝓤 H A at-mem run)
 
 -- what is lent, and the number's reference with its lifetime
-module _ (c : Lendings) (κ₄ : Lft) (q₄ : Share) (x₄ : RefT ℕ) where
-  open Lendings c using (κ₀, κ₁, κ₂, κ₃, q₀, q₁, q₂, q₃, b₀, o₀, γ₀, h, b₁, o₁, γ₁, ys, b₂, o₂, γ₂, ar, ss)
-  open References (refs c) using (x, at, s₁, s₂, s₃, κs, qs, O₁, O₂, O₃)
+pub record Lends : Type 0 where
+  pub lent : Lendings
+  pub κ₄ : Lft
+  pub q₄ : Share
+  pub x₄ : RefT ℕ
+
+-- the same, from the parameters of the contract
+abbrev front : Lfts 5 → Lfts 4
+front κs = (κs .0, (κs .1 .0, (κs .1 .1 .0, (κs .1 .1 .1 .0, tt))))
+
+abbrev pub lends : (κs : Lfts 5) (qs : Shares 5) (a : Denots (rows (front κs))) → Are (rows (front κs)) (Ises (rows (front κs))) a (valss (rows (front κs)) (spelled (front κs)) a) → RefT ℕ → Lends
+lends κs qs a are x = record { lent = lendings (front κs) (qs .0, (qs .1 .0, (qs .1 .1 .0, (qs .1 .1 .1 .0, tt)))) a are; κ₄ = κs .1 .1 .1 .1 .0; q₄ = qs .1 .1 .1 .1 .0; x₄ = x }
+
+module _ (d : Lends) where
+  open Lends d using (κ₄, q₄, x₄)
+  open Lendings (d .lent) using (κ₀, κ₁, κ₂, κ₃, q₀, q₁, q₂, q₃, b₀, o₀, γ₀, h, b₁, o₁, γ₁, ys, b₂, o₂, γ₂, ar, ss)
+  open References (refs (d .lent)) using (x, at, s₁, s₂, s₃, κs, qs, O₁, O₂, O₃)
 
   abbrev pub κs⁺ : Lfts 5
   κs⁺ = (κ₀, (κ₁, (κ₂, (κ₃, (κ₄, tt)))))
