@@ -10,14 +10,14 @@ use mathlib.Core.Path.{_≡_, refl, sym, ap, ap₂, subst, _∙_}
 use lib.Dec.{eqb}
 use lib.ListN.{length, set, take}
 use lib.Seq.{length-sets}
-use borrow.Author.Tests.{eqb-true, eq-eqb}
+use borrow.Author.Tests.{eqb-true, eq-eqb, ne-eqb}
 use Rattle.theory.proofs.Terms.{conflict}
 use Rattle.trees.specs.Alphabets.{inputs, outputs}
 use Rattle.trees.specs.Refusal.{Outcome, Checks, done, check, Holds, judged, Judged}
 use Rattle.formats.specs.Sheet.{longest, file, sheetCheck}
 use Rattle.trees.specs.declared.refusal.Refusal.{Refusal}
 use Rattle.trees.specs.declared.refusal.Refusal.the-variants.{FullRegistry, BadRegistry, OtherNumber}
-use Rattle.trees.proofs.Judging.{refuse, pass, accept, accepted-holds, refused-early, better-answer}
+use Rattle.trees.proofs.Judging.{refuse, pass, accept, accepted-holds, refused-early}
 use Rattle.formats.proofs.Sheets.{encodes-counted, file-short}
 use Rattle.earliest.specs.Answers.{formCheck}
 use Rattle.forms.specs.Answers.{formOf, FileOf}
@@ -25,7 +25,7 @@ use Rattle.forms.specs.declared.write.Formed.{Formed}
 use Rattle.forms.specs.declared.write.Formed.the-variants as formed
 use Rattle.canonical.specs.Answers.{NormalFile, Cleans}
 use Rattle.canonical.proofs.Laws.{clean-exact, sheets-alike, cleaned, all-alike}
-use Rattle.records.specs.Answers.{CleanFile, Lowest, NotHeld, Room, HasPlace, Gets, Gives, numberOf, entryCheck, Enters, Would, Questions, Commits, Registers}
+use Rattle.records.specs.Answers.{CleanFile, Lowest, NotHeld, Room, HasPlace, Gets, Gives, entryCheck, Enters, Would, Questions, Commits, Registers}
 use Rattle.records.specs.Book.{bodyRecord, countedRecord, recordAt, body, tally, Chained}
 use Rattle.records.specs.Inner.Steps.{clean, Placed, Finds, Ready, Numbers, Granted, Decided, Fits, Fit, Puts, anyNumber, thisNumber, chosen, onlyNumber, claimedBy, Settled, Gave, Delivered, refusedBy, refusedAsk, unchanged, Asks, Places}
 use Rattle.records.specs.Inner.Writes.{added}
@@ -248,6 +248,13 @@ gets-unique {m = m} {n = n} G G′ =
     (λ L. ⊎-elim (λ L′. lowest-unique L L′) (λ N. absurd (N .new .none m (L .low) (L .high) (L .there))) G′)
     (λ N. ⊎-elim (λ L′. absurd (N .new .none n (L′ .low) (L′ .high) (L′ .there))) (λ N′. N .next ∙ sym (N′ .next)) G′)
     G
+
+-- ---- the claim: it is the number, or it is not
+pub only-same : {m n : ℕ} → n ≡ m → Number n ≡ onlyNumber m (Number n)
+only-same {m} {n} e = rw (eq-eqb n m e) refl
+
+pub only-other : {m n : ℕ} → (n ≡ m → ⊥) → refusedBy OtherNumber ≡ onlyNumber m (Number n)
+only-other {m} {n} f = rw (ne-eqb n m f) refl
 
 -- what is left of a refusal
 left-alone : {s : List ℕ} {h : Head} {rs : List Record} {area : List ℕ} {r : Entry} {area′ : List ℕ} (u : Submission) (q : Refusal) → Registers s u h rs area h rs area (Refused q) → (r ≡ unchanged h (refusedBy q)) × (area′ ≡ area) → Places s u h rs area r area′

@@ -2,7 +2,7 @@
 ghost use Prim.Native.Nat.{_≤_, _<_, min};
 ghost use mathlib.Core.Path.{_≡_};
 ghost use lib.ListN.{length};
-ghost use Rattle.records.specs.Answers.{Makes, Registers, HandsBody};
+ghost use Rattle.records.specs.Answers.{Makes, Registers, Questions, HandsBody};
 ghost use Rattle.records.specs.Inner.Steps.{Placed, Finds};
 ghost use Rattle.records.specs.Inner.Surveys.{Surveyed};
 ghost use Rattle.records.specs.Inner.Writes.{freshRecords, written, added};
@@ -11,6 +11,7 @@ use records::book::Head;
 use records::book::Located;
 use records::book::Made;
 use records::book::Record;
+use records::book::Reply;
 use records::book::Submission;
 use records::book::Survey;
 use records::chain::begin;
@@ -18,6 +19,7 @@ use records::chain::look;
 use records::entry::ask;
 use records::entry::beginning;
 use records::entry::place;
+use records::entry::reply;
 use records::making::fresh;
 use records::making::held_body;
 use records::making::start;
@@ -32,7 +34,7 @@ fn at_most_33(n: usize) -> usize
 }
 
 // Goes through the records up to the 33rd, and keeps the one with this number.
-fn survey(rs: &[Record], h: Head, number: usize) -> Survey
+pub(crate) fn survey(rs: &[Record], h: Head, number: usize) -> Survey
     ensures { λ s. ⌜ Surveyed h number (now (rs .entry)) (min (length (now (rs .entry))) 33) s ⌝ }
 {
     let n = at_most_33(rs.len());
@@ -46,7 +48,7 @@ fn survey(rs: &[Record], h: Head, number: usize) -> Survey
 }
 
 // The lowest number, from 1 on, whose body is these bytes, and its record; 0 where none is.
-fn find(rs: &[Record], held: usize, area: &[u8], bytes: &[u8]) -> Located
+pub(crate) fn find(rs: &[Record], held: usize, area: &[u8], bytes: &[u8]) -> Located
     requires { ⌜ Placed held (now rs) (now area) ⌝ }
     ensures { λ f. ⌜ Finds held (now (rs .entry)) (now (area .entry)) (now (bytes .entry)) f ⌝ }
 {
@@ -101,6 +103,24 @@ pub fn enter(
     *head = e.head;
     add(records, e.number, e.new);
     e.answer
+}
+
+// A question: the number that an entry of the file `sheet` would get, with its clean file at the start of `out`. It is cleaned into a file of its own, since it can be refused after that.
+pub fn question<'r, 'a, 's, 'o>(
+    head: Head,
+    records: &'r [Record],
+    area: &'a [u8],
+    sheet: &'s [u8],
+    out: &'o mut [u8],
+) -> Reply
+    ensures { λ r. ⌜ Questions (now (sheet .entry)) head (now (records .entry)) (now (area .entry)) (now (out .entry)) (now (out .exit)) r ⌝ }
+{
+    let s = survey(records, head, 0);
+    let mut file = [0u8; 20483];
+    let a = ask(head, records.len(), s, area, sheet, &mut file);
+    let bytes = beginning(&file, a.size);
+    let f = find(records, a.held, area, bytes);
+    reply(head, a, f, area, bytes, out)
 }
 
 // Makes a registry with the alphabets `stock`.

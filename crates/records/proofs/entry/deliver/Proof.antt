@@ -7,7 +7,7 @@ use Rattle.records.proofs.entry.deliver.Statement.{statement}
 use Rattle.records.proofs.entry.deliver.Tie as tie
 
 returns : tie.Need-returns
-returns c = inl (c .if1 .taken, refl, refl)
+returns c = inl (omega (arith, c .if1 .taken), refl, refl)
 
 enum-known-answer : tie.Need-enum-known-answer
 enum-known-answer c = search needs

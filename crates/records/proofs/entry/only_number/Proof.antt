@@ -1,6 +1,7 @@
 -- `only_number` meets its contract. Assumes nothing.
+use native.Mathlib.Omega.{arith}
 use mathlib.Core.Path.{refl}
-use borrow.Author.Tests.{eq-eqb, ne-eqb}
+use Rattle.records.proofs.Entering.{only-same, only-other}
 use borrow.Author.Needs.{needs}
 use Rattle.records.proofs.entry.only_number.Statement.{statement}
 use Rattle.records.proofs.entry.only_number.Tie as tie
@@ -9,13 +10,13 @@ enum-known-answer : tie.Need-enum-known-answer
 enum-known-answer c = search needs
 
 returns : tie.Need-returns
-returns c = rw (c .before .before .answer .given .1) (rw (eq-eqb _ _ (c .if1 .taken)) refl)
+returns c = rw (c .before .before .answer .given .1) (only-same (omega (arith, c .if1 .taken)))
 
 enum-known-answer-2 : tie.Need-enum-known-answer-2
 enum-known-answer-2 c = search needs
 
 returns-2 : tie.Need-returns-2
-returns-2 c = rw (c .before .before .answer .given .1) (rw (ne-eqb _ _ (c .if1 .left)) refl)
+returns-2 c = rw (c .before .before .answer .given .1) (only-other (c .if1 .left))
 
 returns-3 : tie.Need-returns-3
 returns-3 c = rw (c .before .answer2 .given .1) refl

@@ -91,6 +91,7 @@ use Rattle.records.proofs.entry.place.Symbol.{name as #records·entry·place}
 use Rattle.records.proofs.entry.place.Met as places-thm
 use Rattle.registry.proofs.Loans.{hears, Lent, LentShared, lends-row, row-back, lends-shared, shared-back, lends-mut, mut-back, zeros-typed, zeros-row, bytesVal, row-array, big-lit}
 use Rattle.registry.proofs.Locals.{word, refH, sliceR, sliceB, sliceS, ptrR, slR, ptrB, slB, Lendings, lendings, References, refs, Initial, Last, at-start}
+use Rattle.registry.proofs.Searching.{ptrBi, slBi, fileTy, ptrA, ptrAi, full, free, xF, sF, file-room, file-fits, Asking, asked-is, held-is, size-is, SurveyC, AskC, PartC, FindC, to-part, goes-part, to-survey, goes-survey, to-find, goes-find, to-ask, goes-ask}
 use Rattle.registry.proofs.lent.survey as surveys
 use Rattle.registry.proofs.lent.survey.Symbol as surveys-def
 use Rattle.registry.proofs.lent.survey.Symbol.{name as #registry·lent·survey}
@@ -116,25 +117,7 @@ ptrRi = tyRef erased imm (pointee (R.the-row .written))
 abbrev slRi : Ty
 slRi = sliceTy ptrRi
 
-abbrev ptrBi : Ty
-ptrBi = tyRef erased imm (tyInt w8)
-
-abbrev slBi : Ty
-slBi = sliceTy ptrBi
-
-abbrev fileTy : Ty
-fileTy = tyArray (tyInt w8) 20483
-
-abbrev ptrA : Ty
-ptrA = tyRef erased mut fileTy
-
-abbrev ptrAi : Ty
-ptrAi = tyRef erased imm fileTy
-
--- what the callees say
-abbrev Asking : Head → ℕ → Survey → List ℕ → List ℕ → Asked → List ℕ → Type 0
-Asking h n s ar ss a zs = (a .size ≤ length zs) × ((rs : List Record) → length rs ≡ n → Surveyed h 0 rs (min n 33) s → Asks ss h rs ar (take (a .size) zs) a)
-
+-- what `place` says
 abbrev Placing : Head → Submission → Asked → Located → List ℕ → List ℕ → Entry → List ℕ → Type 0
 Placing h u a n ar xs e bs = (s : List ℕ) (rs : List Record) → Asks s h rs ar xs a → Finds (a .held) rs ar xs n → Places s u h rs ar e bs
 
@@ -154,20 +137,8 @@ stayed⁺ = (stay-ref (0 ∷ []) tt (plain (λ _. Hd.the-row)), (gave-slice (1 �
 goes⁺ : {M : Type 1} (𝓤 : URA M) (H : Heap 𝓤) (A : Atoms 𝓤) (W : Given 𝓤 H A) → AllGo 𝓤 H A W 4 (this.signature .params) (this.ended .kept) stayed⁺
 goes⁺ 𝓤 H A W = (goes-ref 𝓤 H A W 4 0 tt (plain (λ _. Hd.the-row)), (goes-gave-slice 𝓤 H A W 4 1 tt (plain (λ _. R.the-row)), (goes-gave-slice 𝓤 H A W 4 2 tt (plain (λ _. u8)), (goes-none-slice 𝓤 H A W 4 (3 ∷ []) tt (plain (λ _. u8)) kept, (goes-none 𝓤 H A W 4 (λ _. Su.the-row) kept (λ κs x f. refl), tt)))))
 
--- the contracts that the proof cites
+-- the contracts of `place` and `add`
 module _ {M : Type 1} (𝓤 : URA M) (H : Heap 𝓤) (A : Atoms 𝓤) (at-mem : Memory → SProp 𝓤) (run : Routine → Fun 𝓤) where
-  abbrev SurveyC : Contract 𝓤
-  SurveyC = tripleOf 𝓤 H A surveys.signature (surveys.spec 𝓤 H A at-mem run)
-
-  abbrev AskC : Contract 𝓤
-  AskC = tripleOf 𝓤 H A asks.signature (asks.spec 𝓤 H A at-mem run)
-
-  abbrev PartC : Contract 𝓤
-  PartC = tripleOf 𝓤 H A parts.signature (parts.spec 𝓤 H A at-mem run)
-
-  abbrev FindC : Contract 𝓤
-  FindC = tripleOf 𝓤 H A finds.signature (finds.spec 𝓤 H A at-mem run)
-
   abbrev PlaceC : Contract 𝓤
   PlaceC = tripleOf 𝓤 H A places.signature (places.spec 𝓤 H A at-mem run)
 
@@ -194,25 +165,12 @@ module _ {M : Type 1} (𝓤 : URA M) (H : Heap 𝓤) (A : Atoms 𝓤) (W : Given
   abbrev Post : Val → SProp 𝓤
   Post = walkOf 𝓤 H A this.ended stayed⁺ (this.clauses 𝓤 H A at-mem run) .post bound
 
-  -- the local file, where it is lent
-  abbrev xF : ℕ → GName → List ℕ → RefT (List ℕ)
-  xF l δ zs = record { ptr = (l, 0); name = δ; now = zs }
-
-  abbrev sF : ℕ → Val
-  sF l = sliceVal (l, 0) 20483
-
-  -- what is lent: the records and the area for reading, the file for writing and for reading
+  -- what is lent for reading: the records, the area and the first bytes of the file
   abbrev S₁ : ℕ → GName → Fml
   S₁ ν δ = ShrSlice (named 0) (ν ∷ []) R.the-row .own (x₁ δ) (s₁ ∷ [])
 
   abbrev S₂ : ℕ → GName → Fml
   S₂ ν δ = ShrSlice (named 0) (ν ∷ []) u8 .own (x₂ δ) (s₂ ∷ [])
-
-  abbrev MF : ℕ → ℕ → GName → List ℕ → Fml
-  MF l ν δ zs = MutSlice (named 2) (ν ∷ []) u8 .own (xF l δ zs) (sF l ∷ [])
-
-  abbrev SF : ℕ → ℕ → GName → List ℕ → Fml
-  SF l ν δ zs = ShrSlice (named 0) (ν ∷ []) u8 .own (xF l δ zs) (sF l ∷ [])
 
   abbrev SB : ℕ → RefT (List ℕ) → Val → Fml
   SB ν r w = ShrSlice (named 0) (ν ∷ []) u8 .own r (w ∷ [])
@@ -231,51 +189,15 @@ module _ {M : Type 1} (𝓤 : URA M) (H : Heap 𝓤) (A : Atoms 𝓤) (W : Given
       feqI ! (List Val) (vptr b₀ o₀ ∷ []) (vptr b₀ o₀ ∷ []) refl $ fjoin3 ! $ nothing ! $ owned ! Su.the-row (Is Su.the-row) (LL.makes Su.the-type Su′.the-plain 𝓤 H A) u _ gc $ fjoin ! $ move ! (3 ∷ 0 ∷ []) $ fjoin ! $ move ! (3 ∷ 0 ∷ []) $ fjoin ! $ move ! (2 ∷ 0 ∷ []) $ fjoin ! $ move ! (1 ∷ 0 ∷ []) $ fjoin ! $
       owned ! En′.the-row (Is En′.the-row) (EL.makes En′.the-type En″.the-plain 𝓤 H A) (r .answer) _ fits $ move ! (1 ∷ 0 ∷ []) $ done !
 
-  -- the file has room for a clean one, and fits the memory
-  file-room : (zs : List ℕ) → length zs ≡ 20483 → Room u8 (length zs)
-  file-room zs e = subst (Room u8) (sym e) (lit< tt, lit< tt)
-
-  file-fits : Fits w64 20483
-  file-fits = record { fits = lit< tt }
-
   -- what each callee's triple binds outside, and what it asks
-  abbrev to-survey : ℕ → GName → SurveyC 𝓤 H A at-mem run .Ghost
-  to-survey ν δ = (((ν ∷ [], tt), (fullShare, tt), tt, (x₁ δ, (h, (0, tt))), (s₁ ∷ [], (machH ∷ [], (vint w64 0 ∷ [], tt)))), tt)
+  abbrev toSurvey : Is Hd.the-row h (machH ∷ []) → ℕ → GName → SurveyC 𝓤 H A at-mem run .Ghost
+  toSurvey gh ν δ = to-survey 𝓤 H A W at-mem run (ν ∷ []) fullShare (x₁ δ) s₁ h machH gh
 
-  goes-survey : (ν : ℕ) (δ : GName) → Is Hd.the-row h (machH ∷ []) → ent 𝓤 (⋆ 𝓤 H A (‵ (flft (ν ∷ []) fullShare) ∷ ‵ (S₁ ν δ) ∷ [])) (SurveyC 𝓤 H A at-mem run .pre (to-survey ν δ))
-  goes-survey ν δ gh =
-      qed W (‵ (flft (ν ∷ []) fullShare) ∷ ‵ (S₁ ν δ) ∷ []) ∵ nothing ! $ move ! (1 ∷ 0 ∷ []) $ join ! $ nothing ! $ owned ! usize (Is usize) (uint-makes 𝓤 H A W w64) 0 _ (refl, lit< tt) $ fjoin ! $
-      owned ! Hd.the-row (Is Hd.the-row) (LL.makes Hd.the-type Hd′.the-plain 𝓤 H A) h _ gh $ fjoin ! $ move ! (2 ∷ 0 ∷ []) $ fjoin ! $ move ! (1 ∷ 0 ∷ []) $ join ! $ frame ! $ done !
+  abbrev toAsk : Is Hd.the-row h (machH ∷ []) → (s : Survey) (v : Val) → Is S.the-row s (v ∷ []) → ℕ → ℕ → GName → ℕ → GName → List ℕ → AskC 𝓤 H A at-mem run .Ghost
+  toAsk gh s v gs l ν₂ δ₂ ν₃ δ₃ zs = to-ask 𝓤 H A W at-mem run h machH gh ys (g₁ .0) (ν₂ ∷ []) fullShare (x₂ δ₂) s₂ κ₃ q₃ x₃ s₃ s v gs l ν₃ δ₃ zs
 
-  abbrev to-ask : ℕ → Survey → Val → ℕ → GName → ℕ → GName → List ℕ → AskC 𝓤 H A at-mem run .Ghost
-  to-ask l s v ν₂ δ₂ ν₃ δ₃ zs = (((ν₂ ∷ [], (κ₃, (ν₃ ∷ [], tt))), (fullShare, (q₃, (fullShare, tt))), tt, (h, (length ys, (s, (x₂ δ₂, (x₃, (xF l δ₃ zs, tt)))))), (machH ∷ [], (vint w64 (length ys) ∷ [], (v ∷ [], (s₂ ∷ [], (s₃ ∷ [], (sF l ∷ [], tt))))))), tt)
-
-  goes-ask : (l : ℕ) (s : Survey) (v : Val) (ν₂ : ℕ) (δ₂ : GName) (ν₃ : ℕ) (δ₃ : GName) (zs : List ℕ) → length zs ≡ 20483 → Is Hd.the-row h (machH ∷ []) → Is S.the-row s (v ∷ []) → Surveyed h 0 ys (min (length ys) 33) s
-      → ent 𝓤 (⋆ 𝓤 H A (‵ (flft (ν₂ ∷ []) fullShare) ∷ ‵ (flft κ₃ q₃) ∷ ‵ (flft (ν₃ ∷ []) fullShare) ∷ ‵ (S₂ ν₂ δ₂) ∷ ‵ O₃ ∷ ‵ (MF l ν₃ δ₃ zs) ∷ [])) (AskC 𝓤 H A at-mem run .pre (to-ask l s v ν₂ δ₂ ν₃ δ₃ zs))
-  goes-ask l s v ν₂ δ₂ ν₃ δ₃ zs long gh gs told =
-      qed W (‵ (flft (ν₂ ∷ []) fullShare) ∷ ‵ (flft κ₃ q₃) ∷ ‵ (flft (ν₃ ∷ []) fullShare) ∷ ‵ (S₂ ν₂ δ₂) ∷ ‵ O₃ ∷ ‵ (MF l ν₃ δ₃ zs) ∷ []) ∵ says ! (record { records = ys; many = refl; told = told }, enough) $
-      nothing ! $ move ! (3 ∷ 0 ∷ []) $ join ! $ move ! (2 ∷ 0 ∷ []) $ join ! $ move ! (1 ∷ 0 ∷ []) $ join ! $ frame ! $
-      nothing ! $ move ! (3 ∷ 0 ∷ []) $ fjoin ! $ move ! (2 ∷ 0 ∷ []) $ fjoin ! $ move ! (1 ∷ 0 ∷ []) $ fjoin ! $ owned ! S.the-row (Is S.the-row) (LL.makes S.the-type S′.the-plain 𝓤 H A) s _ gs $ fjoin ! $ owned ! usize (Is usize) (uint-makes 𝓤 H A W w64) (length ys) _ (refl, g₁ .0) $ fjoin ! $ owned ! Hd.the-row (Is Hd.the-row) (LL.makes Hd.the-type Hd′.the-plain 𝓤 H A) h _ gh $ fjoin ! $ done !
-    where
-      enough : longest ≤ length zs
-      enough = omega arith
-
-  abbrev to-part : ℕ → ℕ → ℕ → GName → List ℕ → PartC 𝓤 H A at-mem run .Ghost
-  to-part n l ν δ zs = (((ν ∷ [], tt), (fullShare, tt), tt, (xF l δ zs, (n, tt)), (sF l ∷ [], (vint w64 n ∷ [], tt))), tt)
-
-  goes-part : (n l ν : ℕ) (δ : GName) (zs : List ℕ) → n < 2 ^ 64 → n ≤ length zs → ent 𝓤 (⋆ 𝓤 H A (‵ (flft (ν ∷ []) fullShare) ∷ ‵ (SF l ν δ zs) ∷ [])) (PartC 𝓤 H A at-mem run .pre (to-part n l ν δ zs))
-  goes-part n l ν δ zs fits g =
-      qed W (‵ (flft (ν ∷ []) fullShare) ∷ ‵ (SF l ν δ zs) ∷ []) ∵ says ! g $ nothing ! $ move ! (1 ∷ 0 ∷ []) $ join ! $ frame ! $ nothing ! $ owned ! usize (Is usize) (uint-makes 𝓤 H A W w64) n _ (refl, fits) $ fjoin ! $ move ! (1 ∷ 0 ∷ []) $ fjoin ! $ done !
-
-  abbrev to-find : ℕ → ℕ → GName → ℕ → GName → ℕ → RefT (List ℕ) → Val → FindC 𝓤 H A at-mem run .Ghost
-  to-find n ν₁ δ₁ ν₂ δ₂ ν₄ r w = (((ν₁ ∷ [], (ν₂ ∷ [], (ν₄ ∷ [], tt))), (fullShare, (fullShare, (fullShare, tt))), tt, (x₁ δ₁, (n, (x₂ δ₂, (r, tt)))), (s₁ ∷ [], (vint w64 n ∷ [], (s₂ ∷ [], (w ∷ [], tt))))), tt)
-
-  goes-find : (n ν₁ : ℕ) (δ₁ : GName) (ν₂ : ℕ) (δ₂ : GName) (ν₄ : ℕ) (r : RefT (List ℕ)) (w : Val) → n < 2 ^ 64 → Placed n ys ar
-      → ent 𝓤 (⋆ 𝓤 H A (‵ (flft (ν₁ ∷ []) fullShare) ∷ ‵ (flft (ν₂ ∷ []) fullShare) ∷ ‵ (flft (ν₄ ∷ []) fullShare) ∷ ‵ (S₁ ν₁ δ₁) ∷ ‵ (S₂ ν₂ δ₂) ∷ ‵ (SB ν₄ r w) ∷ [])) (FindC 𝓤 H A at-mem run .pre (to-find n ν₁ δ₁ ν₂ δ₂ ν₄ r w))
-  goes-find n ν₁ δ₁ ν₂ δ₂ ν₄ r w fits p =
-      qed W (‵ (flft (ν₁ ∷ []) fullShare) ∷ ‵ (flft (ν₂ ∷ []) fullShare) ∷ ‵ (flft (ν₄ ∷ []) fullShare) ∷ ‵ (S₁ ν₁ δ₁) ∷ ‵ (S₂ ν₂ δ₂) ∷ ‵ (SB ν₄ r w) ∷ []) ∵ says ! p $
-      nothing ! $ move ! (3 ∷ 0 ∷ []) $ join ! $ move ! (2 ∷ 0 ∷ []) $ join ! $ move ! (1 ∷ 0 ∷ []) $ join ! $ frame ! $
-      nothing ! $ move ! (3 ∷ 0 ∷ []) $ fjoin ! $ move ! (2 ∷ 0 ∷ []) $ fjoin ! $ owned ! usize (Is usize) (uint-makes 𝓤 H A W w64) n _ (refl, fits) $ fjoin ! $ move ! (1 ∷ 0 ∷ []) $ fjoin ! $ done !
+  abbrev toFind : Asked → ℕ → GName → ℕ → GName → ℕ → RefT (List ℕ) → Val → FindC 𝓤 H A at-mem run .Ghost
+  toFind a ν₁ δ₁ ν₂ δ₂ ν₄ r w = to-find 𝓤 H A W at-mem run (ν₁ ∷ []) fullShare (x₁ δ₁) s₁ (ν₂ ∷ []) fullShare (x₂ δ₂) s₂ (ν₄ ∷ []) fullShare r w (a .held)
 
   abbrev to-place : Asked → Located → ℕ → RefT (List ℕ) → Val → PlaceC 𝓤 H A at-mem run .Ghost
   to-place a n ν r w = (((κ₂, (ν ∷ [], tt)), (q₂, (fullShare, tt)), tt, (h, (u, (a, (n, (x₂ γ₂, (r, tt)))))), (machH ∷ [], (vC ∷ [], (LL.vals As.the-type As′.the-laws a, (LL.vals Lo.the-type Lo′.the-laws n, (s₂ ∷ [], (w ∷ [], tt))))))), tt)
@@ -293,17 +215,7 @@ module _ {M : Type 1} (𝓤 : URA M) (H : Heap 𝓤) (A : Atoms 𝓤) (W : Given
   goes-add n e fits ge g =
       qed W (‵ (flft κ₁ q₁) ∷ ‵ O₁ ∷ []) ∵ says ! g $ nothing ! $ move ! (1 ∷ 0 ∷ []) $ join ! $ frame ! $ nothing ! $ owned ! R.the-row (Is R.the-row) (LL.makes R.the-type R′.the-plain 𝓤 H A) e _ ge $ fjoin ! $ owned ! usize (Is usize) (uint-makes 𝓤 H A W w64) n _ (refl, fits) $ fjoin ! $ move ! (1 ∷ 0 ∷ []) $ fjoin ! $ done !
 
-  -- what is known of the parts of what `ask` and `place` returned
-  module _ (a : Asked) {v : Val} (is : Is As.the-row a (v ∷ [])) where
-    asked-is : Is As.the-row a (LL.vals As.the-type As′.the-laws a)
-    asked-is = rw (LL.tells As.the-type As′.the-laws a _ is) at is
-
-    held-is : a .held < 2 ^ 64
-    held-is = LL.owed As.the-type As′.the-laws a _ is .1 .0 .1
-
-    size-is : a .size < 2 ^ 64
-    size-is = LL.owed As.the-type As′.the-laws a _ is .1 .1 .0 .1
-
+  -- what is known of the parts of what `place` returned
   module _ (e : Entry) {v : Val} (is : Is Ey.the-row e (v ∷ [])) where
     head-is : Is Hd.the-row (e .head) (LL.vals Hd.the-type Hd′.the-laws (e .head))
     head-is = LL.owed Ey.the-type Ey′.the-laws e _ is .0
@@ -325,13 +237,6 @@ module _ {M : Type 1} (𝓤 : URA M) (H : Heap 𝓤) (A : Atoms 𝓤) (W : Given
     -- the local of what is said beside the file stands behind all others
     abbrev rest : List (Item 𝓤)
     rest = ‵ (fat fullShare Su′.mir lc 0 vC) ∷ ‵ (fdies Su′.mir lc) ∷ []
-
-    -- a local that holds a value, and one that holds none
-    abbrev full : Ty → ℕ → Val → List (Item 𝓤) → List (Item 𝓤)
-    full τ l v Γ = ‵ (fat fullShare τ l 0 v) ∷ ‵ (fdies τ l) ∷ Γ
-
-    abbrev free : Ty → ℕ → List (Item 𝓤) → List (Item 𝓤)
-    free τ l Γ = ‵ (froom τ l 0) ∷ ‵ (fdies τ l) ∷ Γ
 
     -- the head's cell and its borrow, which is open
     abbrev opened : List (Item 𝓤) → List (Item 𝓤)
@@ -428,8 +333,8 @@ module _ {M : Type 1} (𝓤 : URA M) (H : Heap 𝓤) (A : Atoms 𝓤) (W : Given
         assigns ! (agg ! (and-then ! (load ! (from ! (stop !)) (look ! 16 refl)) (and-then ! (load ! (from ! (fld ! refl (stop !))) (look-in ! 55 (sub ! 1 refl (whole !)))) (no-more !)))) (from ! (stop !)) (init ! 14 refl (tt, (tt, (record { fits = g₂ .0 }, tt)))) $
         -- the bytes are copied; one copy goes to `find`
         move ! (72 ∷ []) $ use1 W (‵ (SB ν₄ r w₉) ⊛ ‵ (SB ν₄ r w₉)) (shr-slice-copy 𝓤 H A W (named 0) (ν₄ ∷ []) u8 .twice r (w₉ ∷ [])) $ split ! $
-        move ! (69 ∷ 0 ∷ []) $ join ! $ move ! (66 ∷ 0 ∷ []) $ join ! $ move ! (71 ∷ 0 ∷ []) $ join ! $ move ! (67 ∷ 0 ∷ []) $ join ! $ move ! (65 ∷ 0 ∷ []) $ join ! $ use1 W (raw (FindC 𝓤 H A at-mem run .pre (to-find (a .held) ν₁ δ₁ ν₂ δ₂ ν₄ r w₉))) (goes-find (a .held) ν₁ δ₁ ν₂ δ₂ ν₄ r w₉ (held-is a ia) (asked-placed aa)) $
-        calls-at ! fm (FindC 𝓤 H A at-mem run) known-finds (to-find (a .held) ν₁ δ₁ ν₂ δ₂ ν₄ r w₉) (and-then ! (load ! (from ! (stop !)) (look ! 20 refl)) (and-then ! (load ! (from ! (fld ! refl (stop !))) (look-in ! 48 (sub ! 1 refl (whole !)))) (and-then ! (load ! (from ! (stop !)) (look ! 16 refl)) (and-then ! (load ! (from ! (stop !)) (look ! 46 refl)) (no-more !))))) (λ w.
+        move ! (69 ∷ 0 ∷ []) $ join ! $ move ! (66 ∷ 0 ∷ []) $ join ! $ move ! (71 ∷ 0 ∷ []) $ join ! $ move ! (67 ∷ 0 ∷ []) $ join ! $ move ! (65 ∷ 0 ∷ []) $ join ! $ use1 W (raw (FindC 𝓤 H A at-mem run .pre (toFind a ν₁ δ₁ ν₂ δ₂ ν₄ r w₉))) (goes-find 𝓤 H A W at-mem run (ν₁ ∷ []) fullShare (x₁ δ₁) s₁ (ν₂ ∷ []) fullShare (x₂ δ₂) s₂ (ν₄ ∷ []) fullShare r w₉ (a .held) (held-is a ia) (asked-placed aa)) $
+        calls-at ! fm (FindC 𝓤 H A at-mem run) known-finds (toFind a ν₁ δ₁ ν₂ δ₂ ν₄ r w₉) (and-then ! (load ! (from ! (stop !)) (look ! 20 refl)) (and-then ! (load ! (from ! (fld ! refl (stop !))) (look-in ! 48 (sub ! 1 refl (whole !)))) (and-then ! (load ! (from ! (stop !)) (look ! 16 refl)) (and-then ! (load ! (from ! (stop !)) (look ! 46 refl)) (no-more !))))) (λ w.
         use1 W (later (some (λ (n : Located). ((‵ (flft (ν₁ ∷ []) fullShare) ⊛ ‵ (flft (ν₂ ∷ []) fullShare) ⊛ ‵ (flft (ν₄ ∷ []) fullShare) ⊛ ‵ ftrue) ⊛ ‵ (Lo.the-row .own n (w ∷ []))) ⊛ raw (ensured 𝓤 H A finds.ended (finds.clauses 𝓤 H A at-mem run) (ν₁ ∷ [], (ν₂ ∷ [], (ν₄ ∷ [], tt))) (x₁ δ₁, (a .held, (x₂ δ₂, (r, tt)))) tt n)))) (id⊢ 𝓤 _) $ await ! tt $ pick ! (λ n.
         split ! $ move ! (1 ∷ []) $ hears ! finds.ended (ν₁ ∷ [], (ν₂ ∷ [], (ν₄ ∷ [], tt))) (x₁ δ₁, (a .held, (x₂ δ₂, (r, tt)))) (Finds (a .held) ys ar (now r) n) (λ e. split ! $ move ! (1 ∷ []) $ facts ! Lo.the-row (Is Lo.the-row) (shows 𝓤 H A Lo.the-row) n (w ∷ []) (λ is. split ! $ move ! (1 ∷ []) $ split ! $ move ! (1 ∷ []) $ split ! $
         land ! (from ! (stop !)) (init ! 47 refl (LL.lawful Lo.the-type Lo′.the-laws 𝓤 H A W .typed n _ is .0)) $ rewrite ! 47 (λ (y : Val). ‵ (fat fullShare Lo′.mir l₁₀ 0 y)) (ap only (LL.tells Lo.the-type Lo′.the-laws n (w ∷ []) is)) refl $
@@ -449,8 +354,8 @@ module _ {M : Type 1} (𝓤 : URA M) (H : Heap 𝓤) (A : Atoms 𝓤) (W : Given
         assigns ! (agg ! (and-then ! (load ! (from ! (stop !)) (look ! 24 refl)) (and-then ! (big-lit ! file-fits) (no-more !)))) (from ! (stop !)) (init ! 22 refl (tt, (tt, (file-fits, tt)))) $
         -- the file is lent for reading
         lft-new ! tt (λ ν₄. move ! (64 ∷ []) $ use1 W (later (some (λ (δ : GName). ‵ (ShrSlice (named 0) (ν₄ ∷ []) u8 .own (xF l₇ δ zs) (sliceVal (l₇, 0) (length zs) ∷ [])) ⊛ ‵ (Lent u8 (ν₄ ∷ []) l₇ 0 zs)))) (lends-row u8 (ν₄ ∷ []) l₇ 0 𝓤 H A W (named 0) zs (file-room zs long)) $ await ! tt $ pick ! (λ δ₄. split ! $ rewrite ! 0 (λ (m : ℕ). ‵ (ShrSlice (named 0) (ν₄ ∷ []) u8 .own (xF l₇ δ₄ zs) (sliceVal (l₇, 0) m ∷ []))) long refl $
-        move ! (2 ∷ 0 ∷ []) $ join ! $ use1 W (raw (PartC 𝓤 H A at-mem run .pre (to-part (a .size) l₇ ν₄ δ₄ zs))) (goes-part (a .size) l₇ ν₄ δ₄ zs (size-is a ia) small) $
-        calls-at ! fm (PartC 𝓤 H A at-mem run) known-parts (to-part (a .size) l₇ ν₄ δ₄ zs) (and-then ! (load ! (from ! (stop !)) (look ! 24 refl)) (and-then ! (load ! (from ! (fld ! refl (stop !))) (look-in ! 48 (sub ! 2 refl (whole !)))) (no-more !))) (λ w.
+        move ! (2 ∷ 0 ∷ []) $ join ! $ use1 W (raw (PartC 𝓤 H A at-mem run .pre (to-part 𝓤 H A W at-mem run (a .size) l₇ ν₄ δ₄ zs))) (goes-part 𝓤 H A W at-mem run (a .size) l₇ ν₄ δ₄ zs (size-is a ia) small) $
+        calls-at ! fm (PartC 𝓤 H A at-mem run) known-parts (to-part 𝓤 H A W at-mem run (a .size) l₇ ν₄ δ₄ zs) (and-then ! (load ! (from ! (stop !)) (look ! 24 refl)) (and-then ! (load ! (from ! (fld ! refl (stop !))) (look-in ! 48 (sub ! 2 refl (whole !)))) (no-more !))) (λ w.
         use1 W (later (some (λ (r : RefT (List ℕ)). ((‵ (flft (ν₄ ∷ []) fullShare) ⊛ ‵ ftrue) ⊛ ‵ (SB ν₄ r w)) ⊛ raw (ensured 𝓤 H A parts.ended (parts.clauses 𝓤 H A at-mem run) (ν₄ ∷ [], tt) (xF l₇ δ₄ zs, (a .size, tt)) tt r)))) (id⊢ 𝓤 _) $ await ! tt $ pick ! (λ r.
         split ! $ move ! (1 ∷ []) $ hears ! parts.ended (ν₄ ∷ [], tt) (xF l₇ δ₄ zs, (a .size, tt)) (now r ≡ take (a .size) zs) (λ e. split ! $ move ! (1 ∷ []) $ peeks ! (ShrSlice (named 0) (ν₄ ∷ []) u8) (Is (ShrSlice (named 0) (ν₄ ∷ []) u8)) (shows 𝓤 H A (ShrSlice (named 0) (ν₄ ∷ []) u8)) r (w ∷ []) (λ is. move ! (1 ∷ []) $ split ! $
         land ! (from ! (stop !)) (init ! 48 refl (shr-slice-lawful 𝓤 H A W (named 0) (ν₄ ∷ []) u8 .typed r _ is .0)) $
@@ -474,8 +379,8 @@ module _ {M : Type 1} (𝓤 : URA M) (H : Heap 𝓤) (A : Atoms 𝓤) (W : Given
         -- the area and the sheet are copied; one copy of each goes to `ask`, with the file
         move ! (3 ∷ []) $ use1 W (‵ (S₂ ν₂ δ₂) ⊛ ‵ (S₂ ν₂ δ₂)) (shr-slice-copy 𝓤 H A W (named 0) (ν₂ ∷ []) u8 .twice (x₂ δ₂) (s₂ ∷ [])) $ split ! $
         move ! (73 ∷ []) $ use1 W (‵ O₃ ⊛ ‵ O₃) (shr-slice-copy 𝓤 H A W (named 3) κ₃ u8 .twice x₃ (s₃ ∷ [])) $ split ! $
-        move ! (0 ∷ 4 ∷ []) $ join ! $ move ! (2 ∷ 0 ∷ []) $ join ! $ move ! (4 ∷ 0 ∷ []) $ join ! $ move ! (72 ∷ 0 ∷ []) $ join ! $ move ! (5 ∷ 0 ∷ []) $ join ! $ use1 W (raw (AskC 𝓤 H A at-mem run .pre (to-ask l₇ s v₆ ν₂ δ₂ ν₃ δ₃ xs))) (goes-ask l₇ s v₆ ν₂ δ₂ ν₃ δ₃ xs long gh gs told) $
-        calls-at ! fm (AskC 𝓤 H A at-mem run) known-asks (to-ask l₇ s v₆ ν₂ δ₂ ν₃ δ₃ xs) (and-then ! (load ! (from ! (stop !)) (look ! 56 refl)) (and-then ! (load ! (from ! (stop !)) (look ! 39 refl)) (and-then ! (load ! (from ! (stop !)) (look ! 54 refl)) (and-then ! (load ! (from ! (stop !)) (look ! 35 refl)) (and-then ! (load ! (from ! (stop !)) (look ! 58 refl)) (and-then ! (load ! (from ! (stop !)) (look ! 31 refl)) (no-more !))))))) (λ w.
+        move ! (0 ∷ 4 ∷ []) $ join ! $ move ! (2 ∷ 0 ∷ []) $ join ! $ move ! (4 ∷ 0 ∷ []) $ join ! $ move ! (72 ∷ 0 ∷ []) $ join ! $ move ! (5 ∷ 0 ∷ []) $ join ! $ use1 W (raw (AskC 𝓤 H A at-mem run .pre (toAsk gh s v₆ gs l₇ ν₂ δ₂ ν₃ δ₃ xs))) (goes-ask 𝓤 H A W at-mem run h machH gh ys (g₁ .0) (ν₂ ∷ []) fullShare (x₂ δ₂) s₂ κ₃ q₃ x₃ s₃ s v₆ gs l₇ ν₃ δ₃ xs long told) $
+        calls-at ! fm (AskC 𝓤 H A at-mem run) known-asks (toAsk gh s v₆ gs l₇ ν₂ δ₂ ν₃ δ₃ xs) (and-then ! (load ! (from ! (stop !)) (look ! 56 refl)) (and-then ! (load ! (from ! (stop !)) (look ! 39 refl)) (and-then ! (load ! (from ! (stop !)) (look ! 54 refl)) (and-then ! (load ! (from ! (stop !)) (look ! 35 refl)) (and-then ! (load ! (from ! (stop !)) (look ! 58 refl)) (and-then ! (load ! (from ! (stop !)) (look ! 31 refl)) (no-more !))))))) (λ w.
         use1 W (later (some (λ (a : Asked). ((‵ (flft (ν₂ ∷ []) fullShare) ⊛ ‵ (flft κ₃ q₃) ⊛ ‵ (flft (ν₃ ∷ []) fullShare) ⊛ ‵ ftrue) ⊛ ‵ (As.the-row .own a (w ∷ []))) ⊛ raw (ensured 𝓤 H A asks.ended (asks.clauses 𝓤 H A at-mem run) (ν₂ ∷ [], (κ₃, (ν₃ ∷ [], tt))) (h, (length ys, (s, (x₂ δ₂, (x₃, (xF l₇ δ₃ xs, tt)))))) tt a)))) (id⊢ 𝓤 _) $ await ! tt $ pick ! (λ a.
         split ! $ move ! (1 ∷ []) $ use1 W (some (λ (zs : Unit {0} × (Unit {0} × (Unit {0} × (Unit {0} × (Unit {0} × (List ℕ × Unit {0})))))). ‵ (lasts asks.ended (ν₂ ∷ [], (κ₃, (ν₃ ∷ [], tt))) (h, (length ys, (s, (x₂ δ₂, (x₃, (xF l₇ δ₃ xs, tt)))))) zs) ⊛ raw (fact 𝓤 (Asking h (length ys) s ar ss a (zs .1 .1 .1 .1 .1 .0))))) (id⊢ 𝓤 _) $ pick ! (λ zs.
         split ! $ move ! (1 ∷ []) $ heard ! (Asking h (length ys) s ar ss a (zs .1 .1 .1 .1 .1 .0)) (λ e. fsplit ! $ drop ! $ fsplit ! $ drop ! $ fsplit ! $ drop ! $ fsplit ! $ drop ! $ fsplit ! $ drop ! $ fsplit ! $ fsplit ! $ move ! (1 ∷ []) $ feqL ! (λ len.
@@ -507,8 +412,8 @@ module _ {M : Type 1} (𝓤 : URA M) (H : Heap 𝓤) (A : Atoms 𝓤) (W : Given
         -- the records are lent for reading; a copy goes to `survey`
         lft-new ! tt (λ ν₁. move ! (66 ∷ 67 ∷ []) $ use2 W (later (some (λ (δ : GName). ‵ (S₁ ν₁ δ) ⊛ ‵ (K₁ ν₁)))) (lends-shared R.the-row (ν₁ ∷ []) b₁ o₁ κ₁ q₁ γ₁ 𝓤 H A W (named 1) (named 0) ys) $ await ! tt $ pick ! (λ δ₁. split ! $
         use1 W (‵ (S₁ ν₁ δ₁) ⊛ ‵ (S₁ ν₁ δ₁)) (shr-slice-copy 𝓤 H A W (named 0) (ν₁ ∷ []) R.the-row .twice (x₁ δ₁) (s₁ ∷ [])) $ split ! $
-        move ! (3 ∷ 0 ∷ []) $ join ! $ use1 W (raw (SurveyC 𝓤 H A at-mem run .pre (to-survey ν₁ δ₁))) (goes-survey ν₁ δ₁ g) $
-        calls-at ! fm (SurveyC 𝓤 H A at-mem run) known-surveys (to-survey ν₁ δ₁) (and-then ! (load ! (from ! (stop !)) (look ! 40 refl)) (and-then ! (load ! (from ! (stop !)) (look ! 56 refl)) (and-then ! (lit ! tt) (no-more !)))) (λ w.
+        move ! (3 ∷ 0 ∷ []) $ join ! $ use1 W (raw (SurveyC 𝓤 H A at-mem run .pre (toSurvey g ν₁ δ₁))) (goes-survey 𝓤 H A W at-mem run (ν₁ ∷ []) fullShare (x₁ δ₁) s₁ h machH g) $
+        calls-at ! fm (SurveyC 𝓤 H A at-mem run) known-surveys (toSurvey g ν₁ δ₁) (and-then ! (load ! (from ! (stop !)) (look ! 40 refl)) (and-then ! (load ! (from ! (stop !)) (look ! 56 refl)) (and-then ! (lit ! tt) (no-more !)))) (λ w.
         use1 W (later (some (λ (s : Survey). ((‵ (flft (ν₁ ∷ []) fullShare) ⊛ ‵ ftrue) ⊛ ‵ (S.the-row .own s (w ∷ []))) ⊛ raw (ensured 𝓤 H A surveys.ended (surveys.clauses 𝓤 H A at-mem run) (ν₁ ∷ [], tt) (x₁ δ₁, (h, (0, tt))) tt s)))) (id⊢ 𝓤 _) $ await ! tt $ pick ! (λ s.
         split ! $ move ! (1 ∷ []) $ hears ! surveys.ended (ν₁ ∷ [], tt) (x₁ δ₁, (h, (0, tt))) (Surveyed h 0 ys (min (length ys) 33) s) (λ e. split ! $ move ! (1 ∷ []) $ facts ! S.the-row (Is S.the-row) (shows 𝓤 H A S.the-row) s (w ∷ []) (λ is. split ! $
         land ! (from ! (stop !)) (init ! 55 refl (LL.lawful S.the-type S′.the-laws 𝓤 H A W .typed s _ is .0)) $
