@@ -2,11 +2,12 @@
 // those of `registry`, which answer by an enum; here the answer is a number, as in the other exported functions.
 ghost use mathlib.Core.Path.{_≡_};
 ghost use Rattle.records.specs.Book.{recordAt};
-ghost use Rattle.exports.specs.Registered.{TellsMade, TellsEntered, startOf, ExportsMaking, ExportsEntry, ExportsCommit, ExportsBody};
+ghost use Rattle.exports.specs.Registered.{TellsMade, TellsEntered, TellsReply, startOf, ExportsMaking, ExportsEntry, ExportsCommit, ExportsBody};
 use records::book::Entered;
 use records::book::Head;
 use records::book::Made;
 use records::book::Record;
+use records::book::Reply;
 use records::entry::any_number;
 use records::entry::this_number;
 use registry::lent::body;
@@ -34,6 +35,21 @@ fn tell_entered(answer: Entered, number: &mut usize) -> u32
             0
         }
         Entered::Refused(x) => number_of(x),
+    }
+}
+
+// The number of an answer to a question; the number that an entry would get and the length of the clean file are left behind
+// the references.
+fn tell_reply(answer: Reply, number: &mut usize, size: &mut usize) -> u32
+    ensures { λ r. ⌜ TellsReply answer (now (number .entry), now (size .entry)) (now (number .exit), now (size .exit)) r ⌝ }
+{
+    match answer {
+        Reply::Number(n, bytes) => {
+            *number = n;
+            *size = bytes;
+            0
+        }
+        Reply::Refused(x) => number_of(x),
     }
 }
 
