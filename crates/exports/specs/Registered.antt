@@ -4,7 +4,7 @@ use mathlib.Core.List.{List, []}
 use mathlib.Core.Logic.{_⊎_}
 use mathlib.Core.Path.{_≡_}
 use lib.ListN.{length, take, drop}
-use Rattle.records.specs.Answers.{madeOf, Makes, numberOf, Enters, Commits, replyOf, HandsBody}
+use Rattle.records.specs.Answers.{madeOf, Makes, numberOf, Enters, replyOf, Questions, Commits, HandsBody}
 use Rattle.records.specs.Book.{recordAt}
 use Rattle.records.specs.declared.book.Entered.{Entered}
 use Rattle.records.specs.declared.book.Head.{Head}
@@ -28,6 +28,9 @@ ExportsMaking stock h rs area h′ rs′ area′ r = Exported (Makes stock h rs 
 
 abbrev pub ExportsEntry : List ℕ → Head → List Record → List ℕ → Head → List Record → List ℕ → ℕ → ℕ → ℕ → Type 0
 ExportsEntry s h rs area h′ rs′ area′ before after r = Exported (Enters s h rs area h′ rs′ area′) numberOf (λ v after. after ≡ v) before after r
+
+abbrev pub ExportsQuestion : List ℕ → Head → List Record → List ℕ → List ℕ → List ℕ → ℕ × ℕ → ℕ × ℕ → ℕ → Type 0
+ExportsQuestion s h rs area out out′ before after r = Exported (Questions s h rs area out out′) replyOf (λ v after. after ≡ v) before after r
 
 abbrev pub ExportsCommit : List ℕ → ℕ → Head → List Record → List ℕ → Head → List Record → List ℕ → ℕ → ℕ → ℕ → Type 0
 ExportsCommit s m h rs area h′ rs′ area′ before after r = Exported (Commits s m h rs area h′ rs′ area′) numberOf (λ v after. after ≡ v) before after r
