@@ -2,14 +2,18 @@
 // those of `registry`, which answer by an enum; here the answer is a number, as in the other exported functions.
 ghost use mathlib.Core.Path.{_≡_};
 ghost use Rattle.records.specs.Book.{recordAt};
-ghost use Rattle.exports.specs.Registered.{TellsMade, TellsEntered, startOf, ExportsMaking, ExportsEntry, ExportsBody};
+ghost use Rattle.exports.specs.Registered.{TellsMade, TellsEntered, TellsReply, startOf, ExportsMaking, ExportsEntry, ExportsQuestion, ExportsCommit, ExportsBody};
 use records::book::Entered;
 use records::book::Head;
 use records::book::Made;
 use records::book::Record;
+use records::book::Reply;
+use records::entry::any_number;
+use records::entry::this_number;
 use registry::lent::body;
 use registry::lent::enter;
 use registry::lent::make;
+use registry::lent::question;
 use trees::refusal::number_of;
 
 // The number of an answer to making.
@@ -32,6 +36,21 @@ fn tell_entered(answer: Entered, number: &mut usize) -> u32
             0
         }
         Entered::Refused(x) => number_of(x),
+    }
+}
+
+// The number of an answer to a question; the number that an entry would get and the length of the clean file are left behind
+// the references.
+fn tell_reply(answer: Reply, number: &mut usize, size: &mut usize) -> u32
+    ensures { λ r. ⌜ TellsReply answer (now (number .entry), now (size .entry)) (now (number .exit), now (size .exit)) r ⌝ }
+{
+    match answer {
+        Reply::Number(n, bytes) => {
+            *number = n;
+            *size = bytes;
+            0
+        }
+        Reply::Refused(x) => number_of(x),
     }
 }
 
@@ -86,7 +105,44 @@ pub extern "C" fn caplune_enter(
 ) -> u32
     ensures { λ r. ⌜ ExportsEntry (now (file .entry)) (now (head .entry)) (now (records .entry)) (now (area .entry)) (now (head .exit)) (now (records .exit)) (now (area .exit)) (now (number .entry)) (now (number .exit)) r ⌝ }
 {
-    let answer = enter(head, records, area, file);
+    let u = any_number();
+    let answer = enter(head, records, area, file, u);
+    tell_entered(answer, number)
+}
+
+// A question: the number that an entry of the transducer of a file would get, and how long its clean file is, which is
+// written to the start of `out`. The registry stays as it is.
+#[no_mangle]
+pub extern "C" fn caplune_question(
+    head: &Head,
+    records: &[Record],
+    area: &[u8],
+    file: &[u8],
+    out: &mut [u8],
+    number: &mut usize,
+    size: &mut usize,
+) -> u32
+    ensures { λ r. ⌜ ExportsQuestion (now (file .entry)) (now (head .entry)) (now (records .entry)) (now (area .entry)) (now (out .entry)) (now (out .exit)) (now (number .entry), now (size .entry)) (now (number .exit), now (size .exit)) r ⌝ }
+{
+    let answer = question(*head, records, area, file, out);
+    tell_reply(answer, number, size)
+}
+
+// A commit of the transducer of a file with the number that a question answered; refused by 13 where an entry would get
+// another.
+#[no_mangle]
+pub extern "C" fn caplune_commit(
+    head: &mut Head,
+    records: &mut [Record],
+    area: &mut [u8],
+    file: &[u8],
+    claim: usize,
+    number: &mut usize,
+) -> u32
+    ensures { λ r. ⌜ ExportsCommit (now (file .entry)) claim (now (head .entry)) (now (records .entry)) (now (area .entry)) (now (head .exit)) (now (records .exit)) (now (area .exit)) (now (number .entry)) (now (number .exit)) r ⌝ }
+{
+    let u = this_number(claim);
+    let answer = enter(head, records, area, file, u);
     tell_entered(answer, number)
 }
 
