@@ -54,10 +54,6 @@ pub record Committing : Type 0 where
 abbrev pub From : Book → List (Call × Option ℕ) → Book → Type 0
 From b log b′ = History (λ c. c ≡ b) Calling log b′
 
--- of these calls no entry and no commit is accepted
-abbrev pub Quiet : List (Call × Option ℕ) → Type 0
-Quiet log = (c : Call) (n : ℕ) → List·Memᴰ (c, some n) log → entersFile c ≡ nothing
-
 pub record Listing : Type 1 where
   -- Lists of calls begin with an accepted making, or with any book,
   pub begins : {stock : List ℕ} (b b′ : Book) (r : Made) → Makes stock (b .head) (b .records) (b .area) (b′ .head) (b′ .records) (b′ .area) r → madeOf r ≡ accepted tt → Calls stock [] b′
@@ -67,8 +63,10 @@ pub record Listing : Type 1 where
   pub commits : {First : Book → Type 0} {s : List ℕ} {m : ℕ} {log : List (Call × Option ℕ)} (b b′ : Book) (r : Entered) → History First Calling log b → Commits s m (b .head) (b .records) (b .area) (b′ .head) (b′ .records) (b′ .area) r → History First Calling ((commit s m, answerOf r) ∷ log) b′
   -- and with any question, with the book untouched.
   pub asks : {First : Book → Type 0} {s before after : List ℕ} {log : List (Call × Option ℕ)} (b : Book) (q : Reply) → History First Calling log b → Questions s (b .head) (b .records) (b .area) before after q → History First Calling ((question s, foretold q) ∷ log) b
-  -- With no making, entry or commit in between (one that is refused does no harm), and nobody else writing the book, a commit of the same sheet with the number that a question answered is accepted with it.
-  pub keeps : {s before after : List ℕ} {n size : ℕ} {between : List (Call × Option ℕ)} (b b₁ b₂ : Book) (q : Reply) (r : Entered) → Questions s (b .head) (b .records) (b .area) before after q → replyOf q ≡ accepted (n, size) → From b between b₁ → Quiet between → Commits s n (b₁ .head) (b₁ .records) (b₁ .area) (b₂ .head) (b₂ .records) (b₂ .area) r → numberOf r ≡ accepted n
+  -- With no making, entry or commit in between (questions, and calls that are refused, do no harm), and nobody else writing the book, a commit of the same sheet with the number that a question answered is accepted with it. Its areas are those of the book, long enough when the question was answered.
+  pub keeps : {s before after : List ℕ} {n size : ℕ} {between : List (Call × Option ℕ)} (b b₁ b₂ : Book) (q : Reply) (r : Entered) → Questions s (b .head) (b .records) (b .area) before after q → replyOf q ≡ accepted (n, size)
+      → From b between b₁ → ((c : Call) (m : ℕ) → List·Memᴰ (c, some m) between → entersFile c ≡ nothing)
+      → Commits s n (b₁ .head) (b₁ .records) (b₁ .area) (b₂ .head) (b₂ .records) (b₂ .area) r → numberOf r ≡ accepted n
   -- Demand 3's list may now hold commits and questions too (a list of entries is one of calls): any two accepted entries or commits in it get one number exactly when their sheets sew alike.
   pub entries : {stock : List ℕ} {log : List (List ℕ × Option ℕ)} {b : Book} → Entries stock log b → Calls stock (map (λ e. (entry (e .0), e .1)) log) b
   pub exact : {stock : List ℕ} {log : List (Call × Option ℕ)} {b : Book} → Calls stock log b → (c c′ : Call) (s s′ : List ℕ) (n n′ : ℕ) → entersFile c ≡ some s → entersFile c′ ≡ some s′ → List·Memᴰ (c, some n) log → List·Memᴰ (c′, some n′) log → SewAlike stock s s′ ↔ (n ≡ n′)
