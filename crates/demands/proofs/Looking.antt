@@ -4,14 +4,14 @@ use Prim.Native.Nat.{ℕ, _+_, _≤_, _<_}
 use native.Mathlib.Omega.{arith}
 use mathlib.Core.List.{List}
 use mathlib.Core.Logic.{_≢_, _↔_, inl, inr, ⊎-elim}
-use mathlib.Core.Option.{Option, some}
+use mathlib.Core.Option.{some}
 use mathlib.Core.Path.{_≡_, refl, sym, ap, subst, _∙_}
 use lib.ListN.{length, take, drop}
 use lib.Seq.{length-sets, sets-eq, drop-at}
 use Rattle.theory.specs.Registry.{begun, entered}
 use Rattle.theory.proofs.Terms.{conflict}
 use Rattle.trees.specs.Alphabets.{inputs, outputs}
-use Rattle.trees.specs.Refusal.{refusalNumber, Outcome, accepted, refused, done, Holds}
+use Rattle.trees.specs.Refusal.{refusalNumber, accepted, refused, done, Holds}
 use Rattle.trees.specs.declared.refusal.Refusal.{Refusal}
 use Rattle.trees.specs.declared.refusal.Refusal.the-variants.{OtherNumber}
 use Rattle.trees.proofs.Judging.{accepted-holds, must-accept, must-refuse}
@@ -37,7 +37,7 @@ use Rattle.registry.proofs.Questions.{commit-enters, entry-commits, other-refus
 use Rattle.registry.proofs.Standing.{told-number}
 use Rattle.demands.specs.First.{FirstFailing}
 use Rattle.demands.specs.Third.{Wrote}
-use Rattle.demands.specs.Looking.{Looking, Committing, Listing, Request6}
+use Rattle.demands.specs.Looking.{Listing, Request6}
 use Rattle.demands.proofs.Counts.{made-with}
 use Rattle.demands.proofs.First.{demand-1}
 

@@ -1,21 +1,19 @@
 -- Questions and commits: a list of calls is a list of entries, and a commit after a question is accepted.
 -- Assumes nothing.
 use Prim.Native.Nat.{ℕ, _≤_}
-use native.Mathlib.Omega.{arith}
 use mathlib.Core.List.{List, [], _∷_, map, List·Memᴰ, List·Memᴰ·head, List·Memᴰ·tail, List·Memᴰ·not-nil, List·Memᴰ·cases-cons}
-use mathlib.Core.Logic.{_↔_, _≢_, inl, inr, ⊎-elim}
+use mathlib.Core.Logic.{_≢_, inl, inr, ⊎-elim}
 use mathlib.Core.Option.{some, Option, none as nothing}
 use mathlib.Core.Path.{_≡_, refl, sym, ap, ap₂, subst, _∙_}
 use lib.ListN.{length}
 use lib.Seq.{sets}
 use Rattle.theory.specs.Registry.{History, begun, entered}
 use Rattle.theory.proofs.Terms.{conflict}
-use Rattle.trees.specs.Refusal.{Outcome, accepted, Checks, done, check, Holds, Judged}
+use Rattle.trees.specs.Refusal.{Outcome, Checks, done, check, Holds, Judged}
 use Rattle.trees.specs.declared.refusal.Refusal.{Refusal}
 use Rattle.trees.specs.declared.refusal.Refusal.the-variants.{OtherNumber}
 use Rattle.formats.specs.Sheet.{longest}
 use Rattle.trees.proofs.Judging.{refuse, pass, accept, accepted-holds, refused-fails, behind, refused-early, must-accept}
-use Rattle.canonical.specs.Answers.{SewAlike}
 use Rattle.records.specs.Answers.{Gets, Gives, entryCheck, Enters, Would, Questions, Commits}
 use Rattle.records.specs.declared.book.Entered.{Entered}
 use Rattle.records.specs.declared.book.Entered.the-variants as entering
@@ -24,14 +22,14 @@ use Rattle.records.specs.declared.book.Record.{Record}
 use Rattle.records.specs.declared.book.Reply.{Reply}
 use Rattle.records.specs.declared.book.Reply.the-variants as replying
 use Rattle.records.proofs.Entering.{clean-unique, gets-unique}
-use Rattle.registry.specs.Calls.{Book, answerOf, MadeWith, EntersFile, Entries}
-use Rattle.registry.specs.Questions.{Call, entry, commit, question, foretold, CommitsFile, AsksFile, Calling, Calls, entersFile, accepteds, Idle, Commitment, CallsOrderly}
-use Rattle.registry.proofs.Keeping.{Unchanged, answered-by}
+use Rattle.registry.specs.Calls.{Book, answerOf, EntersFile, Entries}
+use Rattle.registry.specs.Questions.{Call, entry, commit, question, foretold, CommitsFile, Calling, Calls, entersFile, accepteds, Idle, Commitment, CallsOrderly}
+use Rattle.registry.proofs.Keeping.{answered-by}
 use Rattle.registry.proofs.Laws.{registry-laws}
 use Rattle.registry.proofs.Standing.{told}
 
 -- ---- books
-same-book : {b b′ : Book} → b′ .head ≡ b .head → b′ .records ≡ b .records → b′ .area ≡ b .area → b′ ≡ b
+pub same-book : {b b′ : Book} → b′ .head ≡ b .head → b′ .records ≡ b .records → b′ .area ≡ b .area → b′ ≡ b
 same-book {b} {b′} e f g = ap₂ (λ (h : Head) (r : List Record). record { head = h; records = r; area = b′ .area }) e f ∙ ap (λ l. record { head = b .head; records = b .records; area = l }) g
 
 -- a refused entry and a refused commit leave the book
