@@ -1,10 +1,9 @@
 -- Request F-3 is met: the laws of `registry` over lists of entries, and what the promises say of one call.
 -- Assumes nothing.
-use Prim.Native.Nat.{ℕ, _+_, _<_}
+use Prim.Native.Nat.{ℕ, _+_}
 use native.Mathlib.Omega.{arith}
-use mathlib.Core.List.{List, [], _∷_}
-use mathlib.Core.Logic.{_⊎_, inl, inr, ⊎-elim, _≢_}
-use mathlib.Core.Option.{Option}
+use mathlib.Core.List.{List, []}
+use mathlib.Core.Logic.{inl, inr, ⊎-elim, _≢_}
 use mathlib.Core.Path.{_≡_, refl, ap}
 use Rattle.theory.specs.Registry.{begun, entered}
 use Rattle.theory.proofs.Terms.{conflict}
@@ -20,7 +19,7 @@ use Rattle.records.specs.declared.book.Head.{Head}
 use Rattle.records.specs.declared.book.Made.{Made}
 use Rattle.records.specs.declared.book.Made.the-variants as making
 use Rattle.records.specs.declared.book.Record.{Record}
-use Rattle.registry.specs.Calls.{Book, Entries}
+use Rattle.registry.specs.Calls.{Book, MadeWith}
 use Rattle.registry.proofs.Keeping.{gives-counts}
 use Rattle.registry.proofs.Laws.{registry-laws}
 use Rattle.demands.specs.Counts.{Miscounted, Request3}
@@ -32,9 +31,9 @@ no-registry (inr (inl f)) C = f (C .counts .stock)
 no-registry (inr (inr (i, (g, l, f)))) C = f (ap (λ w. w .count) (C .lies .unused .none i g l))
 
 -- ---- lists of calls are made of calls
-first : {stock : List ℕ} (b b′ : Book) (r : Made) → Makes stock (b .head) (b .records) (b .area) (b′ .head) (b′ .records) (b′ .area) r → madeOf r ≡ accepted tt → Entries stock [] b′
-first b b′ making.Empty J e = begun (record { before = b; call = J })
-first b b′ (making.Refused q) J e = conflict (cc)
+pub made-with : {stock : List ℕ} (b b′ : Book) (r : Made) → Makes stock (b .head) (b .records) (b .area) (b′ .head) (b′ .records) (b′ .area) r → madeOf r ≡ accepted tt → MadeWith stock b′
+made-with b b′ making.Empty J e = record { before = b; call = J }
+made-with b b′ (making.Refused q) J e = conflict (cc)
 
 -- ---- one call
 module _ {s area area′ : List ℕ} {h h′ : Head} {rs rs′ : List Record} where
@@ -58,7 +57,7 @@ handed n B m = ⊎-elim (λ w. absurd (no-registry m (w .0 .0))) (λ w. w .1) B
 pub counts-of-entries : Request3
 counts-of-entries = record {
   each = λ E. registry-laws E .counts;
-  begins = first;
+  begins = λ b b′ r J e. begun (made-with b b′ r J e);
   goes-on = λ b b′ r E J. entered E (record { answer = r; call = J; told = refl });
   none = λ E. registry-laws E .none;
   raises = raised;

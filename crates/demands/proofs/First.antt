@@ -68,5 +68,7 @@ demand-1 = record {
   xml-read = λ stock s before after r J. answered J;
   making = λ stock area area′ h h′ rs rs′ r J. answered J;
   entry = λ s area area′ h h′ rs rs′ r J. answered J;
+  question = λ s area before after h rs r J. answered J;
+  commit = λ s area area′ m h h′ rs rs′ r J. answered J;
   body-of = λ area part h rs n H f. none-handed H (λ w. f (w .0));
 }

@@ -16,7 +16,7 @@ use Rattle.witness.specs.Difference.{treeArea, addressArea}
 use Rattle.comparison.specs.Answers.{Found, Differ, Compares}
 use Rattle.comparison.specs.declared.compare.Comparison.{Comparison}
 use Rattle.comparison.proofs.Laws.{compare-exact}
-use Rattle.registry.proofs.Laws.{registry-laws}
+use Rattle.registry.proofs.Questions.{calls-orderly}
 use Rattle.demands.specs.Third.{Accepted, Wrote, SameExactly, AlikeExactly, Judges, Again, Demand3}
 
 -- ---- cleaning
@@ -79,7 +79,7 @@ demand-3 = record {
   cleaning = same;
   comparing = verdict;
   again = clean-sheet;
-  entries = λ E. registry-laws E .exact;
+  calls = λ C. calls-orderly C .exact;
 }
 
 -- ---- of the functions themselves

@@ -33,12 +33,13 @@ use Rattle.trees.specs.Code.{code}
 use Rattle.witness.specs.Difference.{treeArea, addressArea}
 use Rattle.comparison.specs.Answers.{pairCheck, comparedAs, Compares, HandsShorter}
 use Rattle.comparison.specs.declared.compare.Comparison.{Comparison}
-use Rattle.records.specs.Answers.{Kept, madeOf, Makes, numberOf, CleanFile, HasPlace, Enters, HandsBody}
+use Rattle.records.specs.Answers.{Kept, madeOf, Makes, numberOf, CleanFile, HasPlace, entryCheck, Enters, replyOf, Questions, Would, Commits, HandsBody}
 use Rattle.records.specs.Book.{body, Chained}
 use Rattle.records.specs.declared.book.Entered.{Entered}
 use Rattle.records.specs.declared.book.Head.{Head}
 use Rattle.records.specs.declared.book.Made.{Made}
 use Rattle.records.specs.declared.book.Record.{Record}
+use Rattle.records.specs.declared.book.Reply.{Reply}
 use Rattle.report.specs.Answers.{textArea, reportedAs, Reports}
 use Rattle.report.specs.declared.report.Reported.{Reported}
 
@@ -88,4 +89,7 @@ pub record Demand1 : Type 1 where
   -- the book
   pub making : (stock area area′ : List ℕ) (h h′ : Head) (rs rs′ : List Record) (r : Made) → Makes stock h rs area h′ rs′ area′ r → Answered (check 9 (33 ≤ length rs) (alphabetCheck stock (check 8 (length stock ≤ length area) done))) (Kept h rs area h′ rs′ area′) (madeOf r)
   pub entry : (s area area′ : List ℕ) (h h′ : Head) (rs rs′ : List Record) (r : Entered) → Enters s h rs area h′ rs′ area′ r → Answered (check 9 (Chained h rs area) (sheetCheck (body rs area 0) s (formCheck (body rs area 0) s (check 8 ((x : List ℕ) × (CleanFile (body rs area 0) s x × HasPlace h rs area x)) done)))) (Kept h rs area h′ rs′ area′) (numberOf r)
+  -- a question of what an entry would get: 1, and then the checks of the entry; a commit: these, and 13 last of all
+  pub question : (s area before after : List ℕ) (h : Head) (rs : List Record) (r : Reply) → Questions s h rs area before after r → Answered (check 1 (longest ≤ length before) (entryCheck s h rs area done)) (after ≡ before) (replyOf r)
+  pub commit : (s area area′ : List ℕ) (m : ℕ) (h h′ : Head) (rs rs′ : List Record) (r : Entered) → Commits s m h rs area h′ rs′ area′ r → Answered (entryCheck s h rs area (check 13 (Would s h rs area m) done)) (Kept h rs area h′ rs′ area′) (numberOf r)
   pub body-of : (area part : List ℕ) (h : Head) (rs : List Record) (n : ℕ) → HandsBody h rs area n part → (Chained h rs area → ⊥) → part ≡ []

@@ -1,5 +1,5 @@
 -- The demands of the user, each as one record with a field for each part of its text. First: every file can be opened. Second: a sheet sews the plan that 000 defines.
--- Third: alike exactly if equal clean sheets. Joining, Linear, Xml, Partial, Counts: requests F-9, F-2, F-4, F-10 and F-3 of document 02, in the same form.
+-- Third: alike exactly if equal clean sheets. Joining, Linear, Xml, Partial, Counts, Looking: requests F-9, F-2, F-4, F-10, F-3 and F-6 of document 02, in the same form.
 pub mod First
 pub mod Second
 pub mod Third
@@ -8,3 +8,4 @@ pub mod Linear
 pub mod Xml
 pub mod Partial
 pub mod Counts
+pub mod Looking

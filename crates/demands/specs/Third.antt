@@ -15,7 +15,8 @@ use Rattle.canonical.specs.Answers.{SewAlike, Cleans}
 use Rattle.witness.specs.Difference.{treeArea, addressArea}
 use Rattle.comparison.specs.Answers.{Differ, comparedAs, Compares}
 use Rattle.comparison.specs.declared.compare.Comparison.{Comparison}
-use Rattle.registry.specs.Calls.{Book, Entries}
+use Rattle.registry.specs.Calls.{Book}
+use Rattle.registry.specs.Questions.{Call, Calls, entersFile}
 
 -- a sheet is accepted for cleaning under a stock (01): none of 2, 4, 5 and 7 holds of the two
 abbrev pub Accepted : List ℕ → List ℕ → Type 0
@@ -61,5 +62,5 @@ pub record Demand3 : Type 0 where
   pub comparing : {stock s s′ tree tree′ address address′ : List ℕ} (r : Comparison) → Accepted stock s → Accepted stock s′ → treeArea ≤ length tree → addressArea ≤ length address → Compares stock s s′ tree tree′ address address′ r → AlikeExactly stock s s′ tree tree′ address address′ r
   -- Each clean sheet is accepted again, gives its sheet's plan on every design, and cleans to itself.
   pub again : {stock s before after x : List ℕ} (r : Formed) → Cleans stock s before after r → Wrote r after x → Again stock s x
-  -- And take any list of entries into a book just made for that stock, refused ones included: any two accepted entries in the list get one number exactly when their sheets sew alike.
-  pub entries : {stock : List ℕ} {log : List (List ℕ × Option ℕ)} {b : Book} → Entries stock log b → (s s′ : List ℕ) (n n′ : ℕ) → List·Memᴰ (s, some n) log → List·Memᴰ (s′, some n′) log → SewAlike stock s s′ ↔ (n ≡ n′)
+  -- And take any list of entries into a book just made for that stock, refused ones included (02, F-6: the list may now hold commits and questions too): any two accepted entries or commits in it get one number exactly when their sheets sew alike.
+  pub calls : {stock : List ℕ} {log : List (Call × Option ℕ)} {b : Book} → Calls stock log b → (c c′ : Call) (s s′ : List ℕ) (n n′ : ℕ) → entersFile c ≡ some s → entersFile c′ ≡ some s′ → List·Memᴰ (c, some n) log → List·Memᴰ (c′, some n′) log → SewAlike stock s s′ ↔ (n ≡ n′)

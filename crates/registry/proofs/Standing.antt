@@ -4,21 +4,21 @@ use Prim.Native.Nat.{ℕ, zero, suc, _+_, _≤_, _<_}
 use native.Mathlib.Omega.{arith}
 use mathlib.Core.List.{List, _∷_, _++_}
 use mathlib.Core.Logic.{inl, inr, ⊎-elim}
-use mathlib.Core.Option.{some, Option, none as nothing}
+use mathlib.Core.Option.{some, Option}
 use mathlib.Core.Path.{_≡_, refl, sym, ap, ap₂, subst, _∙_}
 use lib.ListN.{length, set, drop, replicate, length-append, length-replicate, length-set, getD-replicate, List·getD-append}
 use lib.Seq.{sets, length-sets}
 use Rattle.theory.specs.Registry.{begun, entered}
 use Rattle.theory.proofs.Terms.{conflict}
 use Rattle.trees.specs.Alphabets.{Alphabets}
-use Rattle.trees.specs.Refusal.{accepted, refused, done, check, Holds}
+use Rattle.trees.specs.Refusal.{accepted, done, Holds}
 use Rattle.trees.specs.declared.refusal.Refusal.the-variants.{FullRegistry}
 use Rattle.formats.specs.Sheet.{file, sheetCheck}
-use Rattle.trees.proofs.Judging.{refuse, pass, accept, accepted-holds, must-accept, must-refuse}
+use Rattle.trees.proofs.Judging.{refuse, pass, accept, accepted-holds, must-accept}
 use Rattle.formats.proofs.Sheets.{sheet-counted}
 use Rattle.earliest.specs.Answers.{EarliestFile, formCheck}
 use Rattle.canonical.specs.Answers.{NormalFile}
-use Rattle.records.specs.Answers.{CleanFile, Lowest, NotHeld, Room, HasPlace, Known, Added, Gives, numberOf}
+use Rattle.records.specs.Answers.{CleanFile, Lowest, NotHeld, Room, HasPlace, Known, Added, Gives, numberOf, Enters}
 use Rattle.records.specs.Book.{answersOf, tooMany, newHead, countedHead, grownHead, noRecord, stockRecord, bodyRecord, countedRecord, recordAt, body, tally, Follow, Unused, Lies, Sound, Chained}
 use Rattle.records.specs.declared.book.Entered.{Entered}
 use Rattle.records.specs.declared.book.Entered.the-variants.{Number, Refused}
@@ -27,7 +27,7 @@ use Rattle.records.specs.declared.book.Record.{Record}
 use Rattle.records.proofs.Chains.{Passed, passed-none, passed-more, passed-same, all-passed, follow-passed, follow-places}
 use Rattle.records.proofs.Entering.{clean-unique, lowest-unique}
 use Rattle.registry.specs.Calls.{Book, MadeWith, EntersFile, Entries, answerOf, Stays}
-use Rattle.registry.proofs.Keeping.{Unchanged, Accepted, answered-by, bodyOf, unchanged-stays, accepted-stays, known-other, known-places, known-stays, added-other, added-record, added-stays, put-there, gives-counts, tally-one}
+use Rattle.registry.proofs.Keeping.{Accepted, answered-by, bodyOf, unchanged-stays, accepted-stays, known-other, known-places, known-stays, added-other, added-record, added-stays, put-there, gives-counts, tally-one}
 
 -- ---- an accepted making
 module _ {stock : List ℕ} {b : Book} (M : MadeWith stock b) where
@@ -190,10 +190,6 @@ pub told : (r : Entered) {a : Option ℕ} {n : ℕ} → answerOf r ≡ a → num
 told (Number m) {n = n} e f = let z : m ≡ n = cc in sym e ∙ ap (λ k. some k) z
 told (Refused q) e f = conflict (cc)
 
-untold : (r : Entered) {a : Option ℕ} {k : ℕ} → answerOf r ≡ a → numberOf r ≡ refused k → a ≡ nothing
-untold (Number m) e f = conflict (cc)
-untold (Refused q) e f = sym e
-
 pub told-number : (r : Entered) {n : ℕ} → answerOf r ≡ some n → numberOf r ≡ accepted n
 told-number (Number m) {n} e = let z : m ≡ n = cc in ap (λ k. accepted k) z
 told-number (Refused q) e = conflict (cc)
@@ -223,15 +219,6 @@ module _ {stock : List ℕ} {b : Book} {s x : List ℕ} {a : Option ℕ} {b′ :
       go (m, (e, inl K)) = absurd (N .none m (K .lowest .low) (K .lowest .high) (K .lowest .there))
       go (m, (e, inr A)) = (rw (A .next) at e, rw (A .next) at A)
 
-  -- it is not, and there is no room: it is refused by 8, and nothing changes
-  pub entered-full : NotHeld (b .head .held) (b .records) (b .area) x → (Room (b .head) (b .area) x → ⊥) → (numberOf (E .answer) ≡ refused 8) × Unchanged b a b′
-  unfolding Holds
-  entered-full N R =
-      let k′ = subst (λ t. CleansTo t s x) (sym same) k in
-      let stock′ = bodyOf b 0 in
-      let (e, (q, p, o)) = must-refuse (check 9 (Chained (b .head) (b .records) (b .area)) (sheetCheck stock′ s (formCheck stock′ s done))) done (C, k′ .checks) (no-place N R (k′ .clean)) (E .call) in
-      (e, record { answer = untold (E .answer) (E .told) e; head = q; records = p; bodies = o })
-
 -- ---- there are such calls
 pub makes : {stock : List ℕ} (room : ℕ) → Alphabets stock → length stock ≤ room → (b : Book) × (MadeWith stock b × (length (b .area) ≡ room))
 makes {stock} room A h =
@@ -242,26 +229,25 @@ makes {stock} room A h =
 
 module _ {stock : List ℕ} {b : Book} {s x : List ℕ} (C : Chained (b .head) (b .records) (b .area)) (same : bodyOf b 0 ≡ stock) (k : CleansTo stock s x) where
   -- an answer n that leaves b′, as one of the two ways to give a number says
-  gave : (n : ℕ) (b′ : Book) → HasPlace (b .head) (b .records) (b .area) x → Gives (b .head) (b .records) (b .area) x n (b′ .head) (b′ .records) (b′ .area) → EntersFile b s (some n) b′
+  gave : (n : ℕ) (b′ : Book) → HasPlace (b .head) (b .records) (b .area) x → Gives (b .head) (b .records) (b .area) x n (b′ .head) (b′ .records) (b′ .area) → Enters s (b .head) (b .records) (b .area) (b′ .head) (b′ .records) (b′ .area) (Number n)
   unfolding Holds
   gave n b′ p g =
       let k′ = subst (λ t. CleansTo t s x) (sym same) k in
-      record { answer = Number n; call = pass C (pass (k′ .checks .0) (pass (k′ .checks .1 .0) (pass (k′ .checks .1 .1 .0) (pass (x, (k′ .clean, p)) (accept (x, (k′ .clean, g))))))); told = refl }
+      pass C (pass (k′ .checks .0) (pass (k′ .checks .1 .0) (pass (k′ .checks .1 .1 .0) (pass (x, (k′ .clean, p)) (accept (x, (k′ .clean, g)))))))
 
   -- a refusal by 8
-  pub enters-full : NotHeld (b .head .held) (b .records) (b .area) x → (Room (b .head) (b .area) x → ⊥) → EntersFile b s nothing b
+  pub enters-full : NotHeld (b .head .held) (b .records) (b .area) x → (Room (b .head) (b .area) x → ⊥) → Enters s (b .head) (b .records) (b .area) (b .head) (b .records) (b .area) (Refused FullRegistry)
   unfolding Holds
   enters-full N R =
       let k′ = subst (λ t. CleansTo t s x) (sym same) k in
-      record { answer = Refused FullRegistry; call = pass C (pass (k′ .checks .0) (pass (k′ .checks .1 .0) (pass (k′ .checks .1 .1 .0) (refuse (no-place N R (k′ .clean)) (refl, refl, refl))))); told = refl }
+      pass C (pass (k′ .checks .0) (pass (k′ .checks .1 .0) (pass (k′ .checks .1 .1 .0) (refuse (no-place N R (k′ .clean)) (refl, refl, refl)))))
 
-  pub enters-known : {n : ℕ} → Lowest (b .head .held) (b .records) (b .area) x n → (b′ : Book) × EntersFile b s (some n) b′
+  pub enters-known : {n : ℕ} → Lowest (b .head .held) (b .records) (b .area) x n → (b′ : Book) × Enters s (b .head) (b .records) (b .area) (b′ .head) (b′ .records) (b′ .area) (Number n)
   enters-known {n} L =
       let b′ : Book = record { head = countedHead (b .head); records = set (b .records) n (countedRecord (recordAt (b .records) n)); area = b .area } in
       (b′, gave n b′ (inl (n, L)) (inl (record { lowest = L; head = refl; records = refl; bodies = refl })))
 
-  pub enters-new : NotHeld (b .head .held) (b .records) (b .area) x → Room (b .head) (b .area) x → (b′ : Book) × EntersFile b s (some (b .head .held + 1)) b′
-  enters-new N R =
-      let n = b .head .held + 1 in
+  pub enters-new : {n : ℕ} → n ≡ b .head .held + 1 → NotHeld (b .head .held) (b .records) (b .area) x → Room (b .head) (b .area) x → (b′ : Book) × Enters s (b .head) (b .records) (b .area) (b′ .head) (b′ .records) (b′ .area) (Number n)
+  enters-new {n} e N R =
       let b′ : Book = record { head = grownHead (b .head) (length x); records = set (b .records) n (bodyRecord (b .head .used) (length x)); area = sets (b .area) (b .head .used) x } in
-      (b′, gave n b′ (inr R) (inr (record { new = N; room = R; next = refl; head = refl; records = refl; bodies = refl })))
+      (b′, gave n b′ (inr R) (inr (record { new = N; room = R; next = e; head = refl; records = refl; bodies = refl })))

@@ -3,29 +3,33 @@
 use Prim.Native.Nat.{ℕ, zero, suc, _+_, _≤_, _<_}
 use native.Mathlib.Omega.{arith}
 use mathlib.Core.Bool.{false}
-use mathlib.Core.List.{List, [], _∷_, map}
-use mathlib.Core.Option.{Option, some, none as nothing}
-use mathlib.Core.Path.{_≡_, refl, sym, ap, subst, _∙_}
+use mathlib.Core.List.{List, [], _∷_}
+use mathlib.Core.Option.{Option, some}
+use mathlib.Core.Path.{_≡_, refl, sym, ap, _∙_}
 use lib.Dec.{eqb}
 use lib.ListN.{length, getD}
 use borrow.Author.Tests.{ne-eqb}
 use Rattle.theory.specs.Registry.{begun, entered}
 use Rattle.trees.specs.Refusal.{accepted, refused, Holds}
+use Rattle.trees.specs.declared.refusal.Refusal.the-variants.{FullRegistry}
 use Rattle.formats.specs.Samples.{S, T, T′, U, U-clean}
 use Rattle.transducer.proofs.Samples.{S-alphabets, T-sheet}
 use Rattle.earliest.specs.Answers.{EarliestFile}
 use Rattle.canonical.proofs.Laws.{clean-accepted}
 use Rattle.canonical.proofs.SampleTrimmed.{T′-trims, U-trims}
 use Rattle.canonical.proofs.Samples.{T-cleans, T′-cleans, U-cleans}
-use Rattle.records.specs.Answers.{numberOf, Lowest, NotHeld, Room, Known, Added}
-use Rattle.records.specs.Book.{answersOf, newHead, countedHead, grownHead, recordAt, Chained}
-use Rattle.records.specs.declared.book.Head.{Head}
-use Rattle.registry.specs.Calls.{Book, MadeWith, EntersFile, acceptedWith, Entries}
+use Rattle.records.specs.Answers.{Lowest, NotHeld, Room}
+use Rattle.records.specs.Book.{answersOf, tooMany, Chained}
+use Rattle.records.specs.declared.book.Entered.the-variants.{Number, Refused}
+use Rattle.registry.specs.Calls.{Book, MadeWith, EntersFile, acceptances, acceptedWith, Entries}
+use Rattle.registry.specs.Questions.{entry, commit, question}
 use Rattle.registry.proofs.Keeping.{bodyOf, added-there, known-stays}
 use Rattle.registry.proofs.Laws.{registry-laws}
-use Rattle.registry.proofs.Standing.{made-head, stock-stays, CleansTo, cleans-to, still-chained, told-number, entered-known, entered-new, entered-full, area-kept, makes, enters-known, enters-new, enters-full}
-use Rattle.table.specs.Table.{outcomes, Registered}
+use Rattle.registry.proofs.Standing.{made-head, stock-stays, CleansTo, cleans-to, still-chained, entered-known, entered-new, area-kept, makes, enters-known, enters-new, enters-full}
+use Rattle.table.specs.Table.{AllRun, left, Leaves}
+use Rattle.table.proofs.Running.{Entry, enters, commits, commits-other, asks, enters-refused, commits-refused, asks-refused}
 
+-- ---- the clean files
 T-trims : (k : ℕ) × ((counts : List ℕ) × ((bytes : List ℕ) × EarliestFile S T k counts bytes))
 unfolding Holds
 T-trims = rw (T-sheet .coded) at (clean-accepted T-cleans .1 .1 .1 .0)
@@ -39,213 +43,163 @@ T′-to-T = cleans-to T′-cleans (T-sheet .coded) (_, (_, (_, T′-trims)))
 U-to-U-clean : CleansTo S U U-clean
 U-to-U-clean = cleans-to U-cleans refl (_, (_, (_, U-trims)))
 
--- there is a list of entries of the three files, the last first, in an area of this many bytes
-abbrev pub Possible : ℕ → Type 0
-Possible room = (log : List (List ℕ × Option ℕ)) × ((b : Book) × (Entries S log b × (length (b .area) ≡ room) × (map (λ e. e .0) log ≡ U ∷ T′ ∷ T ∷ [])))
+-- ---- the counts of lists of entries
+not-1 : (n : ℕ) → eqb (suc (suc n)) 1 ≡ false
+not-1 n = ne-eqb (suc (suc n)) 1 (λ e. omega arith)
 
--- the counts of such lists
-count-two : (n : ℕ) → acceptedWith n ((U, nothing) ∷ (T′, some 1) ∷ (T, some 1) ∷ []) ≡ getD (0 ∷ 2 ∷ []) n 0
+not-2 : (n : ℕ) → eqb (suc (suc (suc n))) 2 ≡ false
+not-2 n = ne-eqb (suc (suc (suc n))) 2 (λ e. omega arith)
+
+count-1 : (n : ℕ) → acceptedWith n ((T, some 1) ∷ []) ≡ getD (0 ∷ 1 ∷ []) n 0
 unfolding acceptedWith
-count-two zero = refl
-count-two (suc zero) = refl
-count-two (suc (suc n)) = let q : eqb (suc (suc n)) 1 ≡ false = ne-eqb (suc (suc n)) 1 (λ e. omega arith) in rw q
+count-1 zero = refl
+count-1 (suc zero) = refl
+count-1 (suc (suc n)) = rw (not-1 n)
 
-count-two-one : (n : ℕ) → acceptedWith n ((U, some 2) ∷ (T′, some 1) ∷ (T, some 1) ∷ []) ≡ getD (0 ∷ 2 ∷ 1 ∷ []) n 0
+count-2 : (n : ℕ) → acceptedWith n ((T′, some 1) ∷ (T, some 1) ∷ []) ≡ getD (0 ∷ 2 ∷ []) n 0
 unfolding acceptedWith
-count-two-one zero = refl
-count-two-one (suc zero) = refl
-count-two-one (suc (suc zero)) = refl
-count-two-one (suc (suc (suc n))) =
-    let q : eqb (suc (suc (suc n))) 1 ≡ false = ne-eqb (suc (suc (suc n))) 1 (λ e. omega arith) in
-    let p : eqb (suc (suc (suc n))) 2 ≡ false = ne-eqb (suc (suc (suc n))) 2 (λ e. omega arith) in
-    rw (p, q)
+count-2 zero = refl
+count-2 (suc zero) = refl
+count-2 (suc (suc n)) = rw (not-1 n)
 
--- the head after each entry
-heads : ℕ → Head
-heads zero = newHead 6
-heads (suc zero) = grownHead (newHead 6) 21
-heads (suc (suc zero)) = countedHead (grownHead (newHead 6) 21)
-heads (suc (suc (suc k))) = grownHead (countedHead (grownHead (newHead 6) 21)) 29
+count-1-1 : (n : ℕ) → acceptedWith n ((U, some 2) ∷ (T, some 1) ∷ []) ≡ getD (0 ∷ 1 ∷ 1 ∷ []) n 0
+unfolding acceptedWith
+count-1-1 zero = refl
+count-1-1 (suc zero) = refl
+count-1-1 (suc (suc zero)) = refl
+count-1-1 (suc (suc (suc n))) = rw (not-2 n, not-1 (suc n))
 
-module _ (k : ℕ) (wide : 27 ≤ k) {b₀ : Book} (M : MadeWith S b₀) (room : length (b₀ .area) ≡ k) where
-  -- ---- made: T is not held, and there is room for it
-  made : Entries S [] b₀
-  made = begun M
+count-2-1 : (n : ℕ) → acceptedWith n ((U, some 2) ∷ (T′, some 1) ∷ (T, some 1) ∷ []) ≡ getD (0 ∷ 2 ∷ 1 ∷ []) n 0
+unfolding acceptedWith
+count-2-1 zero = refl
+count-2-1 (suc zero) = refl
+count-2-1 (suc (suc zero)) = refl
+count-2-1 (suc (suc (suc n))) = rw (not-2 n, not-1 (suc n))
 
-  head₀ : b₀ .head ≡ heads 0
-  unfolding heads
-  head₀ = made-head M
+-- an accepted entry, as one of a list
+file-in : (b b′ : Book) {s : List ℕ} {n : ℕ} → Entry b s (Number n) b′ → EntersFile b s (some n) b′
+file-in b b′ {n = n} J = record { answer = Number n; call = J; told = refl }
 
-  chained₀ : Chained (b₀ .head) (b₀ .records) (b₀ .area)
-  unfolding heads
-  chained₀ = still-chained made (omega (arith, ap answersOf head₀))
+-- what a list of entries leaves
+leaves : {log : List (List ℕ × Option ℕ)} {b : Book} {used answered : ℕ} (counts : List ℕ) → Entries S log b → b .head .used ≡ used → acceptances log ≡ answered → ((n : ℕ) → acceptedWith n log ≡ getD counts n 0) → Leaves used answered counts b
+leaves counts E u a c = record { used-are = u; answered-are = registry-laws E .answered ∙ a; counts-are = λ n g. registry-laws E .counts n g ∙ c n }
 
-  new₀ : NotHeld (b₀ .head .held) (b₀ .records) (b₀ .area) T
-  unfolding heads
-  new₀ = record { none = λ m l k. absurd (omega (arith, ap (λ w. w .held) head₀)) }
+-- ---- a registry with an area of k bytes that holds T and nothing else
+record HoldsT (k : ℕ) (log : List (List ℕ × Option ℕ)) (b : Book) : Type 0 where
+  entries : Entries S log b
+  few : answersOf (b .head) < tooMany
+  held : b .head .held ≡ 1
+  used : b .head .used ≡ 27
+  there : bodyOf b 1 ≡ T
+  room : length (b .area) ≡ k
 
-  room₀ : Room (b₀ .head) (b₀ .area) T
-  unfolding heads
-  room₀ = record { few = omega (arith, ap (λ w. w .held) head₀); fits = omega (arith, ap (λ w. w .used) head₀) }
+module _ {k : ℕ} {log : List (List ℕ × Option ℕ)} {b : Book} (H : HoldsT k log b) where
+  chained : Chained (b .head) (b .records) (b .area)
+  chained = still-chained (H .entries) (H .few)
 
-  module _ {a₁ : Option ℕ} {b₁ : Book} (E₁ : EntersFile b₀ T a₁ b₁) where
-    -- ---- T entered: the clean file of T' is T, which is held at 1
-    one : Entries S ((T, a₁) ∷ []) b₁
-    one = entered made E₁
+  -- T is held at 1
+  lowest : Lowest (b .head .held) (b .records) (b .area) T 1
+  lowest = record { low = omega arith; high = omega (arith, H .held); there = H .there; first = λ m l g. absurd (omega arith) }
 
-    first : (a₁ ≡ some (b₀ .head .held + 1)) × Added (b₀ .head) (b₀ .records) (b₀ .area) T (b₀ .head .held + 1) (b₁ .head) (b₁ .records) (b₁ .area)
-    first = entered-new chained₀ (stock-stays made) T-to-T E₁ new₀ room₀
+  T′-in : (b′ : Book) × Entry b T′ (Number 1) b′
+  T′-in = enters-known chained (stock-stays (H .entries)) T′-to-T lowest
 
-    head₁ : b₁ .head ≡ heads 1
-    unfolding heads
-    head₁ = first .1 .head ∙ ap (λ w. grownHead w 21) head₀
+  -- the clean U is not,
+  new : NotHeld (b .head .held) (b .records) (b .area) U-clean
+  new = record { none = λ m l g e. let z : 1 ≡ m = omega (arith, H .held) in omega (arith, ap length (sym (H .there) ∙ ap (bodyOf b) z ∙ e)) }
 
-    chained₁ : Chained (b₁ .head) (b₁ .records) (b₁ .area)
-    unfolding heads
-    chained₁ = still-chained one (omega (arith, ap answersOf head₁))
+  -- and has room or not
+  room-U : 56 ≤ k → Room (b .head) (b .area) U-clean
+  room-U h = record { few = omega (arith, H .held); fits = omega (arith, H .used, H .room) }
 
-    body₁ : bodyOf b₁ 1 ≡ T
-    unfolding heads
-    body₁ = ap (λ w. bodyOf b₁ (w .held + 1)) (sym head₀) ∙ added-there chained₀ (first .1)
+  U-in : 56 ≤ k → (b′ : Book) × Entry b U (Number 2) b′
+  U-in h = enters-new chained (stock-stays (H .entries)) U-to-U-clean (omega (arith, H .held)) new (room-U h)
 
-    lowest₁ : Lowest (b₁ .head .held) (b₁ .records) (b₁ .area) T 1
-    unfolding heads
-    lowest₁ = record { low = omega arith; high = omega (arith, ap (λ w. w .held) head₁); there = body₁; first = λ m l k. absurd (omega arith) }
+  U-used : {b′ : Book} → 56 ≤ k → EntersFile b U (some 2) b′ → b′ .head .used ≡ 56
+  U-used h E = let A = entered-new chained (stock-stays (H .entries)) U-to-U-clean E new (room-U h) .1 in ap (λ w. w .used) (A .head) ∙ ap (λ i. i + 29) (H .used)
 
-    module _ {a₂ : Option ℕ} {b₂ : Book} (E₂ : EntersFile b₁ T′ a₂ b₂) where
-      -- ---- T' entered: the clean file of U is not held
-      two : Entries S ((T′, a₂) ∷ (T, a₁) ∷ []) b₂
-      two = entered one E₂
+  U-out : k < 56 → Entry b U (Refused FullRegistry) b
+  U-out h = enters-full chained (stock-stays (H .entries)) U-to-U-clean new (λ R. omega (arith, R .fits, H .used, H .room))
 
-      second : (a₂ ≡ some 1) × Known (b₁ .head) (b₁ .records) (b₁ .area) T 1 (b₂ .head) (b₂ .records) (b₂ .area)
-      second = entered-known chained₁ (stock-stays one) T′-to-T E₂ lowest₁
+-- it holds T after T' is entered
+T′-held : {k : ℕ} {b b′ : Book} → HoldsT k ((T, some 1) ∷ []) b → EntersFile b T′ (some 1) b′ → HoldsT k ((T′, some 1) ∷ (T, some 1) ∷ []) b′
+unfolding acceptances
+T′-held {b = b} {b′ = b′} H E =
+    let K = entered-known (chained H) (stock-stays (H .entries)) T′-to-T E (lowest H) .1 in
+    let all : Entries S ((T′, some 1) ∷ (T, some 1) ∷ []) b′ = entered (H .entries) E in
+    record {
+      entries = all;
+      few = omega (arith, registry-laws all .answered);
+      held = ap (λ w. w .held) (K .head) ∙ H .held;
+      used = ap (λ w. w .used) (K .head) ∙ H .used;
+      there = known-stays (chained H) K 1 ∙ H .there;
+      room = area-kept E ∙ H .room;
+    }
 
-      head₂ : b₂ .head ≡ heads 2
-      unfolding heads
-      head₂ = second .1 .head ∙ ap countedHead head₁
+-- ---- a registry just made
+module _ {k : ℕ} (wide : 27 ≤ k) {b : Book} (M : MadeWith S b) (room : length (b .area) ≡ k) where
+  chained-made : Chained (b .head) (b .records) (b .area)
+  chained-made = still-chained (begun M) (omega (arith, ap answersOf (made-head M)))
 
-      chained₂ : Chained (b₂ .head) (b₂ .records) (b₂ .area)
-      unfolding heads
-      chained₂ = still-chained two (omega (arith, ap answersOf head₂))
+  new-T : NotHeld (b .head .held) (b .records) (b .area) T
+  new-T = record { none = λ m l g. absurd (omega (arith, ap (λ w. w .held) (made-head M))) }
 
-      area₂ : length (b₂ .area) ≡ k
-      area₂ = area-kept E₂ ∙ area-kept E₁ ∙ room
+  room-T : Room (b .head) (b .area) T
+  room-T = record { few = omega (arith, ap (λ w. w .held) (made-head M)); fits = omega (arith, ap (λ w. w .used) (made-head M)) }
 
-      unlike : (m : ℕ) → 1 ≤ m → m ≤ b₂ .head .held → bodyOf b₂ m ≡ U-clean → ⊥
-      unfolding heads
-      unlike m l k e =
-          let z : 1 ≡ m = omega (arith, ap (λ w. w .held) head₂) in
-          let t : bodyOf b₂ 1 ≡ T = known-stays chained₁ (second .1) 1 ∙ body₁ in
-          omega (arith, ap length (sym t ∙ ap (bodyOf b₂) z ∙ e))
+  T-in : (b′ : Book) × Entry b T (Number 1) b′
+  T-in = enters-new chained-made (stock-stays (begun M)) T-to-T (omega (arith, ap (λ w. w .held) (made-head M))) new-T room-T
 
-      new₂ : NotHeld (b₂ .head .held) (b₂ .records) (b₂ .area) U-clean
-      new₂ = record { none = unlike }
+  -- it holds T after T is entered
+  T-held : {b′ : Book} → EntersFile b T (some 1) b′ → HoldsT k ((T, some 1) ∷ []) b′
+  unfolding acceptances
+  T-held {b′} E =
+      let A = entered-new chained-made (stock-stays (begun M)) T-to-T E new-T room-T .1 in
+      let all : Entries S ((T, some 1) ∷ []) b′ = entered (begun M) E in
+      record {
+        entries = all;
+        few = omega (arith, registry-laws all .answered);
+        held = ap (λ w. w .held) (A .head) ∙ ap (λ w. w .held + 1) (made-head M);
+        used = ap (λ w. w .used) (A .head) ∙ ap (λ w. w .used + 21) (made-head M);
+        there = ap (λ w. bodyOf b′ (w .held + 1)) (sym (made-head M)) ∙ added-there chained-made A;
+        room = area-kept E ∙ room;
+      }
 
-      -- what the first two entries answered
-      answer₁ : a₁ ≡ some 1
-      unfolding heads
-      answer₁ = first .0 ∙ ap (λ w. some (w .held + 1)) head₀
+  -- ---- the rows
+  pub entries-with-room : 56 ≤ k → AllRun (Leaves 56 3 (0 ∷ 2 ∷ 1 ∷ [])) ((entry T, accepted 1) ∷ (entry T′, accepted 1) ∷ (entry U, accepted 2) ∷ []) b
+  unfolding acceptances
+  entries-with-room h =
+      enters T-in (λ b₁ J₁.
+      let H₁ = T-held (file-in b b₁ J₁) in
+      enters (T′-in H₁) (λ b₂ J₂.
+      let H₂ = T′-held H₁ (file-in b₁ b₂ J₂) in
+      enters (U-in H₂ h) (λ b₃ J₃. left (leaves (0 ∷ 2 ∷ 1 ∷ []) (entered (H₂ .entries) (file-in b₂ b₃ J₃)) (U-used H₂ h (file-in b₂ b₃ J₃)) refl count-2-1))))
 
-      told₁ : numberOf (E₁ .answer) ≡ accepted 1
-      told₁ = told-number (E₁ .answer) (E₁ .told ∙ answer₁)
+  pub entries-without-room : k < 56 → AllRun (Leaves 27 2 (0 ∷ 2 ∷ [])) ((entry T, accepted 1) ∷ (entry T′, accepted 1) ∷ (entry U, refused 8) ∷ []) b
+  unfolding acceptances
+  entries-without-room h =
+      enters T-in (λ b₁ J₁.
+      let H₁ = T-held (file-in b b₁ J₁) in
+      enters (T′-in H₁) (λ b₂ J₂.
+      let H₂ = T′-held H₁ (file-in b₁ b₂ J₂) in
+      enters-refused FullRegistry (U-out H₂ h) (left (leaves (0 ∷ 2 ∷ []) (H₂ .entries) (H₂ .used) refl count-2))))
 
-      told₂ : numberOf (E₂ .answer) ≡ accepted 1
-      told₂ = told-number (E₂ .answer) (E₂ .told ∙ second .0)
+  pub questions-with-room : 56 ≤ k → AllRun (Leaves 56 2 (0 ∷ 1 ∷ 1 ∷ [])) ((question T, accepted 1) ∷ (entry T, accepted 1) ∷ (question T′, accepted 1) ∷ (question U, accepted 2) ∷ (commit U 1, refused 13) ∷ (commit U 2, accepted 2) ∷ []) b
+  unfolding acceptances
+  questions-with-room h =
+      asks T-in (enters T-in (λ b₁ J₁.
+      let H₁ = T-held (file-in b b₁ J₁) in
+      asks (T′-in H₁) (asks (U-in H₁ h) (commits-other (U-in H₁ h) (λ e. omega arith) (commits (U-in H₁ h) (λ b₂ J₂.
+      left (leaves (0 ∷ 1 ∷ 1 ∷ []) (entered (H₁ .entries) (file-in b₁ b₂ J₂)) (U-used H₁ h (file-in b₁ b₂ J₂)) refl count-1-1)))))))
 
-      -- ---- there is room for U
-      module _ (enough : 56 ≤ k) where
-        room₂ : Room (b₂ .head) (b₂ .area) U-clean
-        unfolding heads
-        room₂ = record { few = omega (arith, ap (λ w. w .held) head₂); fits = omega (arith, ap (λ w. w .used) head₂, area₂) }
+  pub questions-without-room : k < 56 → AllRun (Leaves 27 1 (0 ∷ 1 ∷ [])) ((entry T, accepted 1) ∷ (question U, refused 8) ∷ (commit U 2, refused 8) ∷ (commit U 1, refused 8) ∷ []) b
+  unfolding acceptances
+  questions-without-room h =
+      enters T-in (λ b₁ J₁.
+      let H₁ = T-held (file-in b b₁ J₁) in
+      let N = U-out H₁ h in
+      asks-refused FullRegistry N (commits-refused FullRegistry N (commits-refused FullRegistry N (left (leaves (0 ∷ 1 ∷ []) (H₁ .entries) (H₁ .used) refl count-1)))))
 
-        U-possible : Possible k
-        U-possible = let w = enters-new chained₂ (stock-stays two) U-to-U-clean new₂ room₂ in (_, (w .0, (entered two (w .1), area-kept (w .1) ∙ area₂, refl)))
-
-        module _ {a₃ : Option ℕ} {b₃ : Book} (E₃ : EntersFile b₂ U a₃ b₃) where
-          third : (a₃ ≡ some (b₂ .head .held + 1)) × Added (b₂ .head) (b₂ .records) (b₂ .area) U-clean (b₂ .head .held + 1) (b₃ .head) (b₃ .records) (b₃ .area)
-          third = entered-new chained₂ (stock-stays two) U-to-U-clean E₃ new₂ room₂
-
-          head₃ : b₃ .head ≡ heads 3
-          unfolding heads
-          head₃ = third .1 .head ∙ ap (λ w. grownHead w 29) head₂
-
-          registered : Registered ((U, accepted 2) ∷ (T′, accepted 1) ∷ (T, accepted 1) ∷ []) 56 3 (0 ∷ 2 ∷ 1 ∷ []) (entered two E₃)
-          unfolding heads outcomes made one two
-          registered =
-              let answer₃ : a₃ ≡ some 2 = third .0 ∙ ap (λ w. some (w .held + 1)) head₂ in
-              let told₃ : numberOf (E₃ .answer) ≡ accepted 2 = told-number (E₃ .answer) (E₃ .told ∙ answer₃) in
-              let log₃ : _≡_ {A = List (List ℕ × Option ℕ)} ((U, a₃) ∷ (T′, a₂) ∷ (T, a₁) ∷ []) ((U, some 2) ∷ (T′, some 1) ∷ (T, some 1) ∷ []) = rw (answer₃, second .0, answer₁) in
-              record { answers-are = rw (told₃, told₂, told₁); used-are = ap (λ w. w .used) head₃; answered-are = ap answersOf head₃; counts-are = λ n g. registry-laws (entered two E₃) .counts n g ∙ ap (acceptedWith n) log₃ ∙ count-two-one n }
-
-      -- ---- there is none
-      module _ (short : k < 56) where
-        no-room : Room (b₂ .head) (b₂ .area) U-clean → ⊥
-        unfolding heads
-        no-room R = omega (arith, R .fits, ap (λ w. w .used) head₂, area₂)
-
-        U-refused : Possible k
-        U-refused = (_, (b₂, (entered two (enters-full chained₂ (stock-stays two) U-to-U-clean new₂ no-room), area₂, refl)))
-
-        module _ {a₃ : Option ℕ} {b₃ : Book} (E₃ : EntersFile b₂ U a₃ b₃) where
-          refused-third : Registered ((U, refused 8) ∷ (T′, accepted 1) ∷ (T, accepted 1) ∷ []) 27 2 (0 ∷ 2 ∷ []) (entered two E₃)
-          unfolding heads outcomes made one two
-          refused-third =
-              let (told₃, W) = entered-full chained₂ (stock-stays two) U-to-U-clean E₃ new₂ no-room in
-              let log₃ : _≡_ {A = List (List ℕ × Option ℕ)} ((U, a₃) ∷ (T′, a₂) ∷ (T, a₁) ∷ []) ((U, nothing) ∷ (T′, some 1) ∷ (T, some 1) ∷ []) = rw (W .answer, second .0, answer₁) in
-              record { answers-are = rw (told₃, told₂, told₁); used-are = ap (λ w. w .used) (W .head ∙ head₂); answered-are = ap answersOf (W .head ∙ head₂); counts-are = λ n g. registry-laws (entered two E₃) .counts n g ∙ ap (acceptedWith n) log₃ ∙ count-two n }
-
--- ---- there is such a list, in an area with room for U and in one without
-record Two (k : ℕ) : Type 0 where
-  b₀ : Book
-  makes-it : MadeWith S b₀
-  room : length (b₀ .area) ≡ k
-  a₁ : Option ℕ
-  b₁ : Book
-  first-call : EntersFile b₀ T a₁ b₁
-  a₂ : Option ℕ
-  b₂ : Book
-  second-call : EntersFile b₁ T′ a₂ b₂
-
-two-calls : (k : ℕ) → 27 ≤ k → Two k
-two-calls k wide =
-    let (b, (M, room)) = makes k S-alphabets (omega arith) in
-    let (c, E₁) = enters-new (chained₀ k wide M room) (stock-stays (begun M)) T-to-T (new₀ k wide M room) (room₀ k wide M room) in
-    let (d, E₂) = enters-known (chained₁ k wide M room E₁) (stock-stays (entered (begun M) E₁)) T′-to-T (lowest₁ k wide M room E₁) in
-    record { b₀ = b; makes-it = M; room = room; a₁ = _; b₁ = c; first-call = E₁; a₂ = _; b₂ = d; second-call = E₂ }
-
-pub possible : (k : ℕ) → 56 ≤ k → Possible k
-possible k h = let w = two-calls k (omega arith) in U-possible k (omega arith) (w .makes-it) (w .room) (w .first-call) (w .second-call) h
-
-pub possible-short : (k : ℕ) → 27 ≤ k → k < 56 → Possible k
-possible-short k wide h = let w = two-calls k wide in U-refused k wide (w .makes-it) (w .room) (w .first-call) (w .second-call) h
-
--- ---- what holds after any three entries of these files holds of every list of them
-module _ (k : ℕ) (P : (log : List (List ℕ × Option ℕ)) (b : Book) → Entries S log b → Type 0) where
-  abbrev After : {b₀ : Book} → MadeWith S b₀ → List ℕ → List ℕ → List ℕ → Type 0
-  After {b₀} M s₁ s₂ s₃ =
-      (a₁ : Option ℕ) (b₁ : Book) (E₁ : EntersFile b₀ s₁ a₁ b₁) (a₂ : Option ℕ) (b₂ : Book) (E₂ : EntersFile b₁ s₂ a₂ b₂) (a₃ : Option ℕ) (b₃ : Book) (E₃ : EntersFile b₂ s₃ a₃ b₃)
-      → length (b₃ .area) ≡ k → P ((s₃, a₃) ∷ (s₂, a₂) ∷ (s₁, a₁) ∷ []) b₃ (entered (entered (entered (begun M) E₁) E₂) E₃)
-
-  every-three : ((b₀ : Book) (M : MadeWith S b₀) → After M T T′ U) → (log : List (List ℕ × Option ℕ)) (b : Book) (E : Entries S log b) → length (b .area) ≡ k → map (λ e. e .0) log ≡ U ∷ T′ ∷ T ∷ [] → P log b E
-  every-three f log b (begun M) room e = absurd (omega (arith, ap length e))
-  every-three f log b (entered (begun M) E) room e = absurd (omega (arith, ap length e))
-  every-three f log b (entered (entered (begun M) E₁) E₂) room e = absurd (omega (arith, ap length e))
-  every-three f log b (entered {t = s₃} (entered {t = s₂} (entered {t = s₁} (begun {s = b₀} M) E₁) E₂) E₃) room e =
-      let e₁ : s₁ ≡ T = ap (λ l. getD l 2 []) e in
-      let e₂ : s₂ ≡ T′ = ap (λ l. getD l 1 []) e in
-      let e₃ : s₃ ≡ U = ap (λ l. getD l 0 []) e in
-      let g : After M s₁ s₂ s₃ = subst (λ s. After M s s₂ s₃) (sym e₁) (subst (λ s. After M T s s₃) (sym e₂) (subst (λ s. After M T T′ s) (sym e₃) (f b₀ M))) in
-      g _ _ E₁ _ _ E₂ _ _ E₃ room
-  every-three f log b (entered (entered (entered (entered h E₁) E₂) E₃) E₄) room e = absurd (omega (arith, ap length e))
-
-pub all-registered : (k : ℕ) → 56 ≤ k → (log : List (List ℕ × Option ℕ)) (b : Book) (E : Entries S log b) → length (b .area) ≡ k → map (λ e. e .0) log ≡ U ∷ T′ ∷ T ∷ [] → Registered ((U, accepted 2) ∷ (T′, accepted 1) ∷ (T, accepted 1) ∷ []) 56 3 (0 ∷ 2 ∷ 1 ∷ []) E
-unfolding made one two
-all-registered k h =
-    every-three k (λ log b E. Registered ((U, accepted 2) ∷ (T′, accepted 1) ∷ (T, accepted 1) ∷ []) 56 3 (0 ∷ 2 ∷ 1 ∷ []) E)
-    (λ b₀ M a₁ b₁ E₁ a₂ b₂ E₂ a₃ b₃ E₃ room. registered k (omega arith) M (omega (arith, area-kept E₁, area-kept E₂, area-kept E₃)) E₁ E₂ h E₃)
-
-pub third-refused : (k : ℕ) → 27 ≤ k → k < 56 → (log : List (List ℕ × Option ℕ)) (b : Book) (E : Entries S log b) → length (b .area) ≡ k → map (λ e. e .0) log ≡ U ∷ T′ ∷ T ∷ [] → Registered ((U, refused 8) ∷ (T′, accepted 1) ∷ (T, accepted 1) ∷ []) 27 2 (0 ∷ 2 ∷ []) E
-unfolding made one two
-third-refused k wide h =
-    every-three k (λ log b E. Registered ((U, refused 8) ∷ (T′, accepted 1) ∷ (T, accepted 1) ∷ []) 27 2 (0 ∷ 2 ∷ []) E)
-    (λ b₀ M a₁ b₁ E₁ a₂ b₂ E₂ a₃ b₃ E₃ room. refused-third k wide M (omega (arith, area-kept E₁, area-kept E₂, area-kept E₃)) E₁ E₂ h E₃)
+-- there is such a registry
+pub just-made : (k : ℕ) → 27 ≤ k → (b : Book) × (MadeWith S b × (length (b .area) ≡ k))
+just-made k wide = makes k S-alphabets (omega arith)

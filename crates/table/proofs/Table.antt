@@ -26,9 +26,10 @@ use Rattle.canonical.proofs.Laws.{clean-accepted}
 use Rattle.canonical.proofs.SampleM.{M-cleans, M-trims}
 use Rattle.canonical.proofs.SampleTrimmed.{T′-trims, U-trims}
 use Rattle.canonical.proofs.Samples.{leaf-cleans, T-cleans, T-marks, T′-cleans, U-cleans}
+use Rattle.registry.specs.Questions.{entry, commit, question}
 use Rattle.table.specs.Table.{Row, translates, fits, not-linear, prefix, cleans, normal, earliest, registers, Clean, Says, rows}
 use Rattle.table.proofs.Differences.{T-U-differ}
-use Rattle.table.proofs.Registers.{possible, possible-short, all-registered, third-refused}
+use Rattle.table.proofs.Registers.{just-made, entries-with-room, entries-without-room, questions-with-room, questions-without-room}
 
 -- ---- what shows a row
 module _ {stock sheet : List ℕ} where
@@ -71,11 +72,18 @@ T-calls-twice : Says (not-linear S T)
 unfolding Holds
 T-calls-twice = ((S-alphabets, (sheet-counted T-sheet, ((1, (T-machine, T-sheet)), tt))), T-not-linear)
 
-T-T′-U-registered : Says (registers S 60 ((U, accepted 2) ∷ (T′, accepted 1) ∷ (T, accepted 1) ∷ []) 56 3 (0 ∷ 2 ∷ 1 ∷ []))
-T-T′-U-registered = record { one = possible 60 (omega arith); every = all-registered 60 (omega arith) }
+-- T, T' and U entered, and asked about first, with room for U and without
+entered-60 : Says (registers S 60 ((entry T, accepted 1) ∷ (entry T′, accepted 1) ∷ (entry U, accepted 2) ∷ []) 56 3 (0 ∷ 2 ∷ 1 ∷ []))
+entered-60 = record { made = just-made 60 (omega arith); every = λ b M e. entries-with-room (omega arith) M e (omega arith) }
 
-U-without-room : Says (registers S 55 ((U, refused 8) ∷ (T′, accepted 1) ∷ (T, accepted 1) ∷ []) 27 2 (0 ∷ 2 ∷ []))
-U-without-room = record { one = possible-short 55 (omega arith) (omega arith); every = third-refused 55 (omega arith) (omega arith) }
+entered-55 : Says (registers S 55 ((entry T, accepted 1) ∷ (entry T′, accepted 1) ∷ (entry U, refused 8) ∷ []) 27 2 (0 ∷ 2 ∷ []))
+entered-55 = record { made = just-made 55 (omega arith); every = λ b M e. entries-without-room (omega arith) M e (omega arith) }
+
+asked-60 : Says (registers S 60 ((question T, accepted 1) ∷ (entry T, accepted 1) ∷ (question T′, accepted 1) ∷ (question U, accepted 2) ∷ (commit U 1, refused 13) ∷ (commit U 2, accepted 2) ∷ []) 56 2 (0 ∷ 1 ∷ 1 ∷ []))
+asked-60 = record { made = just-made 60 (omega arith); every = λ b M e. questions-with-room (omega arith) M e (omega arith) }
+
+asked-55 : Says (registers S 55 ((entry T, accepted 1) ∷ (question U, refused 8) ∷ (commit U 2, refused 8) ∷ (commit U 1, refused 8) ∷ []) 27 1 (0 ∷ 1 ∷ []))
+asked-55 = record { made = just-made 55 (omega arith); every = λ b M e. questions-without-room (omega arith) M e (omega arith) }
 
 -- ---- every row
 data All : List Row → Type 0 where
@@ -102,8 +110,10 @@ all-rows =
     also form-is (clean-self leaf-cleans refl) refl
     also form-has 1 (clean-self leaf-cleans refl) refl
     also T-calls-twice
-    also T-T′-U-registered
-    also U-without-room
+    also entered-60
+    also entered-55
+    also asked-60
+    also asked-55
     also no-more
 
 listed : {rs : List Row} {row : Row} → All rs → List·Memᴰ row rs → Says row

@@ -1,19 +1,17 @@
 -- The starred samples of document 01 as rows of one table: what a row may say, what that comes to by the definitions that the promises are made of, and the rows.
-use Prim.Native.Nat.{ℕ, _*_, _<_}
-use mathlib.Core.List.{List, [], _∷_, map}
-use mathlib.Core.Option.{Option}
+use Prim.Native.Nat.{ℕ, _*_, _≤_, _<_}
+use mathlib.Core.List.{List, [], _∷_}
 use mathlib.Core.Path.{_≡_}
 use lib.ListN.{length, getD}
 use Rattle.theory.specs.Pref.{IsPref}
 use Rattle.theory.specs.Prefix.{Pattern}
-use Rattle.theory.specs.Registry.{begun, entered}
 use Rattle.theory.specs.Term.{Tree}
 use Rattle.theory.specs.Transducer.{Transducer}
 use Rattle.trees.specs.Alphabets.{Alphabets, Leaf, inputs, outputs, alphabetCheck}
 use Rattle.trees.specs.Code.{code}
 use Rattle.trees.specs.Refusal.{Outcome, accepted, refused, done, Holds}
 use Rattle.formats.specs.Samples.{S, T, T′, U, U-clean, leaf-file, pairs, M, M-pref, M-clean}
-use Rattle.formats.specs.Sheet.{Sheet, file, sheetCheck}
+use Rattle.formats.specs.Sheet.{longest, Sheet, file, sheetCheck}
 use Rattle.trees.specs.Tree.{treeCheck}
 use Rattle.transducer.specs.Answers.{translated, roomCheck, levelsCheck, Translates}
 use Rattle.transducer.specs.declared.translate.Translation.{Translation}
@@ -23,9 +21,12 @@ use Rattle.forms.specs.Alphabet.{alphabet}
 use Rattle.earliest.specs.Answers.{EarliestFile, formCheck}
 use Rattle.canonical.specs.Answers.{NormalFile}
 use Rattle.witness.specs.Difference.{Difference}
-use Rattle.records.specs.Answers.{numberOf}
+use Rattle.records.specs.Answers.{numberOf, Enters, replyOf, Questions, Commits}
 use Rattle.records.specs.Book.{answersOf, recordAt}
-use Rattle.registry.specs.Calls.{Book, Entries}
+use Rattle.records.specs.declared.book.Entered.{Entered}
+use Rattle.records.specs.declared.book.Reply.{Reply}
+use Rattle.registry.specs.Calls.{Book, MadeWith}
+use Rattle.registry.specs.Questions.{Call, entry, commit, question}
 
 -- ---- what a row may say
 pub data Row : Type 0 where
@@ -47,8 +48,8 @@ pub data Row : Type 0 where
   earliest : (stock sheet : List ℕ) (states : ℕ) → Row
   -- on the design the transducers of the two sheets give trees with the unlike symbols b and b′ at the address (01: place)
   differ : (stock first second design place : List ℕ) (b b′ : ℕ) → Row
-  -- in a registry (01: book) with an area of `room` bytes entries of these files, the last first, are answered so; then so many bytes are used and entries answered, and the records from 0 on have these counts, the others 0
-  registers : (stock : List ℕ) (room : ℕ) (answers : List (List ℕ × Outcome ℕ)) (used answered : ℕ) (counts : List ℕ) → Row
+  -- in a registry (01: book) just made, with an area of `room` bytes, these calls, the first first, are answered so; then so many bytes are used and entries and commits answered, and the records from 0 on have these counts, the others 0
+  registers : (stock : List ℕ) (room : ℕ) (calls : List (Call × Outcome ℕ)) (used answered : ℕ) (counts : List ℕ) → Row
 
 -- ---- what that comes to
 pub record DifferOn (stock first second design place : List ℕ) (b b′ : ℕ) : Type 0 where
@@ -62,22 +63,41 @@ pub record DifferOn (stock first second design place : List ℕ) (b b′ : ℕ) 
   pub coded : code shown ≡ design
   pub difference : Difference (inputs stock) (outputs stock) machine machine′ shown place b b′
 
--- the files of a list of entries and what was answered, the last first
-unfoldable pub outcomes : {stock : List ℕ} {log : List (List ℕ × Option ℕ)} {b : Book} → Entries stock log b → List (List ℕ × Outcome ℕ)
-outcomes (begun M) = []
-outcomes (entered {t} E call) = (t, numberOf (call .answer)) ∷ outcomes E
+-- the number that a question answers
+abbrev pub numberIn : Outcome (ℕ × ℕ) → Outcome ℕ
+numberIn (accepted v) = accepted (v .0)
+numberIn (refused k) = refused k
 
--- the entries were answered so, and the registry b that they left has so many bytes used, entries answered, and these counts
-pub record Registered {stock : List ℕ} {log : List (List ℕ × Option ℕ)} {b : Book} (answers : List (List ℕ × Outcome ℕ)) (used answered : ℕ) (counts : List ℕ) (E : Entries stock log b) : Type 0 where
-  pub answers-are : outcomes E ≡ answers
+-- a question of the file s, lent b and an area that is long enough, is answered so
+pub record Looks (b : Book) (s : List ℕ) (o : Outcome ℕ) : Type 0 where
+  pub before : List ℕ
+  pub after : List ℕ
+  pub answer : Reply
+  pub long : longest ≤ length before
+  pub call : Questions s (b .head) (b .records) (b .area) before after answer
+  pub told : numberIn (replyOf answer) ≡ o
+
+-- a call, lent b, is answered so and leaves b′
+abbrev pub Runs : Book → Call → Outcome ℕ → Book → Type 0
+Runs b (entry s) o b′ = (r : Entered) × (Enters s (b .head) (b .records) (b .area) (b′ .head) (b′ .records) (b′ .area) r × (numberOf r ≡ o))
+Runs b (commit s m) o b′ = (r : Entered) × (Commits s m (b .head) (b .records) (b .area) (b′ .head) (b′ .records) (b′ .area) r × (numberOf r ≡ o))
+Runs b (question s) o b′ = Looks b s o × (b′ ≡ b)
+
+-- from b on there are these calls, the first first, each lent what the call before it left, and every one is answered so; of what they leave End holds
+pub data AllRun (End : Book → Type 0) : List (Call × Outcome ℕ) → Book → Type 0 where
+  left : {b : Book} → End b → AllRun End [] b
+  next : {b : Book} {c : Call} {o : Outcome ℕ} {calls : List (Call × Outcome ℕ)} → (b′ : Book) × Runs b c o b′ → ((a : Outcome ℕ) (b′ : Book) → Runs b c a b′ → a ≡ o) → ((a : Outcome ℕ) (b′ : Book) → Runs b c a b′ → AllRun End calls b′) → AllRun End ((c, o) ∷ calls) b
+
+-- a registry with so many bytes used, answers and these counts
+pub record Leaves (used answered : ℕ) (counts : List ℕ) (b : Book) : Type 0 where
   pub used-are : b .head .used ≡ used
   pub answered-are : answersOf (b .head) ≡ answered
   pub counts-are : (n : ℕ) → n < 33 → recordAt (b .records) n .count ≡ getD counts n 0
 
--- there is a list of entries of these files into such a registry, and every one is answered so
-pub record Registers (stock : List ℕ) (room : ℕ) (answers : List (List ℕ × Outcome ℕ)) (used answered : ℕ) (counts : List ℕ) : Type 0 where
-  pub one : (log : List (List ℕ × Option ℕ)) × ((b : Book) × (Entries stock log b × (length (b .area) ≡ room) × (map (λ e. e .0) log ≡ map (λ e. e .0) answers)))
-  pub every : (log : List (List ℕ × Option ℕ)) (b : Book) (E : Entries stock log b) → length (b .area) ≡ room → map (λ e. e .0) log ≡ map (λ e. e .0) answers → Registered answers used answered counts E
+-- a registry with an area of `room` bytes can be made, and from every one on it goes so
+pub record Registers (stock : List ℕ) (room : ℕ) (End : Book → Type 0) (calls : List (Call × Outcome ℕ)) : Type 0 where
+  pub made : (b : Book) × (MadeWith stock b × (length (b .area) ≡ room))
+  pub every : (b : Book) → MadeWith stock b → length (b .area) ≡ room → AllRun End calls b
 
 -- whatever area of k bytes is lent, a translation that keeps its promise is accepted
 pub record Fits (stock sheet design : List ℕ) (k : ℕ) : Type 0 where
@@ -99,7 +119,7 @@ Says (cleans stock sheet clean) = (k : ℕ) × ((counts : List ℕ) × ((bytes :
 Says (normal stock sheet states marks) = (counts : List ℕ) × ((bytes : List ℕ) × (Clean stock sheet states counts bytes × (length bytes ≡ 2 * marks)))
 Says (earliest stock sheet states) = (counts : List ℕ) × ((bytes : List ℕ) × EarliestFile stock sheet states counts bytes)
 Says (differ stock first second design place b b′) = DifferOn stock first second design place b b′
-Says (registers stock room answers used answered counts) = Registers stock room answers used answered counts
+Says (registers stock room calls used answered counts) = Registers stock room (Leaves used answered counts) calls
 
 -- ---- the rows
 abbrev pub rows : List Row
@@ -121,6 +141,8 @@ rows =
     ∷ cleans S leaf-file leaf-file
     ∷ normal S leaf-file 0 1
     ∷ not-linear S T
-    ∷ registers S 60 ((U, accepted 2) ∷ (T′, accepted 1) ∷ (T, accepted 1) ∷ []) 56 3 (0 ∷ 2 ∷ 1 ∷ [])
-    ∷ registers S 55 ((U, refused 8) ∷ (T′, accepted 1) ∷ (T, accepted 1) ∷ []) 27 2 (0 ∷ 2 ∷ [])
+    ∷ registers S 60 ((entry T, accepted 1) ∷ (entry T′, accepted 1) ∷ (entry U, accepted 2) ∷ []) 56 3 (0 ∷ 2 ∷ 1 ∷ [])
+    ∷ registers S 55 ((entry T, accepted 1) ∷ (entry T′, accepted 1) ∷ (entry U, refused 8) ∷ []) 27 2 (0 ∷ 2 ∷ [])
+    ∷ registers S 60 ((question T, accepted 1) ∷ (entry T, accepted 1) ∷ (question T′, accepted 1) ∷ (question U, accepted 2) ∷ (commit U 1, refused 13) ∷ (commit U 2, accepted 2) ∷ []) 56 2 (0 ∷ 1 ∷ 1 ∷ [])
+    ∷ registers S 55 ((entry T, accepted 1) ∷ (question U, refused 8) ∷ (commit U 2, refused 8) ∷ (commit U 1, refused 8) ∷ []) 27 1 (0 ∷ 1 ∷ [])
     ∷ []
