@@ -143,18 +143,28 @@ pub fn question(arguments: &Arguments) -> Result<Status, Failure> {
     let registry = read(path_of(&arguments.plain[0])?)?;
     let stock = stock_in(&registry);
     let mut inputs = Inputs::default();
-    let ask =
-        |sheet: &Sheet| registry.question(&sheet.transducer).map_err(|refusal| not_entered(&registry, sheet, refusal));
-    let [sheet] = sheets else {
-        let sheets = sheets.iter().map(|sheet| inputs.sheet(sheet, &stock));
-        let number = |sheet: &Sheet| ask(sheet).map(|(number, _)| number);
-        return tell_all(sheets.map(|sheet| line_of(sheet?, number)));
-    };
-    let (number, form) = ask(&inputs.sheet(sheet, &stock)?)?;
-    if out.is_some() {
-        Content::numbered(&form, &stock.names).write(out, bytes)?;
+    match sheets {
+        [sheet] => {
+            let (number, form) = ask(&registry, &inputs.sheet(sheet, &stock)?)?;
+            tell_one(number, Content::numbered(&form, &stock.names), out, bytes)
+        }
+        many => {
+            let number = |sheet: &Sheet| ask(&registry, sheet).map(|(number, _)| number);
+            tell_all(many.iter().map(|sheet| line_of(inputs.sheet(sheet, &stock)?, number)))
+        }
     }
-    // there the clean sheet stands alone
+}
+
+/// The number that a sheet would get, and its clean sheet.
+fn ask(registry: &Registry, sheet: &Sheet) -> Result<(usize, Transducer), Failure> {
+    registry.question(&sheet.transducer).map_err(|refusal| not_entered(registry, sheet, refusal))
+}
+
+/// Writes a clean sheet, if it is to be written, and then prints its number; on standard output the sheet stands alone.
+fn tell_one(number: usize, sheet: Content, out: Option<&OsStr>, bytes: bool) -> Result<Status, Failure> {
+    if out.is_some() {
+        sheet.write(out, bytes)?;
+    }
     if !out.is_some_and(|out| is_standard_output(Path::new(out))) {
         print(&format!("{number}\n"))?;
     }
