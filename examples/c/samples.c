@@ -1083,7 +1083,7 @@ static void asked_with_room(size_t length)
     struct bytes clean_u = keep(answer);
     struct book book = asked_book(length), expected = book;
     check_in(length, "asking for U: 2 and the clean U", asks(&book, U, 2, clean_u));
-    check_in(length, "row 13: U with 1", refuses_commit(book, CAPLUNE_RECORDS, U, 1, CAPLUNE_OTHER_NUMBER));
+    check_in(length, "U with 1: 13", refuses_commit(book, CAPLUNE_RECORDS, U, 1, CAPLUNE_OTHER_NUMBER));
     check_in(length, "U with another number: 13", refuses_other_claims(book, U, 2, CAPLUNE_OTHER_NUMBER));
     expect(&expected, 2, clean_u);
     expect_answer(&expected, 2);
@@ -1105,6 +1105,8 @@ static void asked_without_room(size_t length)
 static void numbers_taken(void)
 {
     struct book book = expected_book(60, S), expected = book;
+    check("row 13: 0 0 1 0 1 with 2 into a new book",
+          refuses_commit(book, CAPLUNE_RECORDS, CONSTANT, 2, CAPLUNE_OTHER_NUMBER));
     check("asking for U: 1", question(&book, CAPLUNE_RECORDS, U, CAPLUNE_LONGEST_SHEET).numbers[0] == 1);
     check("a refused entry between", refuses_entry(book, CAPLUNE_RECORDS, NO_BODY, CAPLUNE_BAD_BODY));
     check("a refused commit between", refuses_commit(book, CAPLUNE_RECORDS, T, 2, CAPLUNE_OTHER_NUMBER));
