@@ -1101,21 +1101,28 @@ static void asked_without_room(size_t length)
              refuses_other_claims(book, U, 2, CAPLUNE_FULL_REGISTRY));
 }
 
-/* An entry between a question and its commit, and calls that change nothing. */
+/* An entry between a question and its commit, and calls that change nothing. At last with a record more, which stays. */
 static void numbers_taken(void)
 {
+    struct answer answer = clean(S, U, CAPLUNE_LONGEST_SHEET);
+    struct bytes clean_u = keep(answer);
     struct book book = expected_book(60, S), expected = book;
     check("row 13: 0 0 1 0 1 with 2 into a new book",
           refuses_commit(book, CAPLUNE_RECORDS, CONSTANT, 2, CAPLUNE_OTHER_NUMBER));
-    check("asking for U: 1", question(&book, CAPLUNE_RECORDS, U, CAPLUNE_LONGEST_SHEET).numbers[0] == 1);
+    check("asking for U: 1", asks(&book, U, 1, clean_u));
     check("a refused entry between", refuses_entry(book, CAPLUNE_RECORDS, NO_BODY, CAPLUNE_BAD_BODY));
     check("a refused commit between", refuses_commit(book, CAPLUNE_RECORDS, T, 2, CAPLUNE_OTHER_NUMBER));
     expect(&expected, 1, T);
     expect_answer(&expected, 1);
     check("T is entered between and gets 1", enters(&book, T, 1, &expected));
     check("U with the number that T has: 13", refuses_commit(book, CAPLUNE_RECORDS, U, 1, CAPLUNE_OTHER_NUMBER));
-    check("asking for U again: 2", question(&book, CAPLUNE_RECORDS, U, CAPLUNE_LONGEST_SHEET).numbers[0] == 2);
-    check("U with 2", commit(&book, CAPLUNE_RECORDS, U, 2).refusal == CAPLUNE_OK && book.head.held == 2);
+    check("asking for U again, of 34 records: 2",
+          writes(clean_u, question(&book, CAPLUNE_RECORDS + 1, U, CAPLUNE_LONGEST_SHEET), NUMBERS(2, 29)) &&
+              same(&book, &expected));
+    expect(&expected, 2, clean_u);
+    expect_answer(&expected, 2);
+    check("U with 2, of 34 records",
+          gives(commit(&book, CAPLUNE_RECORDS + 1, U, 2), NUMBERS(2)) && same(&book, &expected));
 }
 
 /* What is refused, and in which order. */

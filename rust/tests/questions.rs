@@ -378,21 +378,22 @@ impl List {
     fn commit_standing(&mut self, random: &mut Random, tally: &mut Tally, seen: &mut BTreeMap<&'static str, usize>) {
         let Some((which, number)) = self.standing else { return };
         let before = self.memory.head.held;
+        let other = random.below(self.files.len());
         if random.once_in(2) {
-            let other = random.below(self.files.len());
             self.enter(tally, other);
         }
-        let idle = self.standing.is_some();
-        let answer = commit(tally, &mut self.memory, &self.files[which], number);
-        self.answered(which, answer);
-        let name = match answer {
-            Ok(_) if idle => "standing questions committed",
-            Ok(_) => "questions committed behind an entry",
-            Err(_) => "numbers taken by an entry",
+        // one that is new got the next number, which was the answer for another new one
+        let taken = self.memory.head.held > before && number > before && !self.alike(which, other);
+        let name = match self.standing {
+            Some(_) => "standing questions committed",
+            None if taken => "numbers taken by an entry",
+            None => "questions committed behind an entry",
         };
         *seen.entry(name).or_default() += 1;
-        let taken = !idle && number > before && !self.alike(which, self.accepted[self.accepted.len() - 1].0);
-        assert!(answer == Ok(number) && !taken || taken && matches!(answer, Err(8 | 13)), "{answer:?} {number}");
+        let answer = commit(tally, &mut self.memory, &self.files[which], number);
+        self.answered(which, answer);
+        let fits = if taken { matches!(answer, Err(8 | 13)) } else { answer == Ok(number) };
+        assert!(fits, "{answer:?} {number} {name}");
     }
 
     /// Whether two files sew alike, by the comparison.
