@@ -1101,7 +1101,7 @@ static void asked_without_room(size_t length)
              refuses_other_claims(book, U, 2, CAPLUNE_FULL_REGISTRY));
 }
 
-/* An entry between a question and its commit, and calls that change nothing. At last with a record more, which stays. */
+/* An entry between a question and its commit, and calls that change nothing; last with a record more, which stays. */
 static void numbers_taken(void)
 {
     struct answer answer = clean(S, U, CAPLUNE_LONGEST_SHEET);
