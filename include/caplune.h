@@ -84,6 +84,8 @@ enum caplune_refusal {
     CAPLUNE_BAD_OUTPUT = 11,
     /* The target area is shorter than the result. */
     CAPLUNE_SHORT_TARGET = 12,
+    /* An entry of the transducer would get another number than the commit claims. */
+    CAPLUNE_OTHER_NUMBER = 13,
     /* The output symbols of the first transducer are not the input symbols of the second. */
     CAPLUNE_OTHER_ALPHABET = 16,
     /* The joined transducer is over the limits of a transducer. */
@@ -264,6 +266,34 @@ uint32_t caplune_make_registry(struct caplune_head *head, struct caplune_record 
  */
 uint32_t caplune_enter(struct caplune_head *head, struct caplune_record *records, size_t records_length, uint8_t *area,
                        size_t area_length, const uint8_t *file, size_t file_length, size_t *number);
+
+/*
+ * Asks which number an entry of a transducer would get (the paper: looks before entering). The registry is only read;
+ * here `out` is the area.
+ * Writes that number, as caplune_enter would write it, to `number`, the normal form of the transducer to the start of
+ * `out`, and how many bytes this has to `size`. Nothing is counted.
+ * Refuses by 1 where `out` is under CAPLUNE_LONGEST_SHEET, then as caplune_enter would the entry: by 9, also where
+ * `answered` is UINT64_MAX, then by 4, 5 and 7, then by 8 for a normal form that is not held and has no record or no
+ * room; all then is as it was, `out` too.
+ */
+uint32_t caplune_question(const struct caplune_head *head, const struct caplune_record *records, size_t records_length,
+                          const uint8_t *area, size_t area_length, const uint8_t *file, size_t file_length,
+                          uint8_t *out, size_t out_length, size_t *number, size_t *size);
+
+/*
+ * Commits a transducer to a registry under the number that a question answered, its claim: does what caplune_enter
+ * does, if the entry gets just this number. Lend head, records and area as the call before it left them; the normal
+ * form that the question wrote is not needed. After a question that was answered, and where only questions and refused
+ * calls came between and nobody else wrote the registry, a commit of the same file with the number of the answer is
+ * accepted with it.
+ * Writes that number to `number`, adds and counts as caplune_enter does. Any two entries or commits that are accepted
+ * get one number exactly if their transducers are equivalent.
+ * Refuses by 9, 4, 5, 7 and 8 as caplune_enter does, whatever the claim, and last by 13 where the entry would get
+ * another number than `claim`, which may be any number; all then is as it was.
+ */
+uint32_t caplune_commit(struct caplune_head *head, struct caplune_record *records, size_t records_length,
+                        uint8_t *area, size_t area_length, const uint8_t *file, size_t file_length, size_t claim,
+                        size_t *number);
 
 /*
  * Finds the normal form of this number in a registry (the paper: the body of a sheet in a book).

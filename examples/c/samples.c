@@ -839,6 +839,26 @@ static struct answer enter(struct book *book, size_t records, struct bytes file)
     return answer;
 }
 
+/* The number and the size that caplune_question gives; the file goes to the area, of this length. */
+static struct answer question(const struct book *book, size_t records, struct bytes file, size_t length)
+{
+    struct answer answer = no_answer();
+    lend(length, 0);
+    answer.refusal = caplune_question(&book->head, book->records, records, book->all + AROUND, book->length, file.at,
+                                      file.length, start_of(&area), area.length, &answer.numbers[0],
+                                      &answer.numbers[1]);
+    return answer;
+}
+
+static struct answer commit(struct book *book, size_t records, struct bytes file, size_t claim)
+{
+    struct answer answer = no_answer();
+    lend(0, 0);
+    answer.refusal = caplune_commit(&book->head, book->records, records, book->all + AROUND, book->length, file.at,
+                                    file.length, claim, &answer.numbers[0]);
+    return answer;
+}
+
 /* The size and the start that caplune_body gives; it returns no refusal. */
 static struct answer body(const struct book *book, size_t records, size_t number)
 {
@@ -863,6 +883,20 @@ static bool enters(struct book *book, struct bytes file, size_t number, const st
     return gives(enter(book, CAPLUNE_RECORDS, file), NUMBERS(number)) && same(book, expected);
 }
 
+/* Whether a question is answered with `number` and the normal form `form`, and leaves the book. */
+static bool asks(const struct book *book, struct bytes file, size_t number, struct bytes form)
+{
+    struct book before = *book;
+    return writes(form, question(book, CAPLUNE_RECORDS, file, CAPLUNE_LONGEST_SHEET), NUMBERS(number, form.length)) &&
+           same(book, &before);
+}
+
+/* Whether this commit is accepted with its claim, and leaves `expected`. */
+static bool commits(struct book *book, struct bytes file, size_t claim, const struct book *expected)
+{
+    return gives(commit(book, CAPLUNE_RECORDS, file, claim), NUMBERS(claim)) && same(book, expected);
+}
+
 /* Whether making is refused by this number, and leaves all. */
 static bool refuses_making(size_t length, size_t records, struct bytes stock, uint32_t refusal)
 {
@@ -877,11 +911,53 @@ static bool refuses_entry(struct book book, size_t records, struct bytes file, u
     return refuses(enter(&book, records, file), refusal) && same(&book, &before);
 }
 
+/* Whether a question with an area of this length is refused by this number, and leaves all. */
+static bool refuses_question(struct book book, size_t records, struct bytes file, size_t length, uint32_t refusal)
+{
+    struct book before = book;
+    return refuses(question(&book, records, file, length), refusal) && same(&book, &before);
+}
+
+/* Whether a commit is refused by this number, and leaves all. */
+static bool refuses_commit(struct book book, size_t records, struct bytes file, size_t claim, uint32_t refusal)
+{
+    struct book before = book;
+    return refuses(commit(&book, records, file, claim), refusal) && same(&book, &before);
+}
+
+/* Claims that are no number of a book, and such as are `number` in fewer bits. */
+static const size_t other_claims[] = {0, 33, 255, SIZE_MAX - 1, SIZE_MAX};
+static const unsigned bits[] = {8, 16, sizeof(size_t) * 4, sizeof(size_t) * 8 - 1};
+
+/* Whether commits of this file with all claims but `number` are refused by this number, and leave all. */
+static bool refuses_other_claims(struct book book, struct bytes file, size_t number, uint32_t refusal)
+{
+    bool refused = true;
+    for (size_t index = 0; index < sizeof other_claims / sizeof *other_claims; index++)
+        refused = refuses_commit(book, CAPLUNE_RECORDS, file, other_claims[index], refusal) && refused;
+    for (size_t index = 0; index < sizeof bits / sizeof *bits; index++)
+        refused =
+            refuses_commit(book, CAPLUNE_RECORDS, file, number + ((size_t)1 << bits[index]), refusal) && refused;
+    for (size_t claim = 1; claim <= CAPLUNE_RECORDS; claim++)
+        refused = (claim == number || refuses_commit(book, CAPLUNE_RECORDS, file, claim, refusal)) && refused;
+    return refused;
+}
+
+/* Whether a question of this file and its commits, with any claim, are refused by this number, and leave all. */
+static bool refuses_asking(struct book book, size_t records, struct bytes file, uint32_t refusal)
+{
+    return refuses_question(book, records, file, CAPLUNE_LONGEST_SHEET, refusal) &&
+           refuses_commit(book, records, file, 1, refusal) && refuses_commit(book, records, file, 2, refusal) &&
+           refuses_commit(book, records, file, 0, refusal) && refuses_commit(book, records, file, SIZE_MAX, refusal);
+}
+
 /* Whether a book with wrong counts is refused by 9, before 4, and leaves all, and its bodies are empty. */
 static bool refuses_counts(struct book book)
 {
     return refuses_entry(book, CAPLUNE_RECORDS, T, CAPLUNE_BAD_REGISTRY) &&
            refuses_entry(book, CAPLUNE_RECORDS, NO_CONTENTS, CAPLUNE_BAD_REGISTRY) &&
+           refuses_asking(book, CAPLUNE_RECORDS, T, CAPLUNE_BAD_REGISTRY) &&
+           refuses_asking(book, CAPLUNE_RECORDS, NO_CONTENTS, CAPLUNE_BAD_REGISTRY) &&
            gives(body(&book, CAPLUNE_RECORDS, 1), NUMBERS(0, 0)) &&
            gives(body(&book, CAPLUNE_RECORDS, 2), NUMBERS(0, 0));
 }
@@ -968,6 +1044,118 @@ static void books(void)
     check("a body of a head saying 33 sheets is empty", gives(body(&book, CAPLUNE_RECORDS, 1), NUMBERS(0, 0)));
 }
 
+/* A sample of a book of this length. */
+static void check_in(size_t length, const char *name, bool holds)
+{
+    char whole[100];
+    snprintf(whole, sizeof whole, "book of area %zu: %s", length, name);
+    check(whole, holds);
+}
+
+/* The book of this length in which T and T' were asked for and then committed. */
+static struct book asked_book(size_t length)
+{
+    const size_t enough = CAPLUNE_LONGEST_SHEET, records = CAPLUNE_RECORDS;
+    struct book book = expected_book(length, S), expected = book;
+    check_in(length, "asking for T: 1", asks(&book, T, 1, T));
+    check_in(length, "asking for T': 1 and T", asks(&book, T_PRIME, 1, T));
+    check_in(length, "asking in a longer area",
+             writes(T, question(&book, records, T_PRIME, enough + 1), NUMBERS(1, 21)) && same(&book, &expected));
+    check_in(length, "row 1: asking in an area of 20,482",
+             refuses_question(book, records, T, enough - 1, CAPLUNE_SHORT_AREA));
+    check_in(length, "asking in no area: 1", refuses_question(book, records, T, 0, CAPLUNE_SHORT_AREA));
+    check_in(length, "T with another number: 13", refuses_other_claims(book, T, 1, CAPLUNE_OTHER_NUMBER));
+    expect(&expected, 1, T);
+    expect_answer(&expected, 1);
+    check_in(length, "T with 1", commits(&book, T, 1, &expected));
+    check_in(length, "asking for T' that is held: 1 and T", asks(&book, T_PRIME, 1, T));
+    check_in(length, "T' that is held with another number: 13",
+             refuses_other_claims(book, T_PRIME, 1, CAPLUNE_OTHER_NUMBER));
+    expect_answer(&expected, 1);
+    check_in(length, "T' with 1", commits(&book, T_PRIME, 1, &expected));
+    return book;
+}
+
+/* And then U, for which there is room. */
+static void asked_with_room(size_t length)
+{
+    struct answer answer = clean(S, U, CAPLUNE_LONGEST_SHEET);
+    struct bytes clean_u = keep(answer);
+    struct book book = asked_book(length), expected = book;
+    check_in(length, "asking for U: 2 and the clean U", asks(&book, U, 2, clean_u));
+    check_in(length, "U with 1: 13", refuses_commit(book, CAPLUNE_RECORDS, U, 1, CAPLUNE_OTHER_NUMBER));
+    check_in(length, "U with another number: 13", refuses_other_claims(book, U, 2, CAPLUNE_OTHER_NUMBER));
+    expect(&expected, 2, clean_u);
+    expect_answer(&expected, 2);
+    check_in(length, "U with 2", commits(&book, U, 2, &expected));
+    check_in(length, "56 bytes used, 3 answered", book.head.used == 56 && book.head.answered == 3);
+}
+
+/* And then U, for which there is none. */
+static void asked_without_room(size_t length)
+{
+    struct book book = asked_book(length);
+    check_in(length, "asking for U: 8", refuses_asking(book, CAPLUNE_RECORDS, U, CAPLUNE_FULL_REGISTRY));
+    check_in(length, "U with 2: 8", refuses_commit(book, CAPLUNE_RECORDS, U, 2, CAPLUNE_FULL_REGISTRY));
+    check_in(length, "U with another number: 8 before 13",
+             refuses_other_claims(book, U, 2, CAPLUNE_FULL_REGISTRY));
+}
+
+/* An entry between a question and its commit, and calls that change nothing; last with a record more, which stays. */
+static void numbers_taken(void)
+{
+    struct answer answer = clean(S, U, CAPLUNE_LONGEST_SHEET);
+    struct bytes clean_u = keep(answer);
+    struct book book = expected_book(60, S), expected = book;
+    check("row 13: 0 0 1 0 1 with 2 into a new book",
+          refuses_commit(book, CAPLUNE_RECORDS, CONSTANT, 2, CAPLUNE_OTHER_NUMBER));
+    check("asking for U: 1", asks(&book, U, 1, clean_u));
+    check("a refused entry between", refuses_entry(book, CAPLUNE_RECORDS, NO_BODY, CAPLUNE_BAD_BODY));
+    check("a refused commit between", refuses_commit(book, CAPLUNE_RECORDS, T, 2, CAPLUNE_OTHER_NUMBER));
+    expect(&expected, 1, T);
+    expect_answer(&expected, 1);
+    check("T is entered between and gets 1", enters(&book, T, 1, &expected));
+    check("U with the number that T has: 13", refuses_commit(book, CAPLUNE_RECORDS, U, 1, CAPLUNE_OTHER_NUMBER));
+    check("asking for U again, of 34 records: 2",
+          writes(clean_u, question(&book, CAPLUNE_RECORDS + 1, U, CAPLUNE_LONGEST_SHEET), NUMBERS(2, 29)) &&
+              same(&book, &expected));
+    expect(&expected, 2, clean_u);
+    expect_answer(&expected, 2);
+    check("U with 2, of 34 records",
+          gives(commit(&book, CAPLUNE_RECORDS + 1, U, 2), NUMBERS(2)) && same(&book, &expected));
+}
+
+/* What is refused, and in which order. */
+static void refused_asking(void)
+{
+    struct book book = expected_book(26, S), bad = book;
+    const size_t enough = CAPLUNE_LONGEST_SHEET, records = CAPLUNE_RECORDS;
+    bad.head.held = 33;
+    check("asking: 1 before 9", refuses_question(bad, records, T, enough - 1, CAPLUNE_SHORT_AREA));
+    check("asking and committing: 9 before 4", refuses_asking(bad, records, NO_CONTENTS, CAPLUNE_BAD_REGISTRY));
+    check("asking and committing with 32 records: 9", refuses_asking(book, records - 1, T, CAPLUNE_BAD_REGISTRY));
+    check("asking and committing: 4", refuses_asking(book, records, NO_CONTENTS, CAPLUNE_BAD_CONTENTS));
+    check("asking and committing: 5", refuses_asking(book, records, NO_BODY, CAPLUNE_BAD_BODY));
+    check("asking and committing: 7 before 8", refuses_asking(book, records, open_ends(17), CAPLUNE_OVER_LIMITS));
+    check("asking and committing, area 26: 8", refuses_asking(book, records, T, CAPLUNE_FULL_REGISTRY));
+}
+
+/* Before the last answer that can be counted, and after it. */
+static void last_asked(void)
+{
+    struct book book = expected_book(55, S), expected;
+    expect(&book, 1, T);
+    book.head.answered = book.records[1].count = UINT64_MAX - 1;
+    check("asking before the last answer", asks(&book, T_PRIME, 1, T));
+    check("another number before the last answer: 13", refuses_other_claims(book, T, 1, CAPLUNE_OTHER_NUMBER));
+    expected = book;
+    expect_answer(&expected, 1);
+    check("the last commit that can be counted", commits(&book, T_PRIME, 1, &expected));
+    check("asking and committing after it: 9", refuses_asking(book, CAPLUNE_RECORDS, T, CAPLUNE_BAD_REGISTRY));
+    check("asking after it in an area of 20,482: 1",
+          refuses_question(book, CAPLUNE_RECORDS, T, CAPLUNE_LONGEST_SHEET - 1, CAPLUNE_SHORT_AREA));
+}
+
 static void short_books(void)
 {
     struct book book = book_of("making a book of area 55", 55, S), expected = expected_book(55, S);
@@ -992,6 +1180,20 @@ static void short_books(void)
     check("a body after it is empty", gives(body(&book, CAPLUNE_RECORDS, 1), NUMBERS(0, 0)));
 }
 
+/* A full book: what is held can be asked for and committed, and what is new is refused by 8 whatever its claim is. */
+static void full_book_asked(struct book book)
+{
+    struct bytes held = BYTES(0, 0, 1, 0, 32), new = BYTES(0, 0, 1, 0, 33);
+    struct book expected = book;
+    check("asking the full book for the 32nd: 32", asks(&book, held, 32, held));
+    check("the 32nd with another number: 13", refuses_other_claims(book, held, 32, CAPLUNE_OTHER_NUMBER));
+    check("asking the full book for another: 8", refuses_asking(book, CAPLUNE_RECORDS, new, CAPLUNE_FULL_REGISTRY));
+    check("another with 33: 8", refuses_commit(book, CAPLUNE_RECORDS, new, 33, CAPLUNE_FULL_REGISTRY));
+    check("another with any number: 8", refuses_other_claims(book, new, 33, CAPLUNE_FULL_REGISTRY));
+    expect_answer(&expected, 32);
+    check("the 32nd with 32", commits(&book, held, 32, &expected));
+}
+
 /* 32 initial terms of one output symbol each, and another one. */
 static void full_book(void)
 {
@@ -1009,6 +1211,7 @@ static void full_book(void)
           refuses_entry(book, CAPLUNE_RECORDS, BYTES(0, 0, 1, 0, 33), CAPLUNE_FULL_REGISTRY));
     expect_answer(&expected, 32);
     check("the 32nd once more gets 32", enters(&book, BYTES(0, 0, 1, 0, 32), 32, &expected));
+    full_book_asked(book);
     expected.records[1].count = expected.records[32].count = 0;
     expected.records[16].count += 3;
     book = expected;
@@ -1031,6 +1234,12 @@ int main(void)
     shorter_of_two();
     joining();
     books();
+    asked_with_room(60);
+    asked_with_room(56);
+    asked_without_room(55);
+    numbers_taken();
+    refused_asking();
+    last_asked();
     short_books();
     full_book();
     printf("%zu samples, %zu failed\n", samples, failures);

@@ -41,7 +41,7 @@ static const uint8_t unary_copy[] = {1, 0, 1, 0, 2, 0, 1, 1, 0, 0, 0, 1, 0, 0, 1
 /* An output tree of as many levels as symbols, and its XML. */
 static uint8_t plan[BLOCKS], xml[CAPLUNE_LONGEST_XML];
 
-static uint8_t area[65536], tree_area[CAPLUNE_DESIGN_AREA], address_area[CAPLUNE_PLACE_AREA];
+static uint8_t area[65536], tree_area[CAPLUNE_DESIGN_AREA], address_area[CAPLUNE_PLACE_AREA], book_area[65536];
 static struct caplune_head head;
 static struct caplune_record records[CAPLUNE_RECORDS];
 static size_t numbers[5];
@@ -117,17 +117,29 @@ static void shorter(void)
 
 static void make_registry(void)
 {
-    refused = caplune_make_registry(&head, records, CAPLUNE_RECORDS, area, sizeof area, stock, sizeof stock);
+    refused = caplune_make_registry(&head, records, CAPLUNE_RECORDS, book_area, sizeof book_area, stock, sizeof stock);
 }
 
 static void enter(void)
 {
-    refused = caplune_enter(&head, records, CAPLUNE_RECORDS, area, sizeof area, ring, ring_length, numbers);
+    refused = caplune_enter(&head, records, CAPLUNE_RECORDS, book_area, sizeof book_area, ring, ring_length, numbers);
+}
+
+static void question(void)
+{
+    refused = caplune_question(&head, records, CAPLUNE_RECORDS, book_area, sizeof book_area, ring, ring_length, area,
+                               sizeof area, numbers, numbers + 1);
+}
+
+static void commit(void)
+{
+    refused = caplune_commit(&head, records, CAPLUNE_RECORDS, book_area, sizeof book_area, ring, ring_length, 1,
+                             numbers);
 }
 
 static void body(void)
 {
-    refused = caplune_body(&head, records, CAPLUNE_RECORDS, area, sizeof area, 1, numbers) > 0 ? 0 : 99;
+    refused = caplune_body(&head, records, CAPLUNE_RECORDS, book_area, sizeof book_area, 1, numbers) > 0 ? 0 : 99;
 }
 
 static void write_codes(void)
@@ -212,7 +224,7 @@ int main(void)
         {"write_transducer", write_transducer}, {"is_linear", is_linear},
         {"translate", translate}, {"symbol_at", symbol_at}, {"join", join},
         {"earliest_form", earliest_form}, {"clean", clean}, {"compare", compare}, {"shorter", shorter},
-        {"make_registry", make_registry}, {"enter", enter}, {"body", body},
+        {"make_registry", make_registry}, {"question", question}, {"commit", commit}, {"enter", enter}, {"body", body},
         {"write_codes", write_codes}, {"write_xml", write_xml}, {"read_xml", read_xml},
     };
     memset(chain, 0, LEVELS);

@@ -58,8 +58,9 @@ fn main() {
     println!("tree of so many nodes and an address so deep. The size is that of both files.");
     comparing();
     println!();
-    println!("An entry minimizes the transducer and compares it with what is held. Both registries are as they");
-    println!("were before each call. The size is that of the file.");
+    println!("An entry minimizes the transducer and compares it with what is held. A question does the same and");
+    println!("writes the minimal one to an area; a commit is an entry with the number of the question. Both");
+    println!("registries are as they were before each call. The size is that of the file.");
     entering();
     println!();
     println!("A join reads two transducers and writes the second after the first. The size is that of both files.");
@@ -418,7 +419,7 @@ fn pairs() -> Vec<Pair> {
     ]
 }
 
-/// Entry into a registry.
+/// Entries into a registry, with their questions and commits.
 fn entering() {
     // u and e of ranks 1 and 0 to g, c, d of ranks 1, 0, 0; each state calls the next below g, and gives c
     // at e; the last gives d
@@ -441,7 +442,16 @@ fn entering() {
     entry("128 random states, held", &random.stock, std::slice::from_ref(&random.file), &random.file);
 }
 
-/// Prints a line for an entry into a registry of these transducers.
+/// A call of a registry that is timed.
+#[derive(Clone, Copy)]
+enum Call {
+    Enter,
+    Question,
+    Commit,
+}
+
+/// Prints a line each for an entry into a registry of these transducers, for its question, and for the commit with the
+/// number that this answers.
 fn entry(name: &str, stock: &[u8], held: &[Vec<u8>], file: &[u8]) {
     let (mut head, mut records, mut area) = (slices::Head::default(), [slices::Record::default(); 33], [1; 65_536]);
     slices::make_registry(&mut head, &mut records, &mut area, stock).expect("it is made");
@@ -451,29 +461,43 @@ fn entry(name: &str, stock: &[u8], held: &[Vec<u8>], file: &[u8]) {
     let mut other = independent::Head { held: head.held, used: head.used, answered: head.answered };
     let other_record = |slices::Record { start, size, count }| independent::Record { start, length: size, count };
     let mut others = records.map(other_record);
-    let mut other_area = area;
+    let (mut other_area, mut out, mut other_out) = (area, [1; independent::MAX_FILE], [1; independent::MAX_FILE]);
     let (before, other_before) = ((head, records), (other, others));
-    let mut proved = || {
+    let claim = slices::question(&head, &records, &area, file, &mut out).map_or(1, |asked| asked.number);
+    let mut proved = |call: Call| {
         (head, records) = before;
-        slices::enter(&mut head, &mut records, &mut area, black_box(file)).map_err(caplune::Refusal::number)
+        let answer = match call {
+            Call::Enter => slices::enter(&mut head, &mut records, &mut area, black_box(file)),
+            Call::Question => {
+                slices::question(&head, &records, &area, black_box(file), &mut out).map(|asked| asked.number)
+            }
+            Call::Commit => slices::commit(&mut head, &mut records, &mut area, black_box(file), black_box(claim)),
+        };
+        answer.map_err(caplune::Refusal::number)
     };
-    let mut independent = || {
+    let mut independent = |call: Call| {
         (other, others) = other_before;
         let mut book = independent::Book { head: &mut other, records: &mut others, area: &mut other_area };
-        book.enter(black_box(file))
+        match call {
+            Call::Enter => book.enter(black_box(file)),
+            Call::Question => book.question(black_box(file), &mut other_out).map(|(number, _)| number),
+            Call::Commit => book.commit(black_box(file), black_box(claim)),
+        }
     };
-    let answer = proved();
-    assert_eq!(answer, independent(), "{name}");
-    let outcome = match answer {
-        Ok(number) if number > before.0.held => "added".to_string(),
-        Ok(_) => "found".to_string(),
-        Err(number) => format!("refused by {number}"),
-    };
-    line(&format!("enter, {name}: {outcome}"), file.len(), &mut || discard(black_box(proved())), &mut || {
-        discard(black_box(independent()))
-    });
-    // every call was this one
-    assert_eq!((proved(), independent()), (answer, answer), "{name}");
+    for (call, verb) in [(Call::Enter, "enter"), (Call::Question, "question"), (Call::Commit, "commit")] {
+        let answer = proved(call);
+        assert_eq!(answer, independent(call), "{name}");
+        let outcome = match (answer, call) {
+            (Err(number), _) => format!("refused by {number}"),
+            (Ok(number), Call::Question) => if number > before.0.held { "new" } else { "held" }.to_string(),
+            (Ok(number), _) => if number > before.0.held { "added" } else { "found" }.to_string(),
+        };
+        line(&format!("{verb}, {name}: {outcome}"), file.len(), &mut || discard(black_box(proved(call))), &mut || {
+            discard(black_box(independent(call)))
+        });
+        // every call was this one
+        assert_eq!((proved(call), independent(call)), (answer, answer), "{name}");
+    }
 }
 
 /// Two transducers to join.

@@ -109,6 +109,10 @@ fn book(stock: &Alphabets, sheets: [&Transducer; 3]) -> Result<(), Box<dyn Error
     let numbers = sheets.map(|sheet| book.enter(sheet));
     assert_eq!((numbers, book.used(), book.answered()), ([Ok(1), Ok(1), Ok(2)], 56, 3));
     println!("T, T' and U get the numbers 1, 1 and 2; {} bytes are used and {} answered", book.used(), book.answered());
+    let (asked, clean) = book.question(sheets[1])?;
+    assert_eq!((asked, &clean, book.answered()), (1, sheets[0], 3));
+    assert_eq!((book.commit(sheets[1], 2), book.commit(sheets[1], 1)), (Err(Refusal::OtherNumber), Ok(1)));
+    println!("T' would get 1 and is committed with 1; with 2 it is {}", Refusal::OtherNumber);
     let mut small = Registry::new(stock, 55)?;
     let numbers = sheets.map(|sheet| small.enter(sheet));
     assert_eq!(numbers, [Ok(1), Ok(1), Err(Refusal::FullRegistry)]);

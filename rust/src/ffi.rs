@@ -172,6 +172,30 @@ mod c {
             file_length: usize,
             number: *mut usize,
         ) -> u32;
+        pub fn caplune_question(
+            head: *const Head,
+            records: *const Record,
+            records_length: usize,
+            area: *const u8,
+            area_length: usize,
+            file: *const u8,
+            file_length: usize,
+            out: *mut u8,
+            out_length: usize,
+            number: *mut usize,
+            size: *mut usize,
+        ) -> u32;
+        pub fn caplune_commit(
+            head: *mut Head,
+            records: *mut Record,
+            records_length: usize,
+            area: *mut u8,
+            area_length: usize,
+            file: *const u8,
+            file_length: usize,
+            claim: usize,
+            number: *mut usize,
+        ) -> u32;
         pub fn caplune_body(
             head: *const Head,
             records: *const Record,
@@ -468,6 +492,61 @@ pub fn enter(head: &mut Head, records: &mut [Record], area: &mut [u8], file: &[u
             area.len(),
             file.as_ptr(),
             file.len(),
+            number,
+        )
+    }
+}
+
+/// Asks which number an entry of a transducer would get, and writes its normal form to the start of `out`: that number,
+/// and the length of the normal form. The registry is only read. Refuses by 1, 9, 4, 5, 7 and 8.
+pub fn question(
+    head: &Head,
+    records: &[Record],
+    area: &[u8],
+    file: &[u8],
+    out: &mut [u8],
+    number: &mut usize,
+    size: &mut usize,
+) -> u32 {
+    // SAFETY: the arguments are borrows, as said above.
+    unsafe {
+        c::caplune_question(
+            head,
+            records.as_ptr(),
+            records.len(),
+            area.as_ptr(),
+            area.len(),
+            file.as_ptr(),
+            file.len(),
+            out.as_mut_ptr(),
+            out.len(),
+            number,
+            size,
+        )
+    }
+}
+
+/// Does what [`enter`] does, if the number of the normal form is this claim. Refuses by 9, 4, 5, 7 and 8 as [`enter`]
+/// does, and by 13 another claim.
+pub fn commit(
+    head: &mut Head,
+    records: &mut [Record],
+    area: &mut [u8],
+    file: &[u8],
+    claim: usize,
+    number: &mut usize,
+) -> u32 {
+    // SAFETY: the arguments are borrows, as said above.
+    unsafe {
+        c::caplune_commit(
+            head,
+            records.as_mut_ptr(),
+            records.len(),
+            area.as_mut_ptr(),
+            area.len(),
+            file.as_ptr(),
+            file.len(),
+            claim,
             number,
         )
     }

@@ -15,6 +15,7 @@
 //! | sew, clean, join | [`Transducer::translate`], [`Transducer::normal_form`], [`Transducer::then`] |
 //! | alike, or the design and place that differ | [`Comparison`], [`Difference`] |
 //! | book, and one of an earlier make | [`Registry`], [`EarlierRegistry`] |
+//! | enter; look before entering | [`Registry::enter`]; [`Registry::question`] and then [`Registry::commit`] |
 //! | codes of blocks, card | [`text::Names::codes`], [`text::write_card`], [`slices::write_codes`] |
 //! | plans as XML | [`OutputTree::to_xml`], [`OutputTree::from_xml`] |
 //!

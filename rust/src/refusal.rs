@@ -37,6 +37,8 @@ pub enum Refusal {
     BadOutput = 11,
     /// The target area is shorter than the result.
     ShortTarget = 12,
+    /// The entry would get another number than the commit claims.
+    OtherNumber = 13,
     /// The output symbols of the first transducer are not the input symbols of the second.
     OtherAlphabet = 16,
     /// The joined transducer is over the limits of a transducer.
@@ -58,6 +60,7 @@ impl Refusal {
         Refusal::DeepOutput,
         Refusal::BadOutput,
         Refusal::ShortTarget,
+        Refusal::OtherNumber,
         Refusal::OtherAlphabet,
         Refusal::JoinOverLimits,
     ];
@@ -93,6 +96,7 @@ impl Refusal {
             Refusal::DeepOutput => "the plan has more than 256 levels",
             Refusal::BadOutput => "not a plan of 1 to 4,096 blocks, or not the XML of one",
             Refusal::ShortTarget => "what is lent for the result is shorter than the result",
+            Refusal::OtherNumber => "the sheet would get another number",
             Refusal::OtherAlphabet => "the block kinds of the first stock are not the part kinds of the second",
             Refusal::JoinOverLimits => "the joined sheet is over the limits of a sheet",
         }
@@ -139,6 +143,9 @@ impl Refusal {
             }
             Refusal::ShortTarget => {
                 "lend more bytes: 36,860 are enough for every text, 4,096 for every plan that is read"
+            }
+            Refusal::OtherNumber => {
+                "ask again (`caplune book question`), and commit with the number that is answered now"
             }
             Refusal::OtherAlphabet => "join under a second stock whose part kinds are the first's block kinds",
             Refusal::JoinOverLimits => {

@@ -92,6 +92,37 @@ impl Registry {
         slices::enter(&mut self.head, &mut self.records, &mut self.area, transducer.as_bytes())
     }
 
+    /// Asks which number an entry of a transducer would get, and for its normal form (the paper: looks before entering).
+    /// The registry stays as it is. Refuses as [`enter`](Self::enter) would.
+    ///
+    /// ```
+    /// use caplune::{Alphabets, Refusal, Registry, Transducer};
+    /// let alphabets = Alphabets::new(&[1, 0], &[2, 0])?;
+    /// let one = Transducer::read(&alphabets, &[1, 0, 3, 0, 3, 0, 1, 0, 0, 1, 0, 1, 0, 0, 0, 1, 0, 1, 0, 0, 1])?;
+    /// let alike = Transducer::read(&alphabets, &[1, 0, 1, 0, 3, 0, 3, 1, 0, 0, 0, 1, 0, 1, 0, 0, 0, 0, 1, 0, 1])?;
+    /// let mut registry = Registry::new(&alphabets, 60)?;
+    /// assert_eq!(registry.question(&alike)?, (1, one.clone()));
+    /// assert_eq!((registry.held(), registry.answered()), (0, 0));
+    /// // another transducer takes the number before it is claimed
+    /// let constant = Transducer::read(&alphabets, &[0, 0, 1, 0, 1])?;
+    /// assert_eq!((registry.enter(&constant)?, registry.commit(&alike, 1)), (1, Err(Refusal::OtherNumber)));
+    /// assert_eq!(registry.question(&alike)?, (2, one.clone()));
+    /// assert_eq!((registry.commit(&alike, 2)?, registry.normal_form(2)), (2, Some(one)));
+    /// # Ok::<(), Refusal>(())
+    /// ```
+    pub fn question(&self, transducer: &Transducer) -> Result<(usize, Transducer), Refusal> {
+        let mut out = vec![0; Transducer::LONGEST_FILE];
+        let asked = slices::question(&self.head, &self.records, &self.area, transducer.as_bytes(), &mut out)?;
+        Ok((asked.number, Transducer::read(&self.alphabets, &out[..asked.length])?))
+    }
+
+    /// Enters a transducer as [`enter`](Self::enter) does, if its number is this one, which a
+    /// [`question`](Self::question) answered; with no other change of the registry between, it is. Refuses as
+    /// [`enter`](Self::enter) does, and last by 13 where the number would be another; nothing has changed then.
+    pub fn commit(&mut self, transducer: &Transducer, number: usize) -> Result<usize, Refusal> {
+        slices::commit(&mut self.head, &mut self.records, &mut self.area, transducer.as_bytes(), number)
+    }
+
     /// The normal form of this number; `None` for 0 and for a number that is not held.
     #[must_use]
     pub fn normal_form(&self, number: usize) -> Option<Transducer> {

@@ -59,6 +59,14 @@
 //! // two entries got the number 1, and one the number 2
 //! assert_eq!(records.map(|record| record.count)[..4], [0, 2, 1, 0]);
 //! assert_eq!(slices::body(&head, &records, &area, 1), &file[..]);
+//! // a question answers the number and the normal form, and leaves the registry; a commit is an entry with that number
+//! let mut out = vec![9; 20_483];
+//! let asked = slices::question(&head, &records, &area, &other, &mut out);
+//! assert_eq!(asked, Ok(slices::Asked { number: 1, length: 21 }));
+//! assert_eq!((&out[..21], out[21], head.answered), (&file[..], 9, 3));
+//! let mut commit = |claim| slices::commit(&mut head, &mut records, &mut area, &other, claim);
+//! assert_eq!((commit(2).unwrap_err().number(), commit(1)), (13, Ok(1)));
+//! assert_eq!(head.answered, 4);
 //! // the codes of all output symbols: that of symbol 63 are the last two bytes
 //! let mut codes = [0; slices::CODES_AREA];
 //! slices::write_codes(&mut codes).unwrap();
@@ -120,6 +128,15 @@ pub struct Form {
     /// The number of its marks, 1 to 8,192.
     pub marks: usize,
     /// The length of its file, 5 to 20,483.
+    pub length: usize,
+}
+
+/// What a question answers.
+#[derive(Clone, Copy, Debug, PartialEq, Eq)]
+pub struct Asked {
+    /// The number that an entry would get, 1 to 32.
+    pub number: usize,
+    /// The length of the normal form's file, 5 to 20,483.
     pub length: usize,
 }
 
@@ -393,6 +410,39 @@ pub fn make_registry(head: &mut Head, records: &mut [Record], area: &mut [u8], s
 pub fn enter(head: &mut Head, records: &mut [Record], area: &mut [u8], file: &[u8]) -> Result<usize, Refusal> {
     let mut entered = 0;
     let number = ffi::enter(head, records, area, file, &mut entered);
+    answer(number, || entered)
+}
+
+/// Asks which number an entry of a transducer would get, and for its normal form (the paper: looks before entering).
+///
+/// The registry is only read, and nothing is counted. Returns the number that [`enter`] would, and the length of
+/// the normal form, which is written to the start of `out`; what follows it there stays. Refuses by 1 where `out`
+/// is under 20,483 bytes, and by 9, 4, 5, 7 and 8 as [`enter`] would refuse the entry, also where no further answer
+/// can be counted; `out` then is as it was.
+pub fn question(head: &Head, records: &[Record], area: &[u8], file: &[u8], out: &mut [u8]) -> Result<Asked, Refusal> {
+    let (mut asked, mut length) = (0, 0);
+    let number = ffi::question(head, records, area, file, out, &mut asked, &mut length);
+    answer(number, || Asked { number: asked, length })
+}
+
+/// Enters a transducer into a registry under the number that a question answered, its claim.
+///
+/// Does what [`enter`] does and returns the number, if it is the claim. After a [`question`] that was answered,
+/// with no more than questions and refused calls between, and nobody else writing the registry, a commit of the
+/// same file with the number of the answer is accepted with it. Any two entries or commits that are accepted get
+/// one number exactly if the transducers are equivalent.
+///
+/// Refuses by 9, 4, 5, 7 and 8 as [`enter`] does, whatever the claim, and last by 13 where the entry would get
+/// another number; head, records and area then are as they were.
+pub fn commit(
+    head: &mut Head,
+    records: &mut [Record],
+    area: &mut [u8],
+    file: &[u8],
+    claim: usize,
+) -> Result<usize, Refusal> {
+    let mut entered = 0;
+    let number = ffi::commit(head, records, area, file, claim, &mut entered);
     answer(number, || entered)
 }
 

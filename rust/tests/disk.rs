@@ -401,6 +401,9 @@ fn files_around() {
     let before = file_number(&path);
     let over = Transducer::read(&alphabets, &ring(65)).unwrap();
     assert_eq!(store::change(&path, not_waited, |registry| registry.enter(&over)).unwrap(), Err(Refusal::OverLimits));
+    let other = Transducer::read(&alphabets, CONSTANT).unwrap();
+    let committed = store::change(&path, not_waited, |registry| registry.commit(&other, 2));
+    assert_eq!(committed.unwrap(), Err(Refusal::OtherNumber));
     assert_eq!(file_number(&path), before);
     let sheet = Transducer::read(&alphabets, T).unwrap();
     store::change(&path, not_waited, |registry| registry.enter(&sheet)).unwrap().unwrap();
@@ -499,10 +502,15 @@ fn chains(sheets: usize) -> (Folder, Vec<Transducer>) {
     (folder, sheets)
 }
 
-fn enter(folder: &Folder, sheet: usize) -> Child {
+/// A command of the program, begun in a folder.
+fn begin(folder: &Folder, line: &str) -> Child {
     let mut command = Command::new(PROGRAM);
-    command.args(["book", "enter", "book", &sheet.to_string()]).current_dir(&folder.0);
+    command.args(line.split(' ')).current_dir(&folder.0);
     command.stdin(Stdio::null()).stdout(Stdio::piped()).stderr(Stdio::piped()).spawn().expect("the program starts")
+}
+
+fn enter(folder: &Folder, sheet: usize) -> Child {
+    begin(folder, &format!("book enter book {sheet}"))
 }
 
 /// Many writers at once: each entry is answered, counted and kept.
@@ -524,9 +532,43 @@ fn writers_at_once() {
     assert_eq!(numbers, [Some(1), Some(2), Some(3), Some(4)]);
 }
 
+/// Many commits at once of four new sheets, all with the number 1: those of the first sheet that comes are accepted, the
+/// others are refused by 13, and questions meanwhile find a whole book.
+#[test]
+fn commits_at_once() {
+    let (folder, _) = chains(4);
+    let committers: Vec<_> =
+        (0..40).map(|number| (number % 4, begin(&folder, &format!("book commit book {} 1", number % 4)))).collect();
+    let asking: Vec<_> = (0..8).map(|number| begin(&folder, &format!("book question book {}", number % 4))).collect();
+    for asked in asking {
+        let ended = asked.wait_with_output().unwrap();
+        assert!(ended.stdout == b"1\n" || ended.stdout == b"2\n", "{ended:?}");
+    }
+    let (mut accepted, mut refused) = (Vec::new(), 0);
+    for (sheet, committer) in committers {
+        let ended = committer.wait_with_output().unwrap();
+        match ended.status.code() {
+            Some(0) => {
+                assert_eq!(String::from_utf8(ended.stdout).unwrap(), format!("{sheet}: 1\n"));
+                accepted.push(sheet);
+            }
+            _ => {
+                let begun = format!("caplune: {sheet}: refused by 13: ");
+                assert!(ended.stdout.is_empty() && ended.stderr.starts_with(begun.as_bytes()), "{ended:?}");
+                refused += 1;
+            }
+        }
+    }
+    accepted.dedup();
+    assert_eq!((accepted.len(), refused), (1, 30));
+    let book = store::read(&folder.file("book")).unwrap();
+    assert_eq!((book.held(), book.answered(), book.count(1)), (1, 10, Some(10)));
+}
+
 /// 270 writers are stopped in the middle of a write by the system, each at some byte of the new file that is not
-/// written any more, and 135 by a signal, at any moment. Each time the book is the old one or, after a signal, the new
-/// one, to the byte, and the next writer goes on.
+/// written any more, and 135 by a signal, at any moment; every second one commits the number that a question told, and
+/// the others enter. Each time the book is the old one or, after a signal, the new one, to the byte, and the next writer
+/// goes on.
 #[cfg(unix)]
 #[test]
 fn stopped_writers() {
@@ -540,11 +582,16 @@ fn stopped_writers() {
     for stop in 0..405 {
         let sheet = stop % sheets.len();
         let mut entered = book.clone();
-        entered.enter(&sheets[sheet]).unwrap();
+        let number = entered.enter(&sheets[sheet]).unwrap();
+        // 3 and 2 have no common factor, so both ways to stop meet both commands
+        let line = match stop % 2 {
+            0 => format!("book enter book {sheet}"),
+            _ => format!("book commit book {sheet} {number}"),
+        };
         if stop % 3 > 0 {
             // the shell's limit counts 512 bytes; the new file is longer
             let blocks = random.below(entered.to_bytes().len().div_ceil(512));
-            let script = format!("ulimit -c 0; ulimit -f {blocks}; exec \"$0\" book enter book {sheet}");
+            let script = format!("ulimit -c 0; ulimit -f {blocks}; exec \"$0\" {line}");
             let ended = folder.run(Path::new("/bin/sh"), &["-c", &script, PROGRAM], b"");
             assert!(ended.out.is_empty(), "{ended:?}");
             match ended.status {
@@ -554,7 +601,7 @@ fn stopped_writers() {
             }
             cut += 1;
         } else {
-            let mut writer = enter(&folder, sheet);
+            let mut writer = begin(&folder, &line);
             std::thread::sleep(Duration::from_micros(random.below(longest.as_micros() as usize) as u64));
             writer.kill().unwrap();
             writer.wait().unwrap();
@@ -570,9 +617,9 @@ fn stopped_writers() {
         }
         // the next writer is not stopped
         let begun = Instant::now();
-        let ended = enter(&folder, sheet).wait_with_output().unwrap();
+        let ended = begin(&folder, &line).wait_with_output().unwrap();
         longest = begun.elapsed();
-        let number = book.enter(&sheets[sheet]).unwrap();
+        assert_eq!(book.commit(&sheets[sheet], number), Ok(number));
         assert_eq!((number, String::from_utf8(ended.stdout).unwrap()), (sheet + 1, format!("{sheet}: {number}\n")));
         assert_eq!(folder.read("book"), book.to_bytes());
         counts[number] += 1;
@@ -669,15 +716,64 @@ fn lines_of(program: &mut Child) -> mpsc::Receiver<String> {
     told
 }
 
+/// A lock that another holds is nothing to a question, which is answered meanwhile.
+#[test]
+fn questions_need_no_lock() {
+    let (folder, sheets) = chains(2);
+    let before = (folder.read("book"), folder.names());
+    let _lock = held(&folder);
+    let mut question = begin(&folder, "book question book 0 1");
+    let begun = Instant::now();
+    while question.try_wait().unwrap().is_none() {
+        // so that nobody waits for ever
+        if begun.elapsed() > SOON {
+            question.kill().unwrap();
+        }
+        std::thread::sleep(Duration::from_millis(5));
+    }
+    let ended = question.wait_with_output().unwrap();
+    assert_eq!((&ended.stdout[..], &ended.stderr[..]), (&b"0: 1\n1: 1\n"[..], &b""[..]));
+    assert_eq!(store::read(&folder.file("book")).unwrap().question(&sheets[1]).map(|(number, _)| number), Ok(1));
+    assert_eq!((folder.read("book"), folder.names()), before);
+}
+
 /// A lock that another holds: for less than a second nothing is told, then one line, and the entry is made when it is
-/// free.
+/// free; and so is a commit, of which another entry may have taken the number by then.
 #[cfg(unix)]
 #[test]
 fn held_locks() {
+    waited_for("book enter book 0", "0: 1\n");
+    waited_for("book commit book 0 1", "0: 1\n");
+    told_by_the_library();
     let (folder, sheets) = chains(2);
+    let lock = held(&folder);
+    let mut committer = begin(&folder, "book commit book 0 1");
+    let errors = lines_of(&mut committer);
+    let waits = errors.recv_timeout(SOON);
+    let mut other = store::read(&folder.file("book")).unwrap();
+    other.enter(&sheets[1]).unwrap();
+    fs::write(folder.file("book"), other.to_bytes()).unwrap();
+    lock.unlock().unwrap();
+    assert!(waits.is_ok());
+    let said = errors.recv_timeout(SOON).unwrap();
+    assert!(said.starts_with("caplune: 0: refused by 13: ") && said.contains("1 was given"), "{said}");
+    assert_eq!(committer.wait_with_output().unwrap().status.code(), Some(2));
+    assert_eq!(store::read(&folder.file("book")).unwrap(), other);
+}
+
+/// The lock of a book, held.
+fn held(folder: &Folder) -> fs::File {
     let lock = fs::File::options().write(true).open(folder.file("book.lock")).unwrap();
     lock.lock().unwrap();
-    let mut writer = enter(&folder, 0);
+    lock
+}
+
+/// A command that waits for a lock and then prints this.
+#[cfg(unix)]
+fn waited_for(line: &str, printed: &str) {
+    let (folder, _) = chains(2);
+    let lock = held(&folder);
+    let mut writer = begin(&folder, line);
     let begun = Instant::now();
     let errors = lines_of(&mut writer);
     let told = errors.recv_timeout(SOON);
@@ -694,20 +790,26 @@ fn held_locks() {
     std::thread::sleep(Duration::from_millis(100));
     assert!(writer.try_wait().unwrap().is_none());
     lock.unlock().unwrap();
-    assert_eq!(writer.wait_with_output().unwrap().stdout, b"0: 1\n");
+    assert_eq!(writer.wait_with_output().unwrap().stdout, printed.as_bytes());
     assert!(errors.recv_timeout(SOON).is_err());
-    // a short wait is not told, and of a long one the library calls back with the path
+}
+
+/// A short wait is not told, and of a long one the library calls back with the path.
+#[cfg(unix)]
+fn told_by_the_library() {
+    let (folder, sheets) = chains(2);
+    let expected = fs::canonicalize(folder.file("book.lock")).unwrap();
     for is_long in [false, true] {
-        lock.lock().unwrap();
+        let lock = held(&folder);
         let (path, (tell, told)) = (folder.file("book"), mpsc::channel());
         std::thread::scope(|scope| {
             let change = scope.spawn(|| {
                 store::change(&path, |lock| tell.send(lock.to_path_buf()).unwrap(), |book| book.enter(&sheets[1]))
             });
-            let held = if is_long { SOON } else { Duration::from_millis(100) };
-            assert_eq!(told.recv_timeout(held).ok(), is_long.then_some(expected.clone()));
+            let while_held = if is_long { SOON } else { Duration::from_millis(100) };
+            assert_eq!(told.recv_timeout(while_held).ok(), is_long.then_some(expected.clone()));
             lock.unlock().unwrap();
-            assert_eq!(change.join().unwrap().unwrap(), Ok(2));
+            assert_eq!(change.join().unwrap().unwrap(), Ok(1));
         });
         assert!(told.try_recv().is_err());
     }
@@ -719,29 +821,36 @@ fn held_locks() {
 fn no_room() {
     let (folder, _) = chains(2);
     let before = folder.read("book");
-    let script = "trap '' XFSZ; ulimit -f 0; exec \"$0\" book enter book 1";
-    let ended = folder.run(Path::new("/bin/sh"), &["-c", script, PROGRAM], b"");
-    assert_eq!((ended.status, &ended.out[..]), (Some(2), &[][..]));
-    assert!(ended.err.starts_with("caplune: book: ") && ended.err.lines().count() == 1, "{}", ended.err);
-    assert_eq!(folder.read("book"), before);
-    assert_eq!(folder.names(), ["0", "1", "book", "book.lock"]);
+    for line in ["book enter book 1", "book commit book 1 1"] {
+        let script = format!("trap '' XFSZ; ulimit -f 0; exec \"$0\" {line}");
+        let ended = folder.run(Path::new("/bin/sh"), &["-c", &script, PROGRAM], b"");
+        assert_eq!((ended.status, &ended.out[..]), (Some(2), &[][..]));
+        assert!(ended.err.starts_with("caplune: book: ") && ended.err.lines().count() == 1, "{}", ended.err);
+        assert_eq!(folder.read("book"), before);
+        assert_eq!(folder.names(), ["0", "1", "book", "book.lock"]);
+    }
 }
 
-/// A book that is replaced while an entry waits for its lock: the sheet was read under other names, and is not entered.
+/// A book that is replaced while an entry or a commit waits for its lock: the sheet was read under other names, and is
+/// not entered.
 #[cfg(unix)]
 #[test]
 fn replaced_while_waiting() {
+    replaced_under("book enter book sheet", "enter once more");
+    replaced_under("book commit book sheet 1", "ask again (`caplune book question`)");
+}
+
+/// What a command says and leaves whose book is replaced while it waits.
+#[cfg(unix)]
+fn replaced_under(line: &str, again: &str) {
     let alphabets = Alphabets::read(&[2, 0, 0, 2, 0, 0]).unwrap();
     let book = Registry::new(&alphabets, 60).unwrap();
     let book = |words: [&str; 4]| book.clone().with_names(names(words)).unwrap();
     let folder = Folder::with(&[("sheet", b"sheet opening red")]);
     let path = folder.file("book");
     store::make(&path, &book(["a", "e", "red", "blue"]), not_waited).unwrap();
-    let lock = fs::File::options().write(true).open(folder.file("book.lock")).unwrap();
-    lock.lock().unwrap();
-    let mut command = Command::new(PROGRAM);
-    command.args(["book", "enter", "book", "sheet"]).current_dir(&folder.0);
-    let mut writer = command.stdout(Stdio::piped()).stderr(Stdio::piped()).spawn().unwrap();
+    let lock = held(&folder);
+    let mut writer = begin(&folder, line);
     let errors = lines_of(&mut writer);
     // it waits now
     let waits = errors.recv_timeout(SOON);
@@ -749,8 +858,8 @@ fn replaced_while_waiting() {
     fs::write(&path, other.to_bytes()).unwrap();
     lock.unlock().unwrap();
     assert!(waits.is_ok());
-    let said = "another book of another stock has taken its place meanwhile; what to do: enter once more";
-    assert_eq!(errors.recv_timeout(SOON), Ok(format!("caplune: book: {said}")));
+    let said = "another book of another stock has taken its place meanwhile";
+    assert_eq!(errors.recv_timeout(SOON), Ok(format!("caplune: book: {said}; what to do: {again}")));
     let ended = writer.wait_with_output().unwrap();
     assert_eq!((ended.status.code(), ended.stdout), (Some(2), vec![]));
     assert_eq!(store::read(&path).unwrap(), other);

@@ -21,6 +21,7 @@ use caplune::slices::{ADDRESS_AREA, TREE_AREA};
 use caplune_independent as independent;
 use generate::cases::{parsed, Case};
 use generate::joins;
+use generate::memory::Memory;
 use independent::{Verdict, AREA_TOO_SHORT, MAX_FILE};
 use lent::{Lent, Tally, BEFORE};
 use std::panic::{catch_unwind, AssertUnwindSafe};
@@ -52,7 +53,7 @@ const fn function(
 }
 
 /// All functions. `shorter` and `body` give no number: they are counted by that for which they give nothing.
-const FUNCTIONS: [Function; 18] = [
+const FUNCTIONS: [Function; 20] = [
     function("read_alphabets", read_alphabets, &["accepted"], &[2]),
     function("read_tree", read_tree, &["accepted"], &[2, 3]),
     function("read_transducer", read_transducer, &["accepted"], &[2, 4, 5]),
@@ -67,6 +68,8 @@ const FUNCTIONS: [Function; 18] = [
     function("shorter", shorter, &["first", "second", "differ"], &[2, 4, 5, 7]),
     function("make_registry", make_registry, &["accepted"], &[9, 2, 8]),
     function("enter", enter, &["added", "found"], &[9, 4, 5, 7, 8]),
+    function("question", question, &["new", "held"], &[1, 9, 4, 5, 7, 8]),
+    function("commit", commit, &["added", "found"], &[9, 4, 5, 7, 8, 13]),
     function("body", body, &["body", "empty"], &[9]),
     function("write_codes", write_codes, &["accepted"], &[1]),
     function("write_xml", write_xml, &["accepted"], &[2, 11, 12]),
@@ -307,6 +310,25 @@ fn enter(case: &Case) -> Checked {
     let (head, records, area) = memory.lend();
     let [mut number] = before();
     let refused = ffi::enter(head, records, area, &case.entered, &mut number);
+    agree_on_entry(case, expected, [&memory, &other], (refused, number))
+}
+
+fn commit(case: &Case) -> Checked {
+    let [mut memory, mut other] = [case.registry.clone(), case.registry.clone()];
+    let expected = other.commit(&case.entered, case.claim);
+    let (head, records, area) = memory.lend();
+    let [mut number] = before();
+    let refused = ffi::commit(head, records, area, &case.entered, case.claim, &mut number);
+    agree_on_entry(case, expected, [&memory, &other], (refused, number))
+}
+
+/// Number, counts and memory are those of an entry with this answer.
+fn agree_on_entry(
+    case: &Case,
+    expected: Result<usize, u32>,
+    [memory, other]: [&Memory; 2],
+    (refused, number): (u32, usize),
+) -> Checked {
     agree(refused, [number], expected.map(|number| [number]))?;
     let added = other.head.held > case.registry.head.held;
     if !memory.counted(&case.registry, expected) {
@@ -314,6 +336,18 @@ fn enter(case: &Case) -> Checked {
     }
     same(memory, other)?;
     Ok(expected.map(|_| if added { "added" } else { "found" }))
+}
+
+fn question(case: &Case) -> Checked {
+    let expected = case.registry.clone().question(&case.entered, case.question_area);
+    let (head, records, area) = (&case.registry.head, case.registry.records(), case.registry.area());
+    let mut lent = Lent::new(case.question_area);
+    let [mut number, mut size] = before();
+    let refused = ffi::question(head, records, area, &case.entered, lent.area(), &mut number, &mut size);
+    let outcome = expected.as_ref().map_err(|&number| number);
+    agree(refused, [number, size], outcome.map(|(number, form)| [*number, form.len()]))?;
+    holds(&lent, outcome.map_or(&[], |(_, form)| form))?;
+    Ok(outcome.map(|(number, _)| if *number > case.registry.head.held { "new" } else { "held" }))
 }
 
 fn body(case: &Case) -> Checked {

@@ -136,6 +136,48 @@ fn book_samples() {
     }
 }
 
+/// What a question answers, the number and what it writes, and what it leaves behind that.
+#[test]
+fn book_questions() {
+    let clean_u = clean(S, U).unwrap();
+    // what is asked for and then committed is what entries leave
+    for (bytes, answers) in [(60, [Ok(1), Ok(1), Ok(2)]), (55, [Ok(1), Ok(1), Err(8)]), (26, [Err(8); 3])] {
+        let [(mut head, mut records, mut area), (mut other, mut others, mut other_area)] = [lent(bytes), lent(bytes)];
+        let mut book = Book::make(S, &mut head, &mut records, &mut area).unwrap();
+        let mut entered = Book::make(S, &mut other, &mut others, &mut other_area).unwrap();
+        for ((file, form), answer) in [(T, T), (T_PRIME, T), (U, &clean_u[..])].into_iter().zip(answers) {
+            let before = (*book.head, book.records.to_vec(), book.area.to_vec());
+            let mut out = vec![0xa5; MAX_FILE + 1];
+            assert_eq!(book.question(file, &mut out[..MAX_FILE - 1]), Err(1));
+            assert!(out.iter().all(|&byte| byte == 0xa5));
+            assert_eq!(book.question(file, &mut out[..MAX_FILE]), answer.map(|number| (number, form.len())));
+            let written = if answer.is_ok() { form } else { &[] };
+            assert_eq!(&out[..written.len()], written);
+            assert!(out[written.len()..].iter().all(|&byte| byte == 0xa5));
+            for claim in [0, 3, 33, usize::MAX] {
+                assert_eq!(book.commit(file, claim), answer.and(Err(13)));
+            }
+            assert_eq!(before, (*book.head, book.records.to_vec(), book.area.to_vec()));
+            assert_eq!(book.commit(file, answer.unwrap_or(1)), answer);
+            assert_eq!(entered.enter(file), answer);
+        }
+        assert_eq!((head, records, area), (other, others, other_area));
+    }
+}
+
+/// Another new transducer takes the number that was asked for; an equivalent one leaves it.
+#[test]
+fn numbers_taken() {
+    for (between, answer) in [(U, Err(13)), (T, Ok(1)), (T_PRIME, Ok(1)), (&[][..], Ok(1))] {
+        let (mut head, mut records, mut area) = lent(60);
+        let mut book = Book::make(S, &mut head, &mut records, &mut area).unwrap();
+        let mut out = vec![0; MAX_FILE];
+        assert_eq!(book.question(T_PRIME, &mut out), Ok((1, T.len())));
+        let _ = book.enter(between);
+        assert_eq!(book.commit(T_PRIME, 1), answer, "{between:?}");
+    }
+}
+
 #[test]
 fn book_refusals() {
     let (mut head, mut records, mut area) = lent(60);
@@ -155,6 +197,13 @@ fn book_refusals() {
         let mut book = Book { head: &mut head, records: &mut records, area: &mut area };
         if number == 9 {
             assert_eq!((book.body(0), book.body(1), book.body(2)), (Err(9), Err(9), Err(9)));
+        }
+        let mut out = vec![0xa5; MAX_FILE];
+        assert_eq!(book.question(sheet, &mut out[1..]), Err(1));
+        assert_eq!(book.question(sheet, &mut out), Err(number));
+        assert!(out.iter().all(|&byte| byte == 0xa5));
+        for claim in [1, 2, 0, usize::MAX] {
+            assert_eq!(book.commit(sheet, claim), Err(number));
         }
         assert_eq!(book.enter(sheet), Err(number));
         assert_eq!(before, (head, records, area));
@@ -254,7 +303,8 @@ fn lowest_number() {
     assert_eq!(book.enter(T_PRIME), Ok(2));
     assert_eq!(book.enter(U), Err(8));
     assert_eq!(*book.head, Head { held: 3, used: 73, answered: 6 });
-    assert_eq!(records[..5].iter().map(|record| record.count).collect::<Vec<_>>(), [0, 3, 1, 2, 0]);
+    assert_eq!([1, 2, 3].map(|claim| book.commit(T, claim)), [Err(13), Ok(2), Err(13)]);
+    assert_eq!(records[..5].iter().map(|record| record.count).collect::<Vec<_>>(), [0, 3, 2, 2, 0]);
 }
 
 #[test]
@@ -268,8 +318,11 @@ fn full_book() {
         for number in 1..=32 {
             assert_eq!(book.enter(&sheet(number)), Ok(number));
             assert_eq!(book.body(number).map(<[u8]>::to_vec), clean(&stock, &sheet(number)));
+            assert_eq!(book.commit(&sheet(number), number + 1), Err(13));
         }
         assert_eq!(book.enter(&sheet(33)), Err(8));
+        assert_eq!([0, 1, 32, 33].map(|claim| book.commit(&sheet(33), claim)), [Err(8); 4]);
+        assert_eq!(book.question(&sheet(33), &mut vec![0; MAX_FILE]), Err(8));
         assert_eq!((book.head.held, book.head.answered), (32, 32 * (round + 1)));
         assert!(book.records[1..33].iter().all(|record| record.count == round + 1));
     }

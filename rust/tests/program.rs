@@ -145,7 +145,7 @@ fn help() {
     let overview = folder.prints("--help");
     assert_eq!((folder.prints("help"), folder.prints("-h")), (overview.clone(), overview.clone()));
     let commands: Vec<&str> = overview.lines().filter_map(|line| line.strip_prefix("  caplune ")).collect();
-    assert_eq!(commands.len(), 16);
+    assert_eq!(commands.len(), 18);
     folder.write("old", &book_of_make_1(&[T, T, U]));
     folder.write("old.names", NAMES_OF_S);
     folder.caplune("convert -o stock stock.txt");
@@ -167,8 +167,8 @@ fn help() {
         assert!(matches!(ended.status, Some(0 | 1)) && ended.err.is_empty(), "{example}: {ended:?}");
         tried += 1;
     }
-    assert_eq!(tried, 16);
-    assert_eq!(folder.prints("book --help").lines().filter(|line| line.starts_with("  caplune book ")).count(), 5);
+    assert_eq!(tried, 18);
+    assert_eq!(folder.prints("book --help").lines().filter(|line| line.starts_with("  caplune book ")).count(), 7);
     assert!(folder.prints("book --help").starts_with("A book holds clean sheets"));
     assert_eq!((folder.prints("--version"), folder.prints("-V")), ("caplune 0.1.0\n".into(), "caplune 0.1.0\n".into()));
     // what it is for comes first, then the five words, a line or two each
@@ -241,7 +241,7 @@ fn words_of_messages() {
     let commands = overview.lines().filter_map(|line| line.strip_prefix("  caplune "));
     let names = commands.map(|line| line.split_terminator(|c: char| c.is_uppercase() || c == '[').next().unwrap());
     let helps: Vec<String> = names.map(|name| folder.prints(&format!("{name} --help"))).collect();
-    assert_eq!(helps.len(), 16);
+    assert_eq!(helps.len(), 18);
     let refusals = Refusal::ALL.iter().map(|refusal| format!("{refusal}; {}", refusal.remedy()));
     for text in [overview.clone(), folder.prints("book --help")].into_iter().chain(helps).chain(refusals) {
         assert_eq!(not_said(&text), None, "{text}");
@@ -278,8 +278,35 @@ fn wrong_usage() {
     for (line, said) in [
         ("", "no command is given; `caplune --help` tells more"),
         ("sewing", "there is no command `sewing`; `caplune --help` tells more"),
-        ("book", "book is followed by make, enter, list, show or carry; `caplune --help` tells more"),
-        ("book makes", "book is followed by make, enter, list, show or carry; `caplune --help` tells more"),
+        ("book", "book is followed by make, enter, question, commit, list, show or carry; `caplune --help` tells more"),
+        (
+            "book makes",
+            "book is followed by make, enter, question, commit, list, show or carry; `caplune --help` tells more",
+        ),
+        ("book question made", "book question: it takes BOOK SHEET...; `caplune book question --help` tells more"),
+        ("book commit made t.txt", "book commit: it takes BOOK SHEET NUMBER; `caplune book commit --help` tells more"),
+        (
+            "book commit made t.txt t2.txt 1",
+            "book commit: it takes BOOK SHEET NUMBER; `caplune book commit --help` tells more",
+        ),
+        ("book commit made t.txt two", "book commit: `two` is no number; `caplune book commit --help` tells more"),
+        ("book commit made t.txt +1", "book commit: `+1` is no number; `caplune book commit --help` tells more"),
+        ("book commit made t.txt 1.0", "book commit: `1.0` is no number; `caplune book commit --help` tells more"),
+        ("book commit made t.txt -- -1", "book commit: `-1` is no number; `caplune book commit --help` tells more"),
+        (
+            "book commit missing missing \u{661}",
+            "book commit: `\u{661}` is no number; `caplune book commit --help` tells more",
+        ),
+        (
+            "book commit -o x made t.txt 1",
+            "book commit: there is no option -o; `caplune book commit --help` tells more",
+        ),
+        ("book question -o x made t.txt t2.txt", "-o writes the clean sheet of one sheet, and more are given"),
+        ("book question --bytes made t.txt", "--bytes is for the clean sheet that -o writes, and -o is not given"),
+        ("book question - t.txt", "a book is a file with a name, and cannot be `-`"),
+        ("book commit - t.txt 1", "a book is a file with a name, and cannot be `-`"),
+        ("book question -o ./made made t.txt", "made: it would be overwritten: give another file"),
+        ("book question -o t.txt made t.txt", "t.txt: it would be overwritten: give another file"),
         ("sew stock.txt t.txt", "sew: it takes STOCK SHEET DESIGN; `caplune sew --help` tells more"),
         ("sew --fast stock.txt t.txt design.txt", "sew: there is no option --fast; `caplune sew --help` tells more"),
         ("sew -o", "sew: -o takes FILE; `caplune sew --help` tells more"),
@@ -372,6 +399,12 @@ fn refusals() {
         ("compare stock over over", "over", 7),
         ("compare stock t over", "over", 7),
         ("book enter book over", "over", 7),
+        ("book question book over", "over", 7),
+        ("book question book cut", "cut", 4),
+        ("book question book no_pass", "no_pass", 5),
+        ("book commit book over 1", "over", 7),
+        ("book commit book cut 2", "cut", 4),
+        ("book commit book no_pass 0", "no_pass", 5),
         ("sew unary copy deeper", "deeper", 10),
         ("sew --most 257 -o plan unary copy deeper", "deeper", 10),
         ("sew --bytes -o plan unary copy deeper", "deeper", 10),
@@ -410,7 +443,9 @@ fn refusals() {
     }
     let said = "t: refused by 9: not the file of a book: it does not begin with `caplune book`; \
                 what to do: give the file of a book, or put back a copy of it";
-    assert_eq!(folder.says("book enter t t"), said);
+    for line in ["book enter t t", "book question t t", "book commit t t 1"] {
+        assert_eq!(folder.says(line), said, "{line}");
+    }
     assert!(folder.says("show t").starts_with("t: refused by 2: "));
     assert!(folder.says("show missing").starts_with("missing: "));
     assert!(folder.says("sew stock . design").starts_with(".: "));
@@ -491,6 +526,8 @@ fn small_stacks() {
         ("place stock.txt t.txt deepest.txt 1.2.1", "f\n"),
         ("compare stock.txt t.txt t2.txt", "alike\n"),
         ("book enter book t.txt u.txt", "u.txt: 2\n"),
+        ("book question book u.txt", "2\n"),
+        ("book commit book t2.txt 1", "t2.txt: 1\n"),
         ("clean stock.txt t.txt", "q0(e) -> e\n"),
     ] {
         let script = format!("ulimit -s 64; exec \"$0\" {line}");
@@ -564,6 +601,9 @@ fn standard_input() {
     }
     folder.prints("book make book stock.txt");
     assert_eq!(folder.caplune_with("book enter book -", T).text(), "standard input: 1\n");
+    assert_eq!(folder.caplune_with("book question book -", U).text(), "2\n");
+    assert_eq!(folder.caplune_with("book question book - t.txt", U).text(), "standard input: 2\nt.txt: 1\n");
+    assert_eq!(folder.caplune_with("book commit book - 2", U).text(), "standard input: 2\n");
 }
 
 /// Text and bytes into each other, with names and without.
@@ -939,6 +979,130 @@ fn books() {
     assert_eq!((registry.count(1), registry.count(2)), (Some(4), Some(1)));
 }
 
+/// A question tells the number, alone, and changes nothing; several are asked each by itself. `-o` writes what `clean -o`
+/// writes.
+#[cfg(unix)]
+#[test]
+fn questions() {
+    let folder = first();
+    folder.prints("book make --size 60 book stock.txt");
+    folder.prints("book enter book t.txt");
+    fs::remove_file(folder.file("book.lock")).unwrap();
+    let before = folder.state();
+    for (line, printed) in [
+        ("book question book t.txt", "1\n"),
+        ("book question book t2.txt", "1\n"),
+        ("book question book u.txt", "2\n"),
+        // each is asked as if it were the only one
+        ("book question book u.txt t2.txt u.txt", "u.txt: 2\nt2.txt: 1\nu.txt: 2\n"),
+    ] {
+        assert_eq!(folder.prints(line), printed, "{line}");
+    }
+    folder.write("bad", b"sheet opening g");
+    folder.write("other", b"sheet opening f(e, f(e, e))");
+    let ended = folder.caplune("book question book missing u.txt bad other");
+    assert_eq!((ended.status, ended.text()), (Some(2), "u.txt: 2\nother: 2\n"));
+    let said: Vec<&str> = ended.err.lines().collect();
+    assert!(said.len() == 2 && said[0].starts_with("caplune: missing: "), "{said:?}");
+    assert!(said[1].starts_with("caplune: bad:1:15: expected "), "{said:?}");
+    ["bad", "other"].iter().for_each(|name| fs::remove_file(folder.file(name)).unwrap());
+    assert_eq!(folder.state(), before);
+    // the clean sheet, as text and as bytes with their table
+    assert_eq!(folder.prints("book question -o asked.txt book u.txt"), "2\n");
+    assert_eq!(String::from_utf8(folder.read("asked.txt")).unwrap(), folder.prints("clean stock.txt u.txt"));
+    assert_eq!(folder.prints("book question --bytes -o asked book t2.txt"), "1\n");
+    folder.prints("clean --bytes -o cleaned stock.txt t2.txt");
+    for [asked, cleaned] in [["asked", "cleaned"], ["asked.names", "cleaned.names"]] {
+        assert_eq!(folder.read(asked), folder.read(cleaned));
+    }
+    // on standard output it stands alone
+    for out in ["-", "/dev/stdout"] {
+        assert_eq!(
+            folder.prints(&format!("book question -o {out} book u.txt")),
+            folder.prints("clean stock.txt u.txt")
+        );
+    }
+    // a file that cannot be written: no number is told
+    assert_eq!(folder.says("book question -o no/such book u.txt"), "no/such: there is no folder no");
+    // what is refused leaves the file
+    folder.write("over", &ring(65));
+    assert!(folder.says("book question -o asked.txt book over").starts_with("over: refused by 7: "));
+    assert_eq!(String::from_utf8(folder.read("asked.txt")).unwrap(), folder.prints("clean stock.txt u.txt"));
+    let book: Vec<_> = folder.state().into_iter().filter(|(name, ..)| name.starts_with("book")).collect();
+    assert_eq!(book, before.into_iter().filter(|(name, ..)| name.starts_with("book")).collect::<Vec<_>>());
+}
+
+/// A commit enters what a question told, prints what an entry prints, and is refused by 13 with any other number.
+#[cfg(unix)]
+#[test]
+fn commits() {
+    let folder = first();
+    folder.prints("book make --size 60 book stock.txt");
+    let list = || folder.prints("book list book");
+    assert_eq!(folder.prints("book commit book t.txt 1"), "t.txt: 1\n");
+    assert_eq!(folder.prints("book commit book t2.txt 01"), "t2.txt: 1\n");
+    assert_eq!(folder.prints("book question book u.txt"), "2\n");
+    for number in ["0", "1", "3", "33", "18446744073709551615", "18446744073709551618", "99999999999999999999999"] {
+        let said = folder.keeps(&format!("book commit book u.txt {number}"), "u.txt");
+        let why = format!("{number} was given, and nothing was entered");
+        let remedy = "ask again (`caplune book question`), and commit with the number that is answered now";
+        let refused = "refused by 13: the sheet would get another number";
+        assert_eq!(said, format!("{refused}: {why}; what to do: {remedy}"));
+    }
+    assert_eq!(folder.prints("book commit book u.txt 2"), "u.txt: 2\n");
+    let listed = "1: 1 pass, 7 marks, 2 entries\n2: 1 pass, 11 marks, 1 entry\n";
+    assert_eq!(list(), format!("# 2 sheets, 56 of 60 bytes used, entries answered: 3\n{listed}"));
+    // a full book: 8 whatever the number is, and the number of what is held
+    folder.write("other", b"sheet opening e");
+    let full = folder.keeps("book question book other", "other");
+    let why = "the clean sheet has 5 bytes, 4 are free, and 1 byte is missing";
+    assert!(full.starts_with(&format!("refused by 8: the book is full: {why}; what to do: ")), "{full}");
+    for number in ["3", "1", "0", "33"] {
+        assert_eq!(folder.keeps(&format!("book commit book other {number}"), "other"), full);
+    }
+    assert!(folder.keeps("book commit book t.txt 2", "t.txt").starts_with("refused by 13: "));
+    assert_eq!(folder.prints("book commit book t.txt 1"), "t.txt: 1\n");
+    // what is no sheet, and what is not there
+    assert!(folder.keeps("book commit book missing 1", "missing").contains("No such file"));
+    assert!(folder.keeps("book commit none t.txt 1", "none").contains("No such file"));
+    assert!(folder.keeps("book question none t.txt", "none").contains("No such file"));
+    // a book at the last number: nothing more is told or entered
+    let last = last_answer(&folder.read("book"));
+    folder.write("book", &last);
+    assert_eq!(folder.prints("book question book t.txt"), "1\n");
+    assert_eq!(folder.prints("book commit book t.txt 1"), "t.txt: 1\n");
+    let said = "book: refused by 9: the file of the book has been altered since it was written";
+    for line in ["book question book t.txt", "book commit book t.txt 1", "book enter book t.txt"] {
+        assert!(folder.says(line).starts_with(said), "{line}");
+    }
+}
+
+/// The file of a book that holds two sheets with so many entries that one more can be counted.
+fn last_answer(book: &[u8]) -> Vec<u8> {
+    let mut bytes = makes::without_sum(book);
+    // the entries answered, and the counts of numbers 1 and 2
+    for (index, number) in [(3, u64::MAX - 1), (10, u64::MAX - 2), (13, 1)] {
+        bytes[15 + 8 * index..][..8].copy_from_slice(&number.to_be_bytes());
+    }
+    makes::with_sum(bytes)
+}
+
+/// An entry between a question and its commit takes the number.
+#[test]
+fn numbers_taken() {
+    let folder = first();
+    folder.prints("book make book stock.txt");
+    assert_eq!(folder.prints("book question book u.txt"), "1\n");
+    assert_eq!(folder.prints("book enter book t.txt"), "t.txt: 1\n");
+    let said = folder.says("book commit book u.txt 1");
+    assert!(said.starts_with("u.txt: refused by 13: ") && said.contains("1 was given, and nothing was entered"));
+    assert!(folder.prints("book list book").starts_with("# 1 sheet, "));
+    assert_eq!(folder.prints("book question book u.txt"), "2\n");
+    // an alike sheet leaves it
+    folder.prints("book enter book t2.txt");
+    assert_eq!(folder.prints("book commit book u.txt 2"), "u.txt: 2\n");
+}
+
 /// Which limit a full book is at, and what a book needs that is made too small.
 #[test]
 fn full_books() {
@@ -1010,11 +1174,13 @@ fn earlier_makes() {
     assert_eq!(folder.prints("book show old 1"), folder.prints("clean stock.txt t.txt"));
     let said = "old: there is no number 3: the book holds the numbers 1 to 2, and its stock is 0";
     assert_eq!(folder.says("book show old 3"), said);
-    assert_eq!(
-        folder.says("book enter old t.txt"),
-        "old: a book of make 1, where one of make 2 is needed; what to do: carry it over into a new one by \
-         `caplune book carry old NEW`, which leaves this one as it is"
-    );
+    for line in ["book enter old t.txt", "book question old t.txt", "book commit old t.txt 1"] {
+        assert_eq!(
+            folder.says(line),
+            "old: a book of make 1, where one of make 2 is needed; what to do: carry it over into a new one by \
+             `caplune book carry old NEW`, which leaves this one as it is"
+        );
+    }
     assert_eq!(
         folder.says("book carry old new"),
         "old: 3 entries were answered with 2 numbers, and make 1 does not keep which; \
@@ -1167,7 +1333,14 @@ fn later_makes() {
     ] {
         for rest in [&b""[..], &whole[15..]] {
             folder.write("book", &[format!("caplune book {make}\n").as_bytes(), rest].concat());
-            for line in ["book list book", "book show book 0", "book enter book t.txt", "book carry book new"] {
+            for line in [
+                "book list book",
+                "book show book 0",
+                "book enter book t.txt",
+                "book question book t.txt",
+                "book commit book t.txt 1",
+                "book carry book new",
+            ] {
                 let said = format!("book: a book of {told}, and this caplune reads makes up to 2");
                 assert_eq!(folder.says(line), said + "; what to do: use a newer caplune", "{line}");
             }
@@ -1223,6 +1396,9 @@ fn write_protected_folders() {
         // with a lock that can only be read, and without one
         ("book enter shut/book t.txt", "shut/book"),
         ("book enter shut/other t.txt", "shut/other"),
+        ("book commit shut/book t.txt 1", "shut/book"),
+        ("book commit shut/other t.txt 1", "shut/other"),
+        ("book question -o shut/new shut/book t.txt", "shut/new"),
         ("book carry shut/old shut/new", "shut/new"),
         ("clean -o shut/new stock.txt t.txt", "shut/new"),
         ("convert -o shut/new stock.txt t.txt", "shut/new"),
@@ -1230,8 +1406,17 @@ fn write_protected_folders() {
         let words: Vec<&str> = other.iter().copied().chain(line.split(' ')).collect();
         assert_eq!(told(&folder.run(setpriv, &words, b""), line), format!("{file}: {said}"), "{line}");
     }
-    let words: Vec<&str> = other.iter().copied().chain("book list shut/book".split(' ')).collect();
-    assert_eq!(folder.run(setpriv, &words, b"").status, Some(0));
+    // who only looks writes nothing, and needs no lock
+    for (line, printed) in [
+        ("book list shut/book", "# 0 sheets, 6 of 655538 bytes used, entries answered: 0\n"),
+        ("book question shut/book t.txt", "1\n"),
+        ("book question shut/other t.txt", "1\n"),
+    ] {
+        let words: Vec<&str> = other.iter().copied().chain(line.split(' ')).collect();
+        let ended = folder.run(setpriv, &words, b"");
+        assert_eq!((ended.status, ended.text(), &ended.err[..]), (Some(0), printed, ""), "{line}");
+    }
+    assert!(!folder.file("shut/other.lock").exists());
 }
 
 /// Nothing is left of a result that cannot be written, and what was there stays.
@@ -1330,6 +1515,8 @@ const OUTPUTS: &[(&str, &str, &[&str])] = &[
     ("join --stock new -o", "stock.txt t.txt pairs.txt p.txt", &["stock.txt", "t.txt", "pairs.txt", "p.txt"]),
     ("book show -o", "book 1", &["book"]),
     ("book show --bytes -o", "book 0", &["book"]),
+    ("book question -o", "book t.txt", &["book", "t.txt"]),
+    ("book question --bytes -o", "book t", &["book", "t"]),
 ];
 
 /// No output of any command overwrites a file that it reads, a table of names, a lock or a book.
@@ -1391,11 +1578,13 @@ fn nothing_beside_is_overwritten() {
         ("convert -o y stock.txt y.names", "y.names", "y"),
         ("convert -o y stock.txt second", "second", "y"),
         ("clean --bytes -o y stock.txt y.names", "y.names", "y"),
+        ("book question --bytes -o y book y.names", "y.names", "y"),
         ("join --bytes --stock x -o new x.names t.txt pairs.txt p.txt", "x.names", "x"),
         ("join --bytes --stock new -o y stock.txt y.names pairs.txt p.txt", "y.names", "y"),
         ("book make z z.new~", "z.new~", "z"),
         ("book carry old z --stock z.new~", "z.new~", "z"),
         ("book enter book t.txt book.new~", "book.new~", "book"),
+        ("book commit book book.new~ 1", "book.new~", "book"),
     ] {
         let said = folder.keeps(line, file);
         assert_eq!(
@@ -1445,6 +1634,8 @@ fn damaged_files() {
         "convert stock sheet",
         "book list book",
         "book enter book sheet",
+        "book question book sheet",
+        "book commit book sheet 1",
         "book show book 1",
         "xml stock sheet",
         "plan stock sheet",

@@ -1,85 +1,21 @@
 //! Holds the proved registry against the independent one (the paper: the book): on the paper's samples,
 //! on lists of entries, and on heads, records, counts and areas that are damaged.
 //!
-//! Every call is made three times, each time on a memory of its own: by the safe function of this crate,
-//! by the C function itself, and by the independent function. The answers have to be the same, and so
-//! have the three memories afterwards, with what stands around what was lent. `cargo test --release
-//! --offline --test registry -- --nocapture` prints how often each outcome occurred.
+//! Every call is made three times (`calls`). `cargo test --release --offline --test registry -- --nocapture` prints how
+//! often each outcome occurred. Questions and commits are in `questions.rs`.
+mod calls;
 mod generate;
 mod lent;
 
-use caplune::ffi;
+use calls::{bodies, body, enter, make, of_symbol, of_symbols, pool, set_counts};
 use caplune::slices::{self, Head, Record, RECORDS};
 use caplune_independent as independent;
-use generate::alike::{chain, chain_alphabets, prefixed_transducer, small_alphabets, small_transducer};
+use generate::alike::{chain, chain_alphabets};
 use generate::memory::Memory;
 use generate::samples::*;
-use generate::{Alphabets, Random, Transducer};
-use lent::{number, Tally, BEFORE};
+use generate::Random;
+use lent::Tally;
 use std::collections::{BTreeMap, BTreeSet};
-
-/// Makes a registry in the memory three times, and answers what all three do.
-fn make(tally: &mut Tally, memory: &mut Memory, stock: &[u8]) -> Result<(), u32> {
-    let [mut safe, mut exported] = [memory.clone(), memory.clone()];
-    let stock_lent = stock.to_vec();
-    let expected = memory.make(stock);
-    let (head, records, area) = safe.lend();
-    assert_eq!(number(slices::make_registry(head, records, area, &stock_lent)), expected, "{stock:?}");
-    let (head, records, area) = exported.lend();
-    let refused = ffi::make_registry(head, records, area, &stock_lent);
-    assert_eq!(refused, expected.err().unwrap_or(0), "{stock:?}");
-    assert!(safe == *memory && exported == *memory && stock_lent == stock, "{stock:?}");
-    tally.count("make_registry", &expected, "accepted");
-    expected
-}
-
-/// Enters a transducer three times, and answers the number of all three. One more answer is counted, at that
-/// number alone.
-fn enter(tally: &mut Tally, memory: &mut Memory, file: &[u8]) -> Result<usize, u32> {
-    let [before, mut safe, mut exported] = [memory.clone(), memory.clone(), memory.clone()];
-    let file_lent = file.to_vec();
-    let told = || format!("{:?} {:?} {file:?}", before.head, before.counts());
-    let expected = memory.enter(file);
-    let (head, records, area) = safe.lend();
-    assert_eq!(number(slices::enter(head, records, area, &file_lent)), expected, "{}", told());
-    let (head, records, area) = exported.lend();
-    let mut entered = BEFORE[0];
-    let refused = ffi::enter(head, records, area, &file_lent, &mut entered);
-    let left = (expected.err().unwrap_or(0), expected.unwrap_or(BEFORE[0]));
-    assert_eq!((refused, entered), left, "{}", told());
-    assert!(safe == *memory && exported == *memory && file_lent == file, "{}", told());
-    assert!(safe.counted(&before, expected), "{} {:?}", told(), safe.counts());
-    let added = if memory.head.held > before.head.held { "added" } else { "found" };
-    tally.count("enter", &expected, added);
-    expected
-}
-
-/// The body of this number, which all three hand out: the same bytes, and in the same place.
-fn body<'a>(tally: &mut Tally, memory: &'a mut Memory, number: usize) -> &'a [u8] {
-    let expected = memory.body(number);
-    let name = if expected.is_ok_and(|(_, length)| length > 0) { "body" } else { "empty" };
-    tally.count("body", &expected, name);
-    let (from, length) = expected.unwrap_or((0, 0));
-    let (head, records, area) = (&memory.head, memory.records(), memory.area());
-    let part = slices::body(head, records, area, number);
-    assert_eq!(part.len(), length, "{head:?} {number}");
-    let mut start = BEFORE[0];
-    let size = ffi::body(head, records, area, number, &mut start);
-    assert_eq!((size, start), (length, from), "{head:?} {number}");
-    if length > 0 {
-        assert_eq!(part.as_ptr() as usize, area.as_ptr() as usize + from);
-    }
-    part
-}
-
-/// The bodies of all numbers that can be held, and of some that cannot.
-fn bodies(tally: &mut Tally, memory: &mut Memory) {
-    let before = memory.clone();
-    for number in (0..40).chain([63, 255, 256, 1 << 32, 1 << 63, usize::MAX]) {
-        body(tally, memory, number);
-    }
-    assert_eq!(*memory, before);
-}
 
 /// How many lists are drawn to look at the counts.
 const LISTS: u64 = 20_000;
@@ -381,30 +317,6 @@ fn damaged() {
     others.iter().for_each(|&(answered, counts)| entry(Err(9), &|memory| set_counts(memory, answered, counts)));
 }
 
-/// Sets the answers of the head, and the counts of these records.
-fn set_counts(memory: &mut Memory, answered: u64, counts: &[(usize, u64)]) {
-    let (head, records, _) = memory.lend();
-    head.answered = answered;
-    counts.iter().for_each(|&(index, count)| records[index].count = count);
-}
-
-/// A registry over one input symbol and 64 output symbols that holds so many transducers of one symbol each, in an area
-/// with room for one more.
-fn of_symbols(tally: &mut Tally, held: usize) -> Memory {
-    let stock = [&[1, 0, 64][..], &[0; 64]].concat();
-    let mut memory = Memory::new(RECORDS + 2, stock.len() + 5 * (held + 1));
-    assert_eq!(make(tally, &mut memory, &stock), Ok(()));
-    for symbol in 1..=held {
-        assert_eq!(enter(tally, &mut memory, &of_symbol(symbol)), Ok(symbol));
-    }
-    memory
-}
-
-/// The transducer whose output is always this symbol.
-fn of_symbol(symbol: usize) -> [u8; 5] {
-    [0, 0, 1, 0, symbol as u8]
-}
-
 /// Whether the counts of a memory that is a registry otherwise are those of a registry.
 fn counts_fit(memory: &Memory) -> bool {
     let (counts, Head { held, answered, .. }) = (memory.counts(), memory.head);
@@ -558,41 +470,6 @@ fn full() {
             bodies(&mut tally, &mut memory);
         }
     }
-}
-
-/// Alphabets, and one of these numbers of transducers of few shapes over them, many of them equivalent, with some
-/// that are refused.
-fn pool(random: &mut Random, counts: &[usize]) -> (Alphabets, Vec<Vec<u8>>) {
-    let alphabets = if random.once_in(3) { chain_alphabets() } else { small_alphabets(random) };
-    let mut sheets: Vec<Transducer> = Vec::new();
-    for _ in 0..random.pick(counts) {
-        sheets.push(match random.below(4) {
-            0 => prefixed_transducer(random, &alphabets, 4, 9),
-            1 if alphabets.inputs == [1, 0] && alphabets.outputs == [1, 0, 0] => {
-                chain(random.range(1, 40), random.below(2), 2)
-            }
-            _ => {
-                let (states, most) = (random.range(1, 4), random.pick(&[1, 3, 5, 9]));
-                small_transducer(random, &alphabets, states, most)
-            }
-        });
-    }
-    let mut files: Vec<Vec<u8>> = Vec::new();
-    for sheet in &sheets {
-        files.push(sheet.file());
-        let steps = random.pick(&[2, 5, 10]);
-        files.push(sheet.alike(random, &alphabets, steps).file());
-        if random.once_in(4) {
-            files.push(sheet.with_one_mark_changed(random, &alphabets).unwrap_or_else(|| sheet.clone()).file());
-        }
-        if random.once_in(8) {
-            let mut file = sheet.file();
-            generate::damage(random, &mut file);
-            files.push(file);
-        }
-    }
-    files.push(prefixed_transducer(random, &alphabets, 70, 12).file());
-    (alphabets, files)
 }
 
 /// Lists of entries: any two accepted ones got one number exactly if their minimal transducers are one,

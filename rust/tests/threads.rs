@@ -33,6 +33,7 @@ const _: () = {
     can_be_sent_and_shared::<StoredRegistry>();
     can_be_sent_and_shared::<Transducer>();
     can_be_sent_and_shared::<drawing::Drawn>();
+    can_be_sent_and_shared::<slices::Asked>();
     can_be_sent_and_shared::<slices::Comparison>();
     can_be_sent_and_shared::<slices::Difference>();
     can_be_sent_and_shared::<slices::Form>();
@@ -65,6 +66,8 @@ enum Answer {
     Comparison(Result<Comparison, Refusal>),
     /// The numbers of the entries, and the registry behind them.
     Entries(Vec<Result<usize, Refusal>>, Box<Registry>),
+    /// What a question answered, the numbers of commits, and the registry behind them.
+    Asked(Result<(usize, Transducer), Refusal>, Vec<Result<usize, Refusal>>, Box<Registry>),
 }
 
 /// A call, on inputs of its own.
@@ -92,8 +95,9 @@ fn on_a_tree(calls: &mut Vec<Call>, stock: &[u8], file: &[u8], tree: Vec<u8>, ad
 /// The calls on two transducers over one stock.
 fn on_two(calls: &mut Vec<Call>, stock: &[u8], first: &[u8], second: &[u8]) {
     let both = [first, second].map(|file| transducer(stock, file));
-    let [to_compare, to_enter] = [both.clone(), both.clone()];
+    let [to_compare, to_enter, to_ask] = [both.clone(), both.clone(), both.clone()];
     let registry = Registry::new(&alphabets(stock), 50_000).expect("there is room");
+    let to_commit = registry.clone();
     let [one, _] = both;
     calls.push(Box::new(move || Answer::Form(one.normal_form())));
     calls.push(Box::new(move || Answer::Comparison(to_compare[0].compare(&to_compare[1]))));
@@ -101,6 +105,12 @@ fn on_two(calls: &mut Vec<Call>, stock: &[u8], first: &[u8], second: &[u8]) {
         let mut registry = Box::new(registry.clone());
         let numbers = [0, 1, 1, 0].map(|index| registry.enter(&to_enter[index]));
         Answer::Entries(numbers.to_vec(), registry)
+    }));
+    calls.push(Box::new(move || {
+        let mut registry = Box::new(to_commit.clone());
+        let asked = registry.question(&to_ask[0]);
+        let numbers = [(0, 2), (0, 1), (1, 2), (1, 1)].map(|(index, claim)| registry.commit(&to_ask[index], claim));
+        Answer::Asked(asked, numbers.to_vec(), registry)
     }));
 }
 
@@ -229,6 +239,12 @@ fn largest_inputs() {
     assert!(answers.iter().any(|answer| matches!(answer, Answer::Form(Ok(form)) if form.states() == 128)));
     assert!(answers.iter().any(|answer| matches!(answer, Answer::Comparison(Ok(Comparison::Differ(_))))));
     assert!(answers.iter().any(|answer| matches!(answer, Answer::Entries(numbers, _) if numbers[2] == Ok(2))));
+    let committed = [Err(Refusal::OtherNumber), Ok(1), Ok(2), Err(Refusal::OtherNumber)];
+    let asked = |answer: &Answer| match answer {
+        Answer::Asked(Ok((1, form)), numbers, _) => form.states() == 128 && *numbers == committed,
+        _ => false,
+    };
+    assert!(answers.iter().any(asked));
     at_once(&calls);
 }
 

@@ -109,7 +109,9 @@ fn other_alphabets() {
     let other = Transducer::read(&wide, &[0, 0, 1, 0, 0]).unwrap();
     assert_eq!(transducer.compare(&other), Err(Refusal::BadBody));
     assert_eq!(transducer.shorter(&other), None);
-    assert_eq!(Registry::new(&stock(), 60).unwrap().enter(&other), Err(Refusal::BadBody));
+    let mut registry = Registry::new(&stock(), 60).unwrap();
+    assert_eq!(registry.enter(&other), Err(Refusal::BadBody));
+    assert_eq!((registry.question(&other), registry.commit(&other, 1)), (Err(Refusal::BadBody), Err(Refusal::BadBody)));
 }
 
 #[test]
@@ -151,7 +153,7 @@ fn addresses() {
 #[test]
 fn errors() {
     let numbers: Vec<u32> = Refusal::ALL.iter().map(|refusal| refusal.number()).collect();
-    assert_eq!(numbers, [1, 2, 3, 4, 5, 6, 7, 8, 9, 10, 11, 12, 16, 17]);
+    assert_eq!(numbers, [1, 2, 3, 4, 5, 6, 7, 8, 9, 10, 11, 12, 13, 16, 17]);
     for refusal in Refusal::ALL {
         assert_eq!(refusal.to_string(), format!("refused by {}: {}", refusal.number(), refusal.meaning()));
         assert!(!refusal.meaning().is_empty() && !refusal.remedy().is_empty());

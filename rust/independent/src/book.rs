@@ -1,6 +1,6 @@
 //! A registry of minimal earliest transducers over lent memory (the paper: the book).
 use super::minimal::clean_form;
-use super::{parse_transducer, read_alphabets, BOOK_FULL, NOT_A_BOOK};
+use super::{parse_transducer, read_alphabets, AREA_TOO_SHORT, BOOK_FULL, MAX_FILE, NOT_A_BOOK, OTHER_NUMBER};
 
 /// The most transducers that a book holds.
 pub const MAX_HELD: usize = 32;
@@ -62,25 +62,62 @@ impl<'a> Book<'a> {
     /// answer in the head and in the record of that number. Refuses by 9 what is not a book, by 4, 5 and
     /// 7 as `clean` does, and by 8 a body that is not there and for which there is no record or no room.
     pub fn enter(&mut self, file: &[u8]) -> Result<usize, u32> {
+        let (number, clean) = self.would(file)?;
+        self.settle(number, &clean);
+        Ok(number)
+    }
+
+    /// Asks for the number that an entry of `file` would get, with the book as it is, and writes the minimal
+    /// earliest transducer to the start of `out`: the number, and the length of what is written. Refuses by 1
+    /// where `out` has under 20,483 bytes, and then as the entry would be.
+    pub fn question(&self, file: &[u8], out: &mut [u8]) -> Result<(usize, usize), u32> {
+        if out.len() < MAX_FILE {
+            return Err(AREA_TOO_SHORT);
+        }
+        let (number, clean) = self.would(file)?;
+        out[..clean.len()].copy_from_slice(&clean);
+        Ok((number, clean.len()))
+    }
+
+    /// Enters the transducer `file` if its number is `claim`. Refuses as the entry would be, and last by 13
+    /// where its number is another.
+    pub fn commit(&mut self, file: &[u8], claim: usize) -> Result<usize, u32> {
+        let (number, clean) = self.would(file)?;
+        if number != claim {
+            return Err(OTHER_NUMBER);
+        }
+        self.settle(number, &clean);
+        Ok(number)
+    }
+
+    /// The number that an entry of `file` would get, and the minimal earliest transducer; or how it would be refused.
+    fn would(&self, file: &[u8]) -> Result<(usize, Vec<u8>), u32> {
         self.test()?;
         let alphabets = read_alphabets(&self.area[..self.records[0].length])?;
         let clean = clean_form(alphabets, &parse_transducer(alphabets, file)?)?;
         let next = self.head.held + 1;
         let number = (1..next).find(|&number| *self.part(number) == clean[..]).unwrap_or(next);
-        if number == next {
+        let has_room = next < RECORDS && clean.len() <= self.area.len() - self.head.used;
+        if number < next || has_room {
+            Ok((number, clean))
+        } else {
+            Err(BOOK_FULL)
+        }
+    }
+
+    /// Answers an entry with a number that it would get: adds the transducer where the number is the next one, and
+    /// counts the answer.
+    fn settle(&mut self, number: usize, clean: &[u8]) {
+        if number > self.head.held {
             let start = self.head.used;
-            if next == RECORDS || clean.len() > self.area.len() - start {
-                return Err(BOOK_FULL);
-            }
-            self.head.held = next;
+            self.head.held = number;
             self.head.used = start + clean.len();
-            self.records[next] = Record { start, length: clean.len(), count: 0 };
-            self.area[start..self.head.used].copy_from_slice(&clean);
+            self.records[number] = Record { start, length: clean.len(), count: 0 };
+            self.area[start..self.head.used].copy_from_slice(clean);
         }
         // neither goes round: the count is at most the answers, and these are not yet the last number
         self.records[number].count += 1;
         self.head.answered += 1;
-        Ok(number)
     }
 
     /// The body of this number, as a part of the area; empty for 0 and for a number that is not held.

@@ -13,8 +13,8 @@
 //! A blank is a *variable* of a *partial tree*.
 //!
 //! Every function answers `Result<_, u32>`, where the error is the paper's refusal number, and
-//! tests in the paper's order: 1, 9, 2, 16, 11, 12, 4, 5, 3, 6, 10, 7, 8, 17. A refusal changes nothing that was
-//! lent.
+//! tests in the paper's order: 1, 9, 2, 16, 11, 12, 4, 5, 3, 6, 10, 7, 8, then 13 or 17. A refusal changes nothing
+//! that was lent.
 
 mod book;
 mod earliest;
@@ -56,6 +56,8 @@ pub const OUTPUT_TOO_DEEP: u32 = 10;
 pub const NOT_AN_OUTPUT: u32 = 11;
 /// Refusal 12: the area is shorter than the result.
 pub const TARGET_TOO_SHORT: u32 = 12;
+/// Refusal 13: the entry of a commit would get another number.
+pub const OTHER_NUMBER: u32 = 13;
 /// Refusal 16: the output symbols of the first transducer are not the input symbols of the second.
 pub const OTHER_ALPHABET: u32 = 16;
 /// Refusal 17: the joined transducer passes a limit of transducers.

@@ -45,6 +45,10 @@ pub struct Case {
     pub entered: Vec<u8>,
     /// The number whose body is asked for.
     pub number: usize,
+    /// The length of the area for the normal form that a question writes.
+    pub question_area: usize,
+    /// The number that a commit claims.
+    pub claim: usize,
 }
 
 impl Case {
@@ -64,7 +68,21 @@ impl Case {
         }
         case.codes_area = shown_area(&mut random, CODES_AREA);
         case.add_xml(&mut random, &alphabets);
+        case.question_area = file_area(&mut random);
+        case.claim = case.claim(&mut random);
         case
+    }
+
+    /// The number that an entry gets, most often, or another one.
+    fn claim(&self, random: &mut Random) -> usize {
+        let right = self.registry.clone().enter(&self.entered).unwrap_or(1);
+        match random.below(8) {
+            0 => random.pick(&[right - 1, right + 1]),
+            1 => random.range(0, RECORDS + 1),
+            2 => right.wrapping_add(1 << random.range(6, 63)),
+            3 => random.pick(&[0, 32, 33, usize::MAX]),
+            _ => right,
+        }
     }
 
     /// An output tree over these alphabets and the text of one, most often of the same, with areas for the results;
@@ -117,6 +135,8 @@ impl Case {
             xml: vec![],
             xml_areas: [0; 2],
             number: body_number(random, registry.head.held),
+            question_area: independent::MAX_FILE,
+            claim: 1,
             stock,
             first,
             second,

@@ -91,6 +91,21 @@ impl Memory {
         self.independent(|head, records, area| independent::Book { head, records, area }.enter(file))
     }
 
+    /// Asks for the number of a transducer by the independent implementation: the number, and its normal form.
+    pub fn question(&mut self, file: &[u8], out: usize) -> Result<(usize, Vec<u8>), u32> {
+        let mut out = vec![0; out];
+        self.independent(|head, records, area| {
+            let (number, length) = independent::Book { head, records, area }.question(file, &mut out)?;
+            out.truncate(length);
+            Ok((number, out))
+        })
+    }
+
+    /// Commits a transducer with this claim by the independent implementation: its number.
+    pub fn commit(&mut self, file: &[u8], claim: usize) -> Result<usize, u32> {
+        self.independent(|head, records, area| independent::Book { head, records, area }.commit(file, claim))
+    }
+
     /// Where the independent implementation finds the body of this number in the area: its start and its length.
     pub fn body(&mut self, number: usize) -> Result<(usize, usize), u32> {
         self.independent(|head, records, area| {

@@ -104,8 +104,12 @@ impl Arguments {
     }
 }
 
-/// The number that a word is: digits and nothing else.
+/// The number that a word is, if it is not too large.
 pub fn number<N: FromStr>(word: &OsStr) -> Option<N> {
-    let text = word.to_str().filter(|text| text.bytes().all(|byte| byte.is_ascii_digit()))?;
-    text.parse().ok()
+    digits(word)?.parse().ok()
+}
+
+/// A word that is a number, however large: digits and nothing else.
+pub fn digits(word: &OsStr) -> Option<&str> {
+    word.to_str().filter(|text| !text.is_empty() && text.bytes().all(|byte| byte.is_ascii_digit()))
 }

@@ -1,9 +1,10 @@
 //! The commands of a book on disk.
-use crate::arguments::{number, Arguments};
-use crate::commands::count;
+use crate::arguments::{digits, number, Arguments};
+use crate::commands::{count, wrong};
 use crate::failure::Failure;
 use crate::files::{
-    free_name, keep_beside, names_beside, print, shown, table_names, Content, Inputs, Sheet, Stock, UNFINISHED,
+    free_name, is_standard_output, keep_beside, names_beside, print, shown, table_names, Content, Inputs, Sheet, Stock,
+    UNFINISHED,
 };
 use crate::Status;
 use caplune::text::Names;
@@ -43,7 +44,7 @@ fn not_begun(path: &Path, stock: &Stock, size: usize, refusal: Refusal) -> Failu
         (Refusal::FullRegistry, needed) => {
             let why = format!("the stock alone needs {needed} bytes, and --size gives {size}");
             let remedy = format!("give more by --size, up to {}: clean sheets need room too", Registry::LONGEST_AREA);
-            Failure::full(&name, &why, &remedy)
+            Failure::refused_for(&name, refusal, &why, &remedy)
         }
         _ => Failure::refused(&name, refusal),
     }
@@ -74,20 +75,124 @@ fn failed(path: &Path, error: store::Error) -> Failure {
     }
 }
 
-/// Enters sheets into a book. Those that are refused are told one by one; the numbers of the others are printed once
-/// the book is on disk.
+/// Enters sheets into a book.
 pub fn enter(arguments: &Arguments) -> Result<Status, Failure> {
-    let path = path_of(&arguments.plain[0])?;
-    keep_beside(path, &[UNFINISHED], &arguments.plain[1..])?;
+    let call = |registry: &mut Registry, sheet: &Sheet| {
+        registry.enter(&sheet.transducer).map_err(|refusal| not_entered(registry, sheet, refusal))
+    };
+    change(&arguments.plain[0], &arguments.plain[1..], call, "enter once more")
+}
+
+/// Enters a sheet into a book if it gets the number that is given.
+pub fn commit(arguments: &Arguments) -> Result<Status, Failure> {
+    let given = &arguments.plain[2];
+    let claim = claim(given)?;
+    let call = |registry: &mut Registry, sheet: &Sheet| {
+        registry.commit(&sheet.transducer, claim).map_err(|refusal| match refusal {
+            Refusal::OtherNumber => other_number(sheet, given),
+            refusal => not_entered(registry, sheet, refusal),
+        })
+    };
+    change(&arguments.plain[0], &arguments.plain[1..2], call, "ask again (`caplune book question`)")
+}
+
+/// The number that a word is. One that is too large for a number of a sheet is none that a sheet gets.
+fn claim(word: &OsStr) -> Result<usize, Failure> {
+    match digits(word) {
+        Some(_) => Ok(number(word).unwrap_or(usize::MAX)),
+        None => Err(wrong(&format!("`{}` is no number", shown(word)), Some("book commit"))),
+    }
+}
+
+/// A sheet would get another number than was given.
+fn other_number(sheet: &Sheet, given: &OsStr) -> Failure {
+    let refusal = Refusal::OtherNumber;
+    let why = format!("{} was given, and nothing was entered", shown(given));
+    Failure::refused_for(&sheet.name, refusal, &why, refusal.remedy())
+}
+
+/// Changes a book by a call for each sheet, which answers its number. Sheets that are refused are told one by one; the
+/// numbers of the others are printed once the book is on disk. `again` is what to do where another book has taken its
+/// place meanwhile.
+fn change(
+    file: &OsStr,
+    sheets: &[OsString],
+    call: impl Fn(&mut Registry, &Sheet) -> Result<usize, Failure>,
+    again: &str,
+) -> Result<Status, Failure> {
+    let path = path_of(file)?;
+    keep_beside(path, &[UNFINISHED], sheets)?;
     // no entry changes the stock of a book, so the sheets can be read before the book is kept from others
-    let stock = stock_in(&store::read(path).map_err(|error| failed(path, error))?);
+    let stock = stock_in(&read(path)?);
     let mut inputs = Inputs::default();
-    let sheets: Vec<_> = arguments.plain[1..].iter().map(|sheet| inputs.sheet(sheet, &stock)).collect();
-    let answers = store::change(path, tell_wait, |registry| match stock_in(registry) == stock {
-        true => sheets.into_iter().map(|sheet| entered(registry, sheet?)).collect(),
-        false => vec![Err(Failure::of_file(&shown(path.as_os_str()), REPLACED))],
+    let sheets: Vec<_> = sheets.iter().map(|sheet| inputs.sheet(sheet, &stock)).collect();
+    let answers: Result<Vec<_>, _> = store::change(path, tell_wait, |registry| match stock_in(registry) == stock {
+        true => sheets.into_iter().map(|sheet| line_of(sheet?, |sheet| call(registry, sheet))).collect(),
+        false => vec![Err(Failure::of_file(&shown(file), format!("{REPLACED}; what to do: {again}")))],
     });
-    let answers = answers.map_err(|error| failed(path, error))?;
+    tell_all(answers.map_err(|error| failed(path, error))?)
+}
+
+/// Why sheets are not entered that were read under the stock of another book.
+const REPLACED: &str = "another book of another stock has taken its place meanwhile";
+
+/// Tells the number that a sheet would get in a book, or those of several, each by itself. The book is only read.
+pub fn question(arguments: &Arguments) -> Result<Status, Failure> {
+    let (sheets, out, bytes) = (&arguments.plain[1..], arguments.value("-o"), arguments.has("--bytes"));
+    one_output(sheets, out, bytes)?;
+    let registry = read(path_of(&arguments.plain[0])?)?;
+    let stock = stock_in(&registry);
+    let mut inputs = Inputs::default();
+    match sheets {
+        [sheet] => {
+            let (number, form) = ask(&registry, &inputs.sheet(sheet, &stock)?)?;
+            tell_one(number, Content::numbered(&form, &stock.names), out, bytes)
+        }
+        many => {
+            let number = |sheet: &Sheet| ask(&registry, sheet).map(|(number, _)| number);
+            tell_all(many.iter().map(|sheet| line_of(inputs.sheet(sheet, &stock)?, number)))
+        }
+    }
+}
+
+/// The number that a sheet would get, and its clean sheet.
+fn ask(registry: &Registry, sheet: &Sheet) -> Result<(usize, Transducer), Failure> {
+    registry.question(&sheet.transducer).map_err(|refusal| not_entered(registry, sheet, refusal))
+}
+
+/// Writes a clean sheet, if it is to be written, and then prints its number; on standard output the sheet stands alone.
+fn tell_one(number: usize, sheet: Content, out: Option<&OsStr>, bytes: bool) -> Result<Status, Failure> {
+    if out.is_some() {
+        sheet.write(out, bytes)?;
+    }
+    if !out.is_some_and(|out| is_standard_output(Path::new(out))) {
+        print(&format!("{number}\n"))?;
+    }
+    Ok(Status::Done)
+}
+
+/// The clean sheet of one sheet goes to one file, in bytes only if it goes to any.
+fn one_output(sheets: &[OsString], out: Option<&OsStr>, bytes: bool) -> Result<(), Failure> {
+    let told = |why: &str| Err(Failure::Told(why.to_string()));
+    match out {
+        Some(_) if sheets.len() > 1 => told("-o writes the clean sheet of one sheet, and more are given"),
+        None if bytes => told("--bytes is for the clean sheet that -o writes, and -o is not given"),
+        _ => Ok(()),
+    }
+}
+
+/// Reads a book of the make that takes entries.
+fn read(path: &Path) -> Result<Registry, Failure> {
+    store::read(path).map_err(|error| failed(path, error))
+}
+
+/// The line of a sheet and the number that is answered.
+fn line_of(sheet: Sheet, call: impl FnOnce(&Sheet) -> Result<usize, Failure>) -> Result<String, Failure> {
+    call(&sheet).map(|number| format!("{}: {number}\n", sheet.name))
+}
+
+/// Prints lines, and tells what stands in place of others.
+fn tell_all(answers: impl IntoIterator<Item = Result<String, Failure>>) -> Result<Status, Failure> {
     let mut refused = false;
     for answer in answers {
         match answer {
@@ -105,29 +210,26 @@ pub fn enter(arguments: &Arguments) -> Result<Status, Failure> {
     }
 }
 
-/// Why sheets are not entered that were read under the stock of another book.
-const REPLACED: &str = "another book of another stock has taken its place meanwhile; what to do: enter once more";
-
 /// The stock of a book, with the names of its kinds.
 fn stock_in(registry: &Registry) -> Stock {
     Stock { alphabets: registry.alphabets().clone(), names: registry.names().clone() }
 }
 
-/// The line that tells the number of a sheet that is entered.
-fn entered(registry: &mut Registry, sheet: Sheet) -> Result<String, Failure> {
-    match registry.enter(&sheet.transducer) {
-        Ok(number) => Ok(format!("{}: {number}\n", sheet.name)),
-        Err(Refusal::FullRegistry) => Err(no_room(registry, &sheet)),
-        Err(refusal) => Err(Failure::refused(&sheet.name, refusal)),
+/// A sheet that is not entered, or would not be.
+fn not_entered(registry: &Registry, sheet: &Sheet, refusal: Refusal) -> Failure {
+    match refusal {
+        Refusal::FullRegistry => no_room(registry, sheet),
+        refusal => Failure::refused(&sheet.name, refusal),
     }
 }
 
 /// A clean sheet has no room in a book: which of the two limits it is over.
 fn no_room(registry: &Registry, sheet: &Sheet) -> Failure {
+    let refusal = Refusal::FullRegistry;
     let another = "make another book for the further sheets";
     if registry.held() == Registry::MOST_HELD {
         let why = format!("{} sheets are held, the most that a book can hold", registry.held());
-        return Failure::full(&sheet.name, &why, &format!("{another}: numbers given stay"));
+        return Failure::refused_for(&sheet.name, refusal, &why, &format!("{another}: numbers given stay"));
     }
     let free = registry.area() - registry.used();
     let length = sheet.transducer.normal_form().map_or(0, |form| form.as_bytes().len());
@@ -135,7 +237,7 @@ fn no_room(registry: &Registry, sheet: &Sheet) -> Failure {
     let why = format!("the clean sheet has {length} bytes, {free} are free, and {missing} missing");
     let room = format!("with more room (`caplune book make --size N`, up to {})", Registry::LONGEST_AREA);
     let remedy = format!("{another}, {room}: numbers given stay");
-    Failure::full(&sheet.name, &why, &remedy)
+    Failure::refused_for(&sheet.name, refusal, &why, &remedy)
 }
 
 /// A book on disk, of any make.

@@ -37,6 +37,7 @@ const SVG: Choice = Choice {
     says: "draw the difference of two sheets as a picture; none if they are alike",
 };
 const STOCK: Choice = Choice { name: "--stock", takes: Some(FILE), says: "write the joined sheet's stock to FILE" };
+const CLEAN_SHEET: Choice = Choice { name: "-o", takes: Some(FILE), says: "write the clean sheet to FILE" };
 const SIZE: Choice = Choice {
     name: "--size",
     takes: Some("N"),
@@ -200,6 +201,29 @@ const COMMANDS: &[Command] = &[
         run: book::enter,
     },
     Command {
+        name: "book question",
+        takes: "BOOK SHEET...",
+        words: (2, ANY),
+        choices: &[CLEAN_SHEET, BYTES],
+        does: "tell the number that a sheet would get in a book, and leave the book as it is",
+        more: "The number stands alone in a line. Of several sheets each is asked by itself, as the only one, and\n\
+               each number stands behind its sheet. What `book enter` would refuse is refused. With -o the clean\n\
+               sheet of one sheet is written; if that is to standard output, it stands there alone.",
+        example: "caplune book question book t2.txt",
+        run: book::question,
+    },
+    Command {
+        name: "book commit",
+        takes: "BOOK SHEET NUMBER",
+        words: (3, 3),
+        choices: &[],
+        does: "enter a sheet into a book if it gets just this number, which `book question` told",
+        more: "Where another sheet was entered meanwhile and has that number, the sheet is refused by 13, nothing is\n\
+               entered, and `book question` tells its number now.",
+        example: "caplune book commit book t2.txt 1",
+        run: book::commit,
+    },
+    Command {
         name: "book list",
         takes: "BOOK",
         words: (1, 1),
@@ -258,10 +282,10 @@ pub fn run(words: &[OsString]) -> Result<Status, Failure> {
     if rest.iter().take_while(|word| *word != "--").any(helped) {
         return print(&command.help()).map(|()| Status::Done);
     }
-    let arguments = Arguments::read(rest, command.choices).map_err(|why| wrong(&why, Some(command)))?;
+    let arguments = Arguments::read(rest, command.choices).map_err(|why| wrong(&why, Some(command.name)))?;
     let (least, most) = command.words;
     if !(least..=most).contains(&arguments.plain.len()) {
-        return Err(wrong(&format!("it takes {}", command.takes), Some(command)));
+        return Err(wrong(&format!("it takes {}", command.takes), Some(command.name)));
     }
     keep(&command.outputs(&arguments), command.files(&arguments))?;
     (command.run)(&arguments)
@@ -277,16 +301,16 @@ fn find(words: &[OsString]) -> Result<(&'static Command, &[OsString]), Failure> 
     }
     let first = words.first().map(|word| shown(word)).unwrap_or_default();
     let why = match first.as_str() {
-        "book" => "book is followed by make, enter, list, show or carry".to_string(),
+        "book" => "book is followed by make, enter, question, commit, list, show or carry".to_string(),
         _ => format!("there is no command `{first}`"),
     };
     Err(wrong(&why, None))
 }
 
-/// A command line that is wrong, and where to read how it is right.
-fn wrong(why: &str, command: Option<&Command>) -> Failure {
+/// A command line that is wrong, of this command if it is known, and where to read how it is right.
+pub fn wrong(why: &str, command: Option<&str>) -> Failure {
     Failure::Told(match command {
-        Some(Command { name, .. }) => format!("{name}: {why}; `caplune {name} --help` tells more"),
+        Some(name) => format!("{name}: {why}; `caplune {name} --help` tells more"),
         None => format!("{why}; `caplune --help` tells more"),
     })
 }
@@ -310,9 +334,10 @@ where they do not. It sews, cleans and joins sheets, and keeps a book of them.
 /// What a book is.
 const BOOK: &str = "\
 A book holds clean sheets under one stock, by number from 1 on, at most 32. Sheets
-that sew alike get one number, and the book counts how often it gave each. It is
-one file, with the names of the kinds in it; who changes it keeps others waiting
-by BOOK.lock. A stop at any moment leaves the old book or the new one.
+that sew alike get one number, and the book counts how often it gave each. A
+number can be asked for before it is given. A book is one file, with the names of
+the kinds in it; who changes it keeps others waiting by BOOK.lock. A stop at any
+moment leaves the old book or the new one.
 
 ";
 

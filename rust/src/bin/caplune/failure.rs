@@ -40,9 +40,8 @@ impl Failure {
         }
     }
 
-    /// A book has no room for a file: why, and what to do about just this.
-    pub fn full(file: &str, why: &str, remedy: &str) -> Self {
-        let refusal = Refusal::FullRegistry;
+    /// The library refuses a file: why just here, and what to do about just this.
+    pub fn refused_for(file: &str, refusal: Refusal, why: &str, remedy: &str) -> Self {
         Failure::of_file(file, format!("{refusal}: {why}; what to do: {remedy}"))
     }
 

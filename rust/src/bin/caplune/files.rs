@@ -362,7 +362,7 @@ impl<'a> Content<'a> {
 }
 
 /// Whether a path is that of standard output.
-fn is_standard_output(path: &Path) -> bool {
+pub fn is_standard_output(path: &Path) -> bool {
     ["-", "/dev/stdout", "/dev/fd/1"].iter().any(|name| path == Path::new(name))
 }
 
