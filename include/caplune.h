@@ -22,12 +22,14 @@
  *
  * Threads. The library has no variables of its own and allocates nothing, so that any number of threads may call it
  * at once, as long as none of them writes what is lent in another's call; an area, a head and its records are lent
- * to one call at a time.
+ * to one call at a time, but for calls that only read a registry, which may be made at once: caplune_question, each
+ * with an `out` of its own, and caplune_body.
  *
  * Stack. All work memory is local. Bytes of stack of one call, measured on x86-64 (docs/AREAS.md, which has the
  * local arrays of each function): translate 275,159, symbol_at 78,111 and read_tree 65,647 on a chain of 512 levels,
- * shorter 123,023, enter 121,423, compare 105,295, clean 100,831, earliest_form 66,735, join 55,519, read_xml
- * 16,719, write_xml 12,575, is_linear 9,207; the others under 4,600. Mind this where a thread's stack is made small.
+ * shorter 123,023, commit 121,743, enter 121,727, question 121,647, compare 105,295, clean 100,831, earliest_form
+ * 66,735, join 55,519, read_xml 16,719, write_xml 12,575, is_linear 9,207; the others under 4,600. Mind this where a
+ * thread's stack is made small.
  */
 #ifndef CAPLUNE_H
 #define CAPLUNE_H

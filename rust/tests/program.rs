@@ -132,7 +132,7 @@ fn stack_figures() {
     let (document, crate_, header) = (read("docs/AREAS.md"), read("rust/src/lib.rs"), read("include/caplune.h"));
     let table = document.split("## Stack").nth(1).expect("a table");
     let figures: Vec<&str> = table.lines().filter_map(|line| line.strip_suffix(" |")?.rsplit("| ").next()).collect();
-    assert_eq!(figures.len(), 12);
+    assert_eq!(figures.len(), 14);
     for figure in &figures[1..] {
         assert!(crate_.contains(figure) && header.contains(figure), "{figure}");
     }
