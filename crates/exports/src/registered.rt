@@ -105,8 +105,8 @@ pub extern "C" fn caplune_enter(
 ) -> u32
     ensures { λ r. ⌜ ExportsEntry (now (file .entry)) (now (head .entry)) (now (records .entry)) (now (area .entry)) (now (head .exit)) (now (records .exit)) (now (area .exit)) (now (number .entry)) (now (number .exit)) r ⌝ }
 {
-    let u = any_number();
-    let answer = enter(head, records, area, file, u);
+    let entry = any_number();
+    let answer = enter(head, records, area, file, entry);
     tell_entered(answer, number)
 }
 
@@ -141,8 +141,8 @@ pub extern "C" fn caplune_commit(
 ) -> u32
     ensures { λ r. ⌜ ExportsCommit (now (file .entry)) claim (now (head .entry)) (now (records .entry)) (now (area .entry)) (now (head .exit)) (now (records .exit)) (now (area .exit)) (now (number .entry)) (now (number .exit)) r ⌝ }
 {
-    let u = this_number(claim);
-    let answer = enter(head, records, area, file, u);
+    let commit = this_number(claim);
+    let answer = enter(head, records, area, file, commit);
     tell_entered(answer, number)
 }
 

@@ -1,4 +1,4 @@
-// Entry: the normal form of a transducer is found or added.
+// Entry, question and commit: the normal form of a transducer is found or added, or the number is told that it would get.
 ghost use Prim.Native.Nat.{ℕ, _≤_, _<_, min};
 ghost use mathlib.Core.List.{List};
 ghost use mathlib.Core.Path.{_≡_};
@@ -256,12 +256,19 @@ pub fn this_number(m: usize) -> Submission
 }
 
 // The end of an entry or a commit, after the search for the clean file `bytes`, which found f: question, claim and commit.
-pub fn place(h: Head, u: Submission, a: Asked, f: Located, area: &mut [u8], bytes: &[u8]) -> Entry
+pub fn place(
+    h: Head,
+    submission: Submission,
+    a: Asked,
+    f: Located,
+    area: &mut [u8],
+    bytes: &[u8],
+) -> Entry
     requires { ⌜ Searched h a f (now area) (now bytes) ⌝ }
-    ensures { λ r. ⌜ ((s : List ℕ) (rs : List Records) → Asks s h rs (now (area .entry)) (now (bytes .entry)) a → Finds (a .held) rs (now (area .entry)) (now (bytes .entry)) f → Places s u h rs (now (area .entry)) r (now (area .exit))) ⌝ }
+    ensures { λ r. ⌜ ((s : List ℕ) (rs : List Records) → Asks s h rs (now (area .entry)) (now (bytes .entry)) a → Finds (a .held) rs (now (area .entry)) (now (bytes .entry)) f → Places s submission h rs (now (area .entry)) r (now (area .exit))) ⌝ }
 {
     let would = decide(h, a, f, area.len(), bytes.len());
-    let claim = u.claim;
+    let claim = submission.claim;
     let answer = claimed(would, claim);
     settle(h, answer, f.its, area, bytes)
 }

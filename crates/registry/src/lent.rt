@@ -83,15 +83,15 @@ fn renew(rs: &mut [Record], size: usize, n: usize)
     }
 }
 
-// An entry or a commit, as u says, of the transducer of the file `sheet`: its normal form is found or added. A commit is refused where that would get another number.
+// An entry or a commit, as the submission says, of the transducer of the file `sheet`: its normal form is found or added. A commit is refused where that would get another number.
 pub fn enter(
     head: &mut Head,
     records: &mut [Record],
     area: &mut [u8],
     sheet: &[u8],
-    u: Submission,
+    submission: Submission,
 ) -> Entered
-    ensures { λ r. ⌜ Registers (now (sheet .entry)) u (now (head .entry)) (now (records .entry)) (now (area .entry)) (now (head .exit)) (now (records .exit)) (now (area .exit)) r ⌝ }
+    ensures { λ r. ⌜ Registers (now (sheet .entry)) submission (now (head .entry)) (now (records .entry)) (now (area .entry)) (now (head .exit)) (now (records .exit)) (now (area .exit)) r ⌝ }
 {
     let h = *head;
     let s = survey(records, h, 0);
@@ -99,7 +99,7 @@ pub fn enter(
     let a = ask(h, records.len(), s, area, sheet, &mut file);
     let bytes = beginning(&file, a.size);
     let f = find(records, a.held, area, bytes);
-    let e = place(h, u, a, f, area, bytes);
+    let e = place(h, submission, a, f, area, bytes);
     *head = e.head;
     add(records, e.number, e.new);
     e.answer
