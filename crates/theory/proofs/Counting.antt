@@ -281,7 +281,7 @@ allowed_child (next ok oks) (suc (suc i)) e = allowed_child oks (suc i) e
 
 module _ {G : Grammar} {M : Transducer ℕ} {n : ℕ} (W : Wf G M (λ q. q < n)) where
   -- what is given at a node is at most what is given in all
-  pub visited_le : {m m' : ℕ → ℕ} {s : ℕ} {d d' : Tree} → ForSort M n m s → Allowed G s d → Visited M n m d m' d' → (s' : ℕ) × ForSort M n m' s' × Allowed G s' d' × ((k : ℕ) → contribution M n k m' d' ≤ contribution M n k m d)
+  pub visited_le : {m : ℕ → ℕ} {s : ℕ} {d : Tree} {m' : ℕ → ℕ} {d' : Tree} → ForSort M n m s → Allowed G s d → Visited M n m d m' d' → (s' : ℕ) × ForSort M n m' s' × Allowed G s' d' × ((k : ℕ) → contribution M n k m' d' ≤ contribution M n k m d)
   visited_le {s = s} f ok top = (s, f, ok, λ k. omega arith)
   visited_le f ok (child {m'} {a} {ds} {d'} i v e) =
       let x = visited_le f ok v in

@@ -35,14 +35,19 @@ module _ {Q : Type 0} {D E : ℕ × Q → ℕ → Tree → Type 0} where
     matched_all_by matched_none f = matched_none
     matched_all_by (matched_more m ms) f = matched_more (matched_by m (λ e p u x. f e p u (at_head x))) (matched_all_by ms (λ e p u x. f e p u (at_tail x)))
 
+-- a demand at a node stands inside it
+inside_back : {Q : Type 0} {e : ℕ × Q} {j k p p' : ℕ} {u' : Tree} {ts : Terms (ℕ × Q)} {us : Terms ⊥} → Demand (node j ts) p (node k us) e p' u' → Demands ts (suc p) us e p' u'
+inside_back (inside x) = x
+
 module _ {Q : Type 0} {D : ℕ × Q → ℕ → Tree → Type 0} where
   mutual
     -- D holds of any demand
     pub matched_at : {X : Term (ℕ × Q)} {p p' : ℕ} {u u' : Tree} {e : ℕ × Q} → Matched D X p u → Demand X p u e p' u' → D e p' u'
     matched_at (demand d) this = d
-    matched_at (symbol m) (inside x) = matched_all_at m x
+    matched_at (symbol m) x = matched_all_at m (inside_back x)
 
     matched_all_at : {X : Terms (ℕ × Q)} {p p' : ℕ} {u : Terms ⊥} {u' : Tree} {e : ℕ × Q} → MatchedAll D X p u → Demands X p u e p' u' → D e p' u'
+    matched_all_at matched_none x = elim x [ ]
     matched_all_at (matched_more m ms) (at_head x) = matched_at m x
     matched_all_at (matched_more m ms) (at_tail x) = matched_all_at ms x
 
@@ -122,7 +127,7 @@ module _ {Q : Type 0} where
     -- where child i is called once, two demands on it are one
     pub demand_once : {X : Term (ℕ × Q)} {p p' p₂ : ℕ} {u u' u₂ : Tree} {e e₂ : ℕ × Q} (i : ℕ) → calls i X ≤ 1 → Demand X p u e p' u' → Demand X p u e₂ p₂ u₂ → e.0 ≡ i → e₂.0 ≡ i → Same e e₂ p' p₂ u' u₂
     demand_once i l this this h k = record { state = refl; place = refl; tree = refl }
-    demand_once i l (inside x) (inside y) h k = demands_once i l x y h k
+    demand_once i l (inside x) y h k = demands_once i l x (inside_back y) h k
 
     demands_once : {X : Terms (ℕ × Q)} {p p' p₂ : ℕ} {u : Terms ⊥} {u' u₂ : Tree} {e e₂ : ℕ × Q} (i : ℕ) → weights (on_child i) X ≤ 1 → Demands X p u e p' u' → Demands X p u e₂ p₂ u₂ → e.0 ≡ i → e₂.0 ≡ i → Same e e₂ p' p₂ u' u₂
     demands_once i l (at_head x) (at_head y) h k = demand_once i (omega arith) x y h k

@@ -117,7 +117,7 @@ mutual
       (λ h. let z : p ≡ size t + (p - size t) = omega arith in let r = ats_exist ts (p - size t) (omega arith) in (r.0, later r.1 z))
 
 -- one child more, at the end
-pub children_snoc : {Q : Type 0} {G : Grammar} {B : Q → ℕ → Tree → Tree → Type 0} {X : Term (ℕ × Q)} {p i s : ℕ} {u d : Tree} {sorts : List ℕ} {ds : Terms ⊥}
+pub children_snoc : {Q : Type 0} {G : Grammar} {B : Q → ℕ → Tree → Tree → Type 0} {X : Term (ℕ × Q)} {p : ℕ} {u : Tree} {i s : ℕ} {d : Tree} {sorts : List ℕ} {ds : Terms ⊥}
     → Children G B X p u i sorts ds → Child G B X p u (i + length sorts) s d → Children G B X p u i (sorts ++ s ∷ []) (joined ds (more d none))
 children_snoc (no_child {i}) c = let e : i + 0 ≡ i = omega arith in one_child (rw e at c) no_child
 children_snoc (one_child {i} {sorts} x xs) c = let e : i + suc (length sorts) ≡ suc i + length sorts = omega arith in one_child x (children_snoc xs (rw e at c))

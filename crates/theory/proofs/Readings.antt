@@ -47,7 +47,7 @@ same_extends e = rw e extends_refl
 
 module _ {Q : Type 0} {G : Grammar} {M : Transducer Q} where
   -- reading the right-hand sides of a state leads to one list
-  rhs_same : {q : Q} {a : ℕ} {L L' L'' : List Q} → ReadRhs G M q L a L' → ReadRhs G M q L a L'' → L' ≡ L''
+  rhs_same : {q : Q} {L : List Q} {a : ℕ} {L' L'' : List Q} → ReadRhs G M q L a L' → ReadRhs G M q L a L'' → L' ≡ L''
   rhs_same no_rhs no_rhs = refl
   rhs_same (skip_rhs r k) (skip_rhs r' k') = rhs_same r r'
   rhs_same (skip_rhs r k) (read_rhs r' k' t) = conflict (cc)
@@ -58,7 +58,7 @@ module _ {Q : Type 0} {G : Grammar} {M : Transducer Q} where
   rhs_or {a} {b} r r' l f = by_cases (ℕ_discrete a b) (λ e. same_extends (rhs_same (rw e at r) r')) (λ n. f (omega arith))
 
   -- what the right-hand sides for fewer symbols list, those for more list
-  rhs_later : {q : Q} {a b : ℕ} {L L' L'' : List Q} → ReadRhs G M q L a L' → ReadRhs G M q L b L'' → a ≤ b → Extends L' L''
+  rhs_later : {q : Q} {a : ℕ} {L : List Q} {b : ℕ} {L' L'' : List Q} → ReadRhs G M q L a L' → ReadRhs G M q L b L'' → a ≤ b → Extends L' L''
   rhs_later r no_rhs l = rhs_or r no_rhs l (λ m. absurd (omega arith))
   rhs_later r (skip_rhs r' k) l = rhs_or r (skip_rhs r' k) l (λ m. rhs_later r r' (omega arith))
   rhs_later r (read_rhs r' k t) l = rhs_or r (read_rhs r' k t) l (λ m. extends_trans (rhs_later r r' (omega arith)) (read_extends t))
@@ -157,7 +157,7 @@ module _ {Q Q' : Type 0} {G : Grammar} {M : Transducer Q} {M' : Transducer Q'} {
     reads_mapped (both v vs) l (read_more r rs) = read_more (read_mapped v l r) (reads_mapped vs (read_every r l v) rs)
 
   -- The right-hand sides of f q are read as those of q are.
-  pub rhs_mapped : {q : Q} {a : ℕ} {L L' : List Q} → Valid q → Every Valid L → ReadRhs G M q L a L' → ReadRhs G M' (f q) (map f L) a (map f L')
+  pub rhs_mapped : {q : Q} {L : List Q} {a : ℕ} {L' : List Q} → Valid q → Every Valid L → ReadRhs G M q L a L' → ReadRhs G M' (f q) (map f L) a (map f L')
   rhs_mapped v l no_rhs = no_rhs
   rhs_mapped {q} v l (skip_rhs {a} r k) = skip_rhs (rhs_mapped v l r) (ap (λ s. G.children s a) (same-sort q v) ∙ k)
   rhs_mapped {q} v l (read_rhs {a} r k t) = read_rhs (rhs_mapped v l r) (ap (λ s. G.children s a) (same-sort q v) ∙ k) (rw (← F.rhs q a v k) at
