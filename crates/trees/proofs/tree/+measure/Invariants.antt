@@ -1,0 +1,20 @@
+-- `measure` meets its contract. The loop's invariant is `Measuring`; with each call the bytes left fall. Assumes nothing.
+use Prim.Native.Nat.{ℕ, ◌-◌}
+use mathlib.Core.List.{List}
+use lib.ListN.{length}
+use Rattle.trees.specs.Inner.Symbols.{symbol_of}
+use Rattle.trees.proofs.Extents.{Measuring}
+use Rattle.trees.proofs.tree.+measure.Given as goal
+
+-- of s, from position at on
+abbrev pub bytes_left : List ℕ → ℕ → ℕ
+bytes_left s at = length s - at
+
+abbrev pub decreases-measure : goal.decreases-measure
+decreases-measure l = bytes_left l.s.now l.at
+
+abbrev pub invariant-loop-left : goal.invariant-loop-left
+invariant-loop-left l = Measuring (symbol_of {A = ⊥} l.ranks) l.s l.at l.room l.left l.p l.deep
+
+abbrev pub decreases-loop-left : goal.decreases-loop-left
+decreases-loop-left l = l.left
