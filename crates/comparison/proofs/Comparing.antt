@@ -18,7 +18,7 @@ use Rattle.theory.proofs.Terms.{conflict}
 use Rattle.theory.proofs.Trimming.{trimmed_equivalent, trimmed_earliest, trimmed_form}
 use Rattle.trees.specs.Alphabets.{Leaf, inputs, outputs, alphabet_check}
 use Rattle.formats.specs.Answers.{ReadsFile, HandsMarks}
-use Rattle.trees.specs.Refusal.{refusal_number, Outcome, accepted, refused, Checks, done, check, judged, Holds, Judged}
+use Rattle.trees.specs.Refusal.{refusal_number, Outcome, accepted, refused, Checks, done, check, IsJudged, Holds, Judged}
 use Rattle.formats.specs.Sheet.{Encodes, Sheet, sheet_check}
 use Rattle.formats.specs.declared.file.FileRead.{FileRead}
 use Rattle.formats.specs.declared.file.FileRead.TheVariants as reading
@@ -159,10 +159,10 @@ module _ {stock counts bytes starts out counts' bytes' starts' out' : List ℕ} 
 -- ---- of two files: what is answered of their parts is answered of them
 -- a check that holds can be left out
 pub past : {A Kept : Type 0} {Good : A → Type 0} {k : ℕ} {P : Type 0} {rest : Checks} {r : Outcome A} → P → Judged Kept Good (check k P rest) r → Judged Kept Good rest r
-unfolding judged
+unfolding IsJudged
 past {Kept} {Good} {k} {P} {rest} {r} p j = go j.verdict
   where
-    go : judged Kept Good (check k P rest) r → Judged Kept Good rest r
+    go : IsJudged Kept Good (check k P rest) r → Judged Kept Good rest r
     go (inl (f, q, kept)) = absurd (f p)
     go (inr (p', v)) = record { verdict = v }
 
@@ -196,21 +196,21 @@ module _ {stock s s' ins ins' counts counts' bytes bytes' : List ℕ} {n n' : �
   files_found tree tree' address address' (some v) F = record { shown = F.0; place = F.1.0; written = F.1.1.0; differ = λ m m' M M' S S'. F.1.1.1 M M' (sheet_parts O S) (sheet_parts O' S') }
 
   pub files_compared : {tree tree' address address' : List ℕ} → tree_area ≤ length tree → address_area ≤ length address → (x : Comparison) → ComparesParts stock n counts bytes n' counts' bytes' tree tree' address address' x → Compares stock s s' tree tree' address address' x
-  unfolding judged
+  unfolding IsJudged
   files_compared {tree} {tree'} {address} {address'} h h' x J = pass (h, h') (first_passed O (second_passed O' (first (compared_as x) J.verdict)))
     where
       Kept : Type 0
       Kept = (tree' ≡ tree) × (address' ≡ address)
 
-      last : (y : Outcome (Option (ℕ × ℕ × ℕ × ℕ))) → judged Kept (FoundParts stock n counts bytes n' counts' bytes' tree tree' address address') done y → Judged Kept (Found stock s s' tree tree' address address') done y
+      last : (y : Outcome (Option (ℕ × ℕ × ℕ × ℕ))) → IsJudged Kept (FoundParts stock n counts bytes n' counts' bytes' tree tree' address address') done y → Judged Kept (Found stock s s' tree tree' address address') done y
       last (accepted v) G = accept (files_found tree tree' address address' v G)
       last (refused k) G = absurd G
 
-      second : (y : Outcome (Option (ℕ × ℕ × ℕ × ℕ))) → judged Kept (FoundParts stock n counts bytes n' counts' bytes' tree tree' address address') (check 7 ((k : ℕ) × ((cs : List ℕ) × ((bs : List ℕ) × EarliestOf stock n' counts' bytes' k cs bs))) done) y → Judged Kept (Found stock s s' tree tree' address address') (form_check stock s' done) y
+      second : (y : Outcome (Option (ℕ × ℕ × ℕ × ℕ))) → IsJudged Kept (FoundParts stock n counts bytes n' counts' bytes' tree tree' address address') (check 7 ((k : ℕ) × ((cs : List ℕ) × ((bs : List ℕ) × EarliestOf stock n' counts' bytes' k cs bs))) done) y → Judged Kept (Found stock s s' tree tree' address address') (form_check stock s' done) y
       second y (inl (f, q, kept)) = rw q (refuse (λ w. f (w.0, (w.1.0, (w.1.1.0, to_parts O' w.1.1.1)))) kept)
       second y (inr (R, G)) = pass (R.0, (R.1.0, (R.1.1.0, from_parts O' R.1.1.1))) (last y G)
 
-      first : (y : Outcome (Option (ℕ × ℕ × ℕ × ℕ))) → judged Kept (FoundParts stock n counts bytes n' counts' bytes' tree tree' address address') (check 7 ((k : ℕ) × ((cs : List ℕ) × ((bs : List ℕ) × EarliestOf stock n counts bytes k cs bs))) (check 7 ((k : ℕ) × ((cs : List ℕ) × ((bs : List ℕ) × EarliestOf stock n' counts' bytes' k cs bs))) done)) y → Judged Kept (Found stock s s' tree tree' address address') (form_check stock s (form_check stock s' done)) y
+      first : (y : Outcome (Option (ℕ × ℕ × ℕ × ℕ))) → IsJudged Kept (FoundParts stock n counts bytes n' counts' bytes' tree tree' address address') (check 7 ((k : ℕ) × ((cs : List ℕ) × ((bs : List ℕ) × EarliestOf stock n counts bytes k cs bs))) (check 7 ((k : ℕ) × ((cs : List ℕ) × ((bs : List ℕ) × EarliestOf stock n' counts' bytes' k cs bs))) done)) y → Judged Kept (Found stock s s' tree tree' address address') (form_check stock s (form_check stock s' done)) y
       first y (inl (f, q, kept)) = rw q (refuse (λ w. f (w.0, (w.1.0, (w.1.1.0, to_parts O w.1.1.1)))) kept)
       first y (inr (R, G)) = pass (R.0, (R.1.0, (R.1.1.0, from_parts O R.1.1.1))) (second y G)
 

@@ -1,3 +1,5 @@
 // Comparing two transducers, with a shown difference.
+#![tactic(auto)]
+
 pub mod compare;
 pub mod shorter;

@@ -4,11 +4,11 @@ use Prim.Native.Nat.{ℕ}
 use mathlib.Core.List.{List, []}
 use mathlib.Core.Logic.{◌⊎◌, inl, inr}
 use mathlib.Core.Path.{◌≡◌, refl, sym, ◌∙◌}
-use Rattle.trees.specs.Refusal.{Outcome, accepted, refused, Checks, done, check, Holds, judged, Judged}
+use Rattle.trees.specs.Refusal.{Outcome, accepted, refused, Checks, done, check, Holds, IsJudged, Judged}
 use Rattle.demands.specs.First.{FirstFailing, Answered, Demand1}
 
-answers : {A : Type 0} (Left : Type 0) (Good : A → Type 0) (checks : Checks) (r : Outcome A) → judged Left Good checks r → Answered checks Left r
-unfolding judged Holds FirstFailing
+answers : {A : Type 0} (Left : Type 0) (Good : A → Type 0) (checks : Checks) (r : Outcome A) → IsJudged Left Good checks r → Answered checks Left r
+unfolding IsJudged Holds FirstFailing
 answers Left Good done (accepted a) j = inl (a, (refl, tt))
 answers Left Good done (refused k) j = absurd j
 answers Left Good (check k P rest) r (inl (f, e, kept)) = inr (k, (e, inl (f, refl), kept))

@@ -11,7 +11,7 @@ use Rattle.theory.specs.Transducer.{Transducer, translate}
 use Rattle.theory.proofs.Terms.{conflict}
 use Rattle.trees.specs.Alphabets.{Alphabets, inputs, outputs, alphabet_check}
 use Rattle.formats.specs.Answers.{file_read, ReadsFile, HandsCounts, HandsMarks, file_written, WritesFile}
-use Rattle.trees.specs.Refusal.{Outcome, accepted, refused, done, check, Holds, judged, Judged}
+use Rattle.trees.specs.Refusal.{Outcome, accepted, refused, done, check, Holds, IsJudged, Judged}
 use Rattle.trees.specs.declared.refusal.Refusal.{Refusal}
 use Rattle.trees.proofs.Judging.{refuse, pass, accept, accepted_holds, refused_early, must_refuse}
 use Rattle.formats.specs.Sheet.{longest, file, Encodes, Counted, CountedFile, Sheet, sheet_check, parts_check}
@@ -74,8 +74,8 @@ module _ (ins outs counts bytes : List ℕ) (n : ℕ) (few : length ins ≤ 16) 
 
 -- checks that hold of the one exactly if they hold of the other refuse by the same number
 module _ {A B : Type 0} (Left Left' : Type 0) (Good : A → Type 0) (Good' : B → Type 0) (P Q Q' R R' : Type 0) (q : P → Q → Q') (q' : P → Q' → Q) (r : P → R → R') (r' : P → R' → R) where
-  same_number : (i j l : ℕ) (x : Outcome A) (y : Outcome B) (k : ℕ) → judged Left Good (check i P (check j Q (check l R done))) x → judged Left' Good' (check i P (check j Q' (check l R' done))) y → x ≡ refused k → y ≡ refused k
-  unfolding judged
+  same_number : (i j l : ℕ) (x : Outcome A) (y : Outcome B) (k : ℕ) → IsJudged Left Good (check i P (check j Q (check l R done))) x → IsJudged Left' Good' (check i P (check j Q' (check l R' done))) y → x ≡ refused k → y ≡ refused k
+  unfolding IsJudged
   same_number i j l x y k (inl (f, e, _)) (inl (f', e', _)) h = let z : i ≡ k = cc in e' ∙ ap (λ n. refused n) z
   same_number i j l x y k (inl (f, e, _)) (inr (p, v)) h = absurd (f p)
   same_number i j l x y k (inr (p, u)) (inl (f, e, _)) h = absurd (f p)
@@ -89,7 +89,7 @@ module _ {A B : Type 0} (Left Left' : Type 0) (Good : A → Type 0) (Good' : B �
   same_number i j l (refused m) y k (inr (p, inr (w, inr (s, u)))) (inr (p', inr (w', inr (s', v)))) h = absurd u
 
 refuse_alike : (stock counts bytes before after : List ℕ) (n : ℕ) (r : FileRead) (w : FileWritten) → length counts ≡ 2 * (1 + n * length (inputs stock)) → longest ≤ length before → ReadsFile stock (file n counts bytes) r → WritesFile stock n counts bytes before after w → (k : ℕ) → (file_read r ≡ refused k) ↔ (file_written w ≡ refused k)
-unfolding judged
+unfolding IsJudged
 refuse_alike stock counts bytes before after n r w l h R W k = (forth W.verdict, back W.verdict)
   where
     ins : List ℕ
@@ -110,11 +110,11 @@ refuse_alike stock counts bytes before after n r w l h R W k = (forth W.verdict,
     sheet : Alphabets stock → ((M : Transducer ℕ) × Encodes ins outs n counts bytes M) → (m : ℕ) × ((M : Transducer ℕ) × Sheet ins outs (file n counts bytes) m M)
     sheet A = encoded_file ins outs counts bytes n A.ins.few l
 
-    forth : judged (after ≡ before) (λ k. (k ≡ length (file n counts bytes)) × (after ≡ sets before 0 (file n counts bytes))) (check 1 (longest ≤ length before) (alphabet_check stock (parts_check stock n counts bytes done))) (file_written w) → file_read r ≡ refused k → file_written w ≡ refused k
+    forth : IsJudged (after ≡ before) (λ k. (k ≡ length (file n counts bytes)) × (after ≡ sets before 0 (file n counts bytes))) (check 1 (longest ≤ length before) (alphabet_check stock (parts_check stock n counts bytes done))) (file_written w) → file_read r ≡ refused k → file_written w ≡ refused k
     forth (inl (f, e, _)) = absurd (f h)
     forth (inr (_, v)) = same_number _ _ _ _ _ _ _ _ _ parts whole codes sheet 2 4 5 (file_read r) (file_written w) k R.verdict v
 
-    back : judged (after ≡ before) (λ k. (k ≡ length (file n counts bytes)) × (after ≡ sets before 0 (file n counts bytes))) (check 1 (longest ≤ length before) (alphabet_check stock (parts_check stock n counts bytes done))) (file_written w) → file_written w ≡ refused k → file_read r ≡ refused k
+    back : IsJudged (after ≡ before) (λ k. (k ≡ length (file n counts bytes)) × (after ≡ sets before 0 (file n counts bytes))) (check 1 (longest ≤ length before) (alphabet_check stock (parts_check stock n counts bytes done))) (file_written w) → file_written w ≡ refused k → file_read r ≡ refused k
     back (inl (f, e, _)) = absurd (f h)
     back (inr (_, v)) = same_number _ _ _ _ _ _ _ _ _ whole parts sheet codes 2 4 5 (file_written w) (file_read r) k v R.verdict
 

@@ -1,4 +1,6 @@
 // The demands and requests of the functions themselves: calls of the entry points in a row, whose contracts say of them what `specs` says of whatever keeps the promises.
+#![tactic(auto)]
+
 ghost use Rattle.std.specs.Prelude.{◌≤◌, ◌≡◌, length};
 ghost use Rattle.transducer.specs.Answers.{Translates};
 ghost use Rattle.queries.specs.Answers.{FindsSymbol};

@@ -17,7 +17,7 @@ use Rattle.theory.proofs.Identity.{identical_sym, identical_wf}
 use Rattle.theory.proofs.Trimming.{trimmed_by, trimmed_follows_stage, trimmed_follows_states, trimmed_form, trimmed_same}
 use Rattle.trees.specs.Alphabets.{Leaf, inputs, outputs}
 use Rattle.formats.specs.Inner.Layout.{body_count, Starts}
-use Rattle.trees.specs.Refusal.{done, check, judged, Holds, Judged}
+use Rattle.trees.specs.Refusal.{done, check, IsJudged, Holds, Judged}
 use Rattle.formats.specs.Sheet.{longest, Encodes}
 use Rattle.trees.proofs.Judging.{refuse, pass, accept}
 use Rattle.formats.proofs.Sheets.{sheet_unique}
@@ -189,13 +189,13 @@ module _ {stock sheet ins counts bytes : List ℕ} {n : ℕ} (O : Opened stock s
       }
 
   pub file_made : {Parts File : ℕ → List ℕ → List ℕ → Type 0} → ((k : ℕ) (counts' bytes' : List ℕ) → Parts k counts' bytes' → File k counts' bytes') → {before after : List ℕ} → longest ≤ length before → (r : Formed) → FormsFile Parts stock n counts bytes before after r → MakesForm File stock sheet before after r
-  unfolding judged Holds
+  unfolding IsJudged Holds
   file_made {Parts} {File} whole {before} {after} long r J = go r J.verdict
     where
       start : (r : Formed) → Judged (after ≡ before) (λ v. (counts' : List ℕ) × ((bytes' : List ℕ) × (File v.0 counts' bytes' × FileOf v counts' bytes' before after))) (form_check stock sheet done) (form_of r) → MakesForm File stock sheet before after r
       start r j = let w = O.holds in pass long (pass w.0 (pass w.1.0 (pass w.1.1.0 j)))
 
-      go : (r : Formed) → judged (after ≡ before) (λ v. (counts' : List ℕ) × ((bytes' : List ℕ) × (Parts v.0 counts' bytes' × FileOf v counts' bytes' before after))) (check 7 ((k : ℕ) × ((counts' : List ℕ) × ((bytes' : List ℕ) × EarliestOf stock n counts bytes k counts' bytes'))) done) (form_of r) → MakesForm File stock sheet before after r
+      go : (r : Formed) → IsJudged (after ≡ before) (λ v. (counts' : List ℕ) × ((bytes' : List ℕ) × (Parts v.0 counts' bytes' × FileOf v counts' bytes' before after))) (check 7 ((k : ℕ) × ((counts' : List ℕ) × ((bytes' : List ℕ) × EarliestOf stock n counts bytes k counts' bytes'))) done) (form_of r) → MakesForm File stock sheet before after r
       go r (inl (h, q, kept)) = start r (rw q (refuse (λ w. h (w.0, (w.1.0, (w.1.1.0, to_parts w.1.1.1)))) kept))
       go (Form k m s) (inr (R, (counts', (bytes', (P, f))))) = start (Form k m s) (pass (R.0, (R.1.0, (R.1.1.0, from_parts R.1.1.1))) (accept (counts', (bytes', (whole k counts' bytes' P, f)))))
       go (Refused x) (inr (R, u)) = absurd u

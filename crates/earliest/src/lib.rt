@@ -1,4 +1,6 @@
 // The earliest form of a transducer (01: trimmed sheet).
+#![tactic(auto)]
+
 pub mod discover;
 pub mod earliest;
 pub mod expand;

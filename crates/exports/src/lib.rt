@@ -1,6 +1,8 @@
 // The library for Rust and C: numbers and slices of numbers only. Each function returns 0, or the refusal's number in the
 // table of documents 01 and 02, and gives its values through its last parameters, which a refusal leaves as they were. The two
 // that hand out a part of what is lent say what they return.
+#![tactic(auto)]
+
 ghost use Rattle.exports.specs.Exported.{ExportsAlphabets, ExportsTree, ExportsFile, ExportsWriting, ExportsLinear, ExportsTranslation, ExportsSymbol, ExportsEarliest, ExportsClean, ExportsJoin, ExportsComparison, ExportsShorter, ExportsCodes, ExportsXmlWriting, ExportsXmlReading};
 
 pub mod registered;

@@ -14,7 +14,7 @@ use Rattle.formats.specs.Inner.Judging.{JudgesParts, JudgesFile, Put}
 use Rattle.formats.specs.Inner.Layout.{offset, body_count, Summed, Right, Wholes}
 use Rattle.trees.specs.Answers.{Nothing}
 use Rattle.formats.specs.Answers.{file_read, ReadsFile, HandsCounts, HandsMarks, WritesFile}
-use Rattle.trees.specs.Refusal.{done, Holds, judged}
+use Rattle.trees.specs.Refusal.{done, Holds, IsJudged}
 use Rattle.formats.specs.Sheet.{longest, Counted, Encodes, CountedFile, Sheet, file, sheet_check, parts_check}
 use Rattle.formats.specs.declared.file.FileRead.{FileRead}
 use Rattle.formats.specs.declared.file.FileRead.TheVariants.{States, Refused}
@@ -117,10 +117,10 @@ module _ (stock s : List ℕ) (A : Alphabets stock) where
 
       -- what is judged of the parts is judged of the file
       pub file_verdict : (r : FileRead) → JudgesParts stock n (take (from - 1) (drop 1 s)) (take (length s - from) (drop from s)) r → JudgesFile stock s r
-      unfolding judged
+      unfolding IsJudged
       file_verdict r J = go r J.verdict
         where
-          go : (r : FileRead) → judged Nothing (λ k. (k ≡ n) × ((M : Transducer ℕ) × Encodes (inputs stock) (outputs stock) n (take (from - 1) (drop 1 s)) (take (length s - from) (drop from s)) M)) (parts_check stock n (take (from - 1) (drop 1 s)) (take (length s - from) (drop from s)) done) (file_read r) → JudgesFile stock s r
+          go : (r : FileRead) → IsJudged Nothing (λ k. (k ≡ n) × ((M : Transducer ℕ) × Encodes (inputs stock) (outputs stock) n (take (from - 1) (drop 1 s)) (take (length s - from) (drop from s)) M)) (parts_check stock n (take (from - 1) (drop 1 s)) (take (length s - from) (drop from s)) done) (file_read r) → JudgesFile stock s r
           go r (inl (h, q, u)) = rw q (refuse (λ F. h (parts_counted F)) tt)
           go r (inr (C, inl (h, q, u))) = rw q (pass (file_counted C) (refuse (λ S. h (S.1.0, parts_encode S.0 S.1.0 S.1.1)) tt))
           go (States k) (inr (C, inr (E, (q, G)))) = pass (file_counted C) (pass (n, (E.0, file_encodes E.0 E.1)) (accept (rw q (G.0, file_encodes G.0 G.1))))

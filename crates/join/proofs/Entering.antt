@@ -7,7 +7,7 @@ use mathlib.Core.Logic.{inl, inr}
 use mathlib.Core.Path.{◌≡◌, refl}
 use lib.ListN.{length, take}
 use Rattle.trees.specs.Alphabets.{Alphabets, inputs, outputs}
-use Rattle.trees.specs.Refusal.{Decides, Outcome, Checks, done, check, Holds, judged, Judged}
+use Rattle.trees.specs.Refusal.{Decides, Outcome, Checks, done, check, Holds, IsJudged, Judged}
 use Rattle.trees.specs.declared.refusal.Refusal.{Refusal}
 use Rattle.trees.proofs.Judging.{pass, accepted_holds}
 use Rattle.formats.specs.Answers.{ReadsFile}
@@ -50,10 +50,10 @@ module _ {stock stock' counts bytes counts' bytes' starts out area : List ℕ} {
 -- ---- two files
 -- a check that holds asks nothing
 passed : {A Kept : Type 0} {Good : A → Type 0} {k : ℕ} {P : Type 0} {rest : Checks} {r : Outcome A} → P → Judged Kept Good (check k P rest) r → Judged Kept Good rest r
-unfolding judged
+unfolding IsJudged
 passed {A} {Kept} {Good} {k} {P} {rest} {r} p j = record { verdict = go j.verdict }
   where
-    go : judged Kept Good (check k P rest) r → judged Kept Good rest r
+    go : IsJudged Kept Good (check k P rest) r → IsJudged Kept Good rest r
     go (inl (f, q, kept)) = absurd (f p)
     go (inr (p', v)) = v
 

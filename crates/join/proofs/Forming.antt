@@ -12,7 +12,7 @@ use Rattle.theory.specs.Transducer.{Transducer}
 use Rattle.theory.proofs.Identity.{identical_sym, identical_trans, identical_wf}
 use Rattle.theory.proofs.Joining.{joined_by, joined_follows_stage, joined_follows_states, joined_same}
 use Rattle.trees.specs.Alphabets.{Leaf, Alphabets, inputs, outputs, stock as stockFile}
-use Rattle.trees.specs.Refusal.{done, check, judged, Holds, Judged}
+use Rattle.trees.specs.Refusal.{done, check, IsJudged, Holds, Judged}
 use Rattle.trees.specs.declared.refusal.Refusal.TheVariants.{JoinOverLimits}
 use Rattle.trees.proofs.Judging.{refuse, pass, accept}
 use Rattle.trees.proofs.Stock.{stock_reads, stock_reads_outputs, stock_right}
@@ -185,13 +185,13 @@ module _ {stock s ins counts bytes : List ℕ} {n : ℕ} (O : Opened stock s n i
 
   -- the contract of `join_sheets`, where both files are read
   pub sheets_joined : {before after : List ℕ} (r : Formed) → JoinsFile stock stock' n counts bytes m counts' bytes' before after r → JoinsSheets stock stock' s s' before after r
-  unfolding judged Holds
+  unfolding IsJudged Holds
   sheets_joined {before} {after} r J = go r J.verdict
     where
       start : (r : Formed) → Judged (after ≡ before) (λ v. (counts'' : List ℕ) × ((bytes'' : List ℕ) × (JoinedFile stock stock' s s' v.0 counts'' bytes'' × FileOf v counts'' bytes'' before after))) (join_check stock stock' s s' done) (form_of r) → JoinsSheets stock stock' s s' before after r
       start r j = let w = O.holds.1 in let w' = O'.holds.1 in pass w.0 (pass w.1.0 (pass w'.0 (pass w'.1.0 j)))
 
-      go : (r : Formed) → judged (after ≡ before) (λ v. (counts'' : List ℕ) × ((bytes'' : List ℕ) × (JoinedOf stock stock' n counts bytes m counts' bytes' v.0 counts'' bytes'' × FileOf v counts'' bytes'' before after))) (check 17 ((k : ℕ) × ((counts'' : List ℕ) × ((bytes'' : List ℕ) × JoinedOf stock stock' n counts bytes m counts' bytes' k counts'' bytes''))) done) (form_of r) → JoinsSheets stock stock' s s' before after r
+      go : (r : Formed) → IsJudged (after ≡ before) (λ v. (counts'' : List ℕ) × ((bytes'' : List ℕ) × (JoinedOf stock stock' n counts bytes m counts' bytes' v.0 counts'' bytes'' × FileOf v counts'' bytes'' before after))) (check 17 ((k : ℕ) × ((counts'' : List ℕ) × ((bytes'' : List ℕ) × JoinedOf stock stock' n counts bytes m counts' bytes' k counts'' bytes''))) done) (form_of r) → JoinsSheets stock stock' s s' before after r
       go r (inl (h, q, kept)) = start r (rw q (refuse (λ w. h (w.0, (w.1.0, (w.1.1.0, to_parts w.1.1.1)))) kept))
       go (Form k m s) (inr (R, (counts'', (bytes'', (P, f))))) = start (Form k m s) (pass (R.0, (R.1.0, (R.1.1.0, from_parts R.1.1.1))) (accept (counts'', (bytes'', (from_parts P, f)))))
       go (Refused x) (inr (R, u)) = absurd u

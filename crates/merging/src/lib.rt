@@ -1,2 +1,4 @@
 // Classes of equivalent states of a transducer.
+#![tactic(auto)]
+
 pub mod refining;

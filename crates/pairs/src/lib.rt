@@ -1,2 +1,4 @@
 // The pair search over two transducers.
+#![tactic(auto)]
+
 pub mod pairs;

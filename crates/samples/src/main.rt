@@ -2,6 +2,8 @@
 // they print in `stdout`; `reader.rt` says how to add one.
 // What is printed is in the document's words: stock (alphabets), design (input tree), sheet (transducer), pass (state), block
 // (output symbol), place (address), single (linear), trimmed (earliest form), clean (normal form), joined (the second transducer after the first), XML (the text of a plan).
+#![tactic(auto)]
+
 mod answer;
 mod calls;
 mod line;

@@ -1,4 +1,6 @@
 // Reads the files `stock`, `first` and `second` of the current folder, and prints how many states and marks the two normal forms have and whether the two transducers are equivalent (01: passes and marks of the clean sheets, and whether the two sew alike).
+#![tactic(auto)]
+
 ghost use Rattle.io.specs.Counts.{IsPrefixLen};
 
 use libc::STDOUT_FILENO;

@@ -1,0 +1,20 @@
+-- `transducer_counts` meets its contract. Assumes nothing.
+use native.Mathlib.Omega.{arith}
+use mathlib.Core.Logic.{inr}
+use mathlib.Core.Path.{refl}
+use Rattle.formats.proofs.Verdicts.{accepted_alphabets, accepted_states, accepted_long, counts_handed, none_handed}
+use Rattle.formats.proofs.file.transducer_counts.Goals as goal
+
+pub counts_end-to-requires : goal.counts_end-to-requires
+counts_end-to-requires c =
+    let J = c.read_transducer.ensures in
+    (accepted_alphabets c.args.stock.now c.args.sheet.now c.in-States.n J c.in-States.is, omega (arith, accepted_states c.args.stock.now c.args.sheet.now c.in-States.n J c.in-States.is))
+
+pub slice_bounds-result-end : goal.slice_bounds-result-end
+slice_bounds-result-end c = omega (arith, c.counts_end-to.ensures, accepted_long c.args.stock.now c.args.sheet.now c.in-States.n c.read_transducer.ensures c.in-States.is)
+
+pub returns-in-States : goal.returns-in-States
+returns-in-States c = counts_handed c.args.stock.now c.args.sheet.now c.in-States.n c.read_transducer.ensures c.in-States.is c.counts_end-to.result c.counts_end-to.ensures
+
+pub returns-in-Refused : goal.returns-in-Refused
+returns-in-Refused c = inr (none_handed c.args.stock.now c.args.sheet.now c.in-Refused.field-0 c.read_transducer.ensures c.in-Refused.is, refl)

@@ -1,0 +1,23 @@
+-- `transducer_marks` meets its contract. Assumes nothing.
+use native.Mathlib.Omega.{arith}
+use mathlib.Core.Logic.{inr}
+use mathlib.Core.Path.{refl}
+use Rattle.formats.proofs.Verdicts.{accepted_alphabets, accepted_states, accepted_long, marks_handed, none_handed}
+use Rattle.formats.proofs.file.transducer_marks.Goals as goal
+
+pub counts_end-from-requires : goal.counts_end-from-requires
+counts_end-from-requires c =
+    let J = c.read_transducer.ensures in
+    (accepted_alphabets c.args.stock.now c.args.sheet.now c.in-States.n J c.in-States.is, omega (arith, accepted_states c.args.stock.now c.args.sheet.now c.in-States.n J c.in-States.is))
+
+pub slice_bounds-result-count : goal.slice_bounds-result-count
+slice_bounds-result-count c = omega (arith, c.counts_end-from.ensures, accepted_long c.args.stock.now c.args.sheet.now c.in-States.n c.read_transducer.ensures c.in-States.is)
+
+pub slice_bounds-result-start : goal.slice_bounds-result-start
+slice_bounds-result-start c = omega (arith, c.counts_end-from.ensures, accepted_long c.args.stock.now c.args.sheet.now c.in-States.n c.read_transducer.ensures c.in-States.is)
+
+pub returns-in-States : goal.returns-in-States
+returns-in-States c = marks_handed c.args.stock.now c.args.sheet.now c.in-States.n c.read_transducer.ensures c.in-States.is c.counts_end-from.result c.counts_end-from.ensures
+
+pub returns-in-Refused : goal.returns-in-Refused
+returns-in-Refused c = inr (none_handed c.args.stock.now c.args.sheet.now c.in-Refused.field-0 c.read_transducer.ensures c.in-Refused.is, refl)
