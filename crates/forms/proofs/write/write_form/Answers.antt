@@ -1,0 +1,46 @@
+-- `write_form` meets its contract. Assumes nothing.
+use Prim.Native.Nat.{ℕ}
+use native.Mathlib.Omega.{arith}
+use mathlib.Core.Path.{◌∙◌}
+use lib.ListN.{length-replicate}
+use Rattle.forms.proofs.Filing.{form_layout, form_bounds, form_written, form_refused}
+use Rattle.forms.proofs.write.write_form.Goals as goal
+
+pub overflow_mul-m : goal.overflow_mul-m
+overflow_mul-m c = omega (arith, (form_bounds c.requires c.input_ranks.ensures).0)
+
+pub overflow_add-m : goal.overflow_add-m
+overflow_add-m c = omega (arith, (form_bounds c.requires c.input_ranks.ensures).0)
+
+pub fill_counts-requires : goal.fill_counts-requires
+fill_counts-requires c =
+    let w = form_bounds c.requires c.input_ranks.ensures in
+    (w.1, omega (arith, w.0, length-replicate {A = ℕ} 4098 0), (form_layout c.requires c.input_ranks.ensures).bounds.ordered)
+
+pub offset_bounds-starts-m : goal.offset_bounds-starts-m
+offset_bounds-starts-m c = omega (arith, (form_bounds c.requires c.input_ranks.ensures).0)
+
+pub bounds-starts-m : goal.bounds-starts-m
+bounds-starts-m c = (form_bounds c.requires c.input_ranks.ensures).1
+
+pub overflow_mul-end : goal.overflow_mul-end
+overflow_mul-end c = omega (arith, c.number-end.ensures, (form_bounds c.requires c.input_ranks.ensures).2)
+
+pub overflow_mul-m-2 : goal.overflow_mul-m-2
+overflow_mul-m-2 c = omega (arith, (form_bounds c.requires c.input_ranks.ensures).0)
+
+pub slice_bounds-write_transducer-end : goal.slice_bounds-write_transducer-end
+slice_bounds-write_transducer-end c = omega (arith, (form_bounds c.requires c.input_ranks.ensures).0, c.fill_counts.auto.counts, length-replicate {A = ℕ} 4098 0)
+
+pub slice_bounds-write_transducer-end-2 : goal.slice_bounds-write_transducer-end-2
+slice_bounds-write_transducer-end-2 c = omega (arith, c.number-end.ensures, (form_bounds c.requires c.input_ranks.ensures).3)
+
+pub returns-in-Bytes : goal.returns-in-Bytes
+returns-in-Bytes c =
+    let f = c.fill_counts in
+    form_written c.requires c.input_ranks.ensures f.new.counts (f.auto.counts ∙ length-replicate {A = ℕ} 4098 0) f.ensures c.number-end.ensures c.write_transducer.result c.write_transducer.ensures c.in-Bytes.size c.in-Bytes.is
+
+pub returns-in-Refused : goal.returns-in-Refused
+returns-in-Refused c =
+    let f = c.fill_counts in
+    absurd (form_refused c.requires c.input_ranks.ensures f.new.counts (f.auto.counts ∙ length-replicate {A = ℕ} 4098 0) f.ensures c.number-end.ensures c.write_transducer.result c.write_transducer.ensures c.in-Refused.field-0 c.in-Refused.is)
