@@ -183,7 +183,7 @@ head_top {outs} {heads} {sizes} T few q state e =
     let x : get_or s 0 0 ≡ top = ap (λ l. get_or l 0 0) (slice_from heads (64 * q) (get_or sizes q 0) (omega (arith, T.long))) ∙ get_or-take (get_or sizes q 0) (drop (64 * q) heads) 0 0 some ∙ get_or-drop (64 * q) heads 0 0 ∙ ap (λ k. get_or heads k 0) z ∙ e in
     go x (byte_at outs s 0 there)
   where
-    go : {x : ℕ} {F G : Patterns} → x ≡ top → Byte outs x G F → first F ≡ var tt
+    go : {x : ℕ} {G F : Patterns} → x ≡ top → Byte outs x G F → first F ≡ var tt
     go e (named l h) = absurd (omega arith)
     go e (free l h) = refl
 

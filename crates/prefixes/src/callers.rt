@@ -38,7 +38,7 @@ pub(crate) fn find_callers(ins: &[u8], starts: &[u16], marks: &[u8], n: usize, c
 }
 
 // The flags that are set of 128, in this round and in the next.
-#[derive(Drop)]
+#[derive(Clone, Copy)]
 pub struct Flags {
     pub low: u64,
     pub high: u64,
