@@ -40,7 +40,7 @@ use Rattle.queries.proofs.Calls.{calls_marks, once_calls, calls_once, initial_bo
 use Rattle.queries.proofs.Reading.{bodies_extend}
 
 -- ---- the bodies that have been read call no child twice
-bodies_once : {start : ℕ → ℕ} {bytes L L' : List ℕ} {b k : ℕ} → ReadBodies start bytes b L k L' → (j : ℕ) → j < k → Once (body start bytes (b + j))
+bodies_once : {start : ℕ → ℕ} {bytes L : List ℕ} {b : ℕ} {L' : List ℕ} {k : ℕ} → ReadBodies start bytes b L k L' → (j : ℕ) → j < k → Once (body start bytes (b + j))
 bodies_once no_body j h = absurd (omega arith)
 bodies_once (one_body {k} r x) j h = by_cases (ℕ_discrete j k) (λ e. rw e x.0) (λ n. bodies_once r j (omega arith))
 
@@ -66,7 +66,7 @@ module _ {ins outs : List ℕ} {n : ℕ} {counts bytes : List ℕ} {M : Transduc
   read_term r t c e R = calls_read t (rw (← e, calls_marks outs n r t c) at R.1)
 
   -- to read its bodies is to read the right-hand sides of a state
-  bodies_rhs : (q : ℕ) → q < n → {k : ℕ} {L L' : List ℕ} → k ≤ length ins → ReadBodies start bytes (1 + q * length ins) L k L' → ReadRhs (alphabet ins l) M q L k L'
+  bodies_rhs : (q : ℕ) → q < n → {L : List ℕ} {k : ℕ} {L' : List ℕ} → k ≤ length ins → ReadBodies start bytes (1 + q * length ins) L k L' → ReadRhs (alphabet ins l) M q L k L'
   unfolding alphabet
   bodies_rhs q h p no_body = no_rhs
   bodies_rhs q h p (one_body {k} r x) =

@@ -68,7 +68,7 @@ calls_extend : {es : List (ℕ × ℕ)} {L L' : List ℕ} → ReadCalls es L L' 
 calls_extend no_call = extends_refl
 calls_extend (one_call x r) = extends_trans (enter_extends x) (calls_extend r)
 
-pub bodies_extend : {start : ℕ → ℕ} {bytes L L' : List ℕ} {b k : ℕ} → ReadBodies start bytes b L k L' → Extends L L'
+pub bodies_extend : {start : ℕ → ℕ} {bytes L : List ℕ} {b : ℕ} {L' : List ℕ} {k : ℕ} → ReadBodies start bytes b L k L' → Extends L L'
 bodies_extend no_body = extends_refl
 bodies_extend (one_body r x) = extends_trans (bodies_extend r) (calls_extend x.1)
 

@@ -1,0 +1,32 @@
+-- `symbol_at` meets its contract: the parts of the file, and then what is answered of them. Assumes nothing.
+use native.Mathlib.Omega.{arith}
+use mathlib.Core.Path.{refl}
+use Rattle.trees.specs.Refusal.{done as no_more}
+use Rattle.trees.specs.Tree.{tree_check}
+use Rattle.formats.proofs.Verdicts.{accepted_alphabets, accepted_states, accepted_long}
+use Rattle.transducer.proofs.Opening.{opened_at, opened_machine, not_opened}
+use Rattle.queries.proofs.Following.{file_finds}
+use Rattle.queries.proofs.address.symbol_at.Goals as goal
+
+pub counts_end-from-requires : goal.counts_end-from-requires
+counts_end-from-requires c = (accepted_alphabets c.args.stock.now c.args.sheet.now c.in-States.n c.read_transducer.ensures c.in-States.is, omega (arith, accepted_states c.args.stock.now c.args.sheet.now c.in-States.n c.read_transducer.ensures c.in-States.is))
+
+pub slice_bounds-symbol_by-end : goal.slice_bounds-symbol_by-end
+slice_bounds-symbol_by-end c = omega (arith, c.counts_end-from.ensures, accepted_long c.args.stock.now c.args.sheet.now c.in-States.n c.read_transducer.ensures c.in-States.is)
+
+pub slice_bounds-symbol_by-count-in-States : goal.slice_bounds-symbol_by-count-in-States
+slice_bounds-symbol_by-count-in-States c = omega (arith, c.counts_end-from.ensures, accepted_long c.args.stock.now c.args.sheet.now c.in-States.n c.read_transducer.ensures c.in-States.is)
+
+pub slice_bounds-symbol_by-start-in-States : goal.slice_bounds-symbol_by-start-in-States
+slice_bounds-symbol_by-start-in-States c = omega (arith, c.counts_end-from.ensures, accepted_long c.args.stock.now c.args.sheet.now c.in-States.n c.read_transducer.ensures c.in-States.is)
+
+pub symbol_by-requires : goal.symbol_by-requires
+symbol_by-requires c = opened_machine (opened_at c.args.stock.now c.args.sheet.now c.in-States.n c.read_transducer.ensures c.in-States.is c.counts_end-from.result c.counts_end-from.ensures refl)
+
+pub returns-in-States : goal.returns-in-States
+returns-in-States c = file_finds (opened_at c.args.stock.now c.args.sheet.now c.in-States.n c.read_transducer.ensures c.in-States.is c.counts_end-from.result c.counts_end-from.ensures refl) c.args.address.now c.symbol_by.result c.symbol_by.ensures
+
+pub returns-in-Refused : goal.returns-in-Refused
+returns-in-Refused c =
+    let a = c.args in
+    not_opened a.stock.now a.sheet.now (tree_check a.stock.now a.design.now no_more) tt c.read_transducer.ensures c.in-Refused.is
