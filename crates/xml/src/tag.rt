@@ -10,7 +10,7 @@ use formats::file::write_word;
 use trees::bytes::same_bytes;
 
 // A tag, with its output symbol: that of a node with no children, and those before and behind the children of another.
-#[derive(Drop)]
+#[derive(Clone, Copy)]
 pub enum Tag {
     Empty(usize),
     Opening(usize),

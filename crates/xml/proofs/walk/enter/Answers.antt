@@ -1,0 +1,22 @@
+-- `enter` meets its contract. Assumes nothing.
+use native.Mathlib.Omega.{arith}
+use mathlib.Core.Path.{refl, sym, ◌∙◌}
+use lib.ListN.{get_or}
+use Rattle.xml.proofs.Walking.{symbol_there, entered_leaf, entered_node}
+use Rattle.xml.proofs.walk.enter.Goals as goal
+
+pub bounds-ranks-wide : goal.bounds-ranks-wide
+bounds-ranks-wide c =
+    let p = c.requires in
+    omega (arith, symbol_there p.0 p.1, c.wide.ensures)
+
+pub returns-then-rank-eq0 : goal.returns-then-rank-eq0
+returns-then-rank-eq0 c =
+    let p = c.requires in
+    entered_leaf p.0 p.1 c.wide-then-rank-eq0.result c.wide-then-rank-eq0.ensures (rw (c.wide-then-rank-eq0.ensures ∙ sym c.wide.ensures) c.if-rank-eq0.true)
+
+pub returns : goal.returns
+returns c =
+    let w = c.wide.ensures in
+    let k = get_or c.args.s.now c.args.at 0 in
+    rw (w, c.wide-2.ensures) (entered_node c.requires.0 c.requires.1 k refl (rw w at c.if-rank-eq0.false))
