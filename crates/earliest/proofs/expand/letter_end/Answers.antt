@@ -1,0 +1,43 @@
+-- `letter_end` meets its contract. Assumes nothing.
+use native.Mathlib.Omega.{arith}
+use mathlib.Core.Path.{refl}
+use Rattle.prefixes.proofs.Ends.{all_owed, owing_inside, counted_named, counted_free, owing_next, owing_done}
+use Rattle.earliest.proofs.Locating.{letter_ranks}
+use Rattle.earliest.proofs.expand.letter_end.Goals as goal
+use Rattle.earliest.proofs.expand.letter_end.Goals.{then-x-outs, else-x-outs}
+
+pub loop-owed-init : goal.loop-owed-init
+loop-owed-init c = all_owed _ c.requires
+
+pub offset_bounds-s-p : goal.offset_bounds-s-p
+offset_bounds-s-p c = omega (arith, owing_inside c.loop-owed.invariant c.loop-owed-test.true)
+
+pub bounds-s-p : goal.bounds-s-p
+bounds-s-p c = owing_inside c.loop-owed.invariant c.loop-owed-test.true
+
+pub overflow_add-owed : goal.overflow_add-owed
+overflow_add-owed c =
+    let x = counted_named (letter_ranks _) c.letter-x.ensures c.if-x-outs.true c.wide-owed.ensures refl in
+    omega (arith, (owing_next c.loop-owed.invariant c.loop-owed-test.true x).1)
+
+pub overflow_sub-owed : goal.overflow_sub-owed
+overflow_sub-owed c =
+    elim c.if-x-outs.branch [ then-x-outs w ↦ omega arith | else-x-outs w ↦ omega arith ]
+
+pub loop-owed-preserved : goal.loop-owed-preserved
+loop-owed-preserved c =
+    let x = c.letter-x.ensures in
+    (owing_next c.loop-owed.invariant c.loop-owed-test.true
+    (elim c.if-x-outs.branch [
+      then-x-outs w ↦ counted_named (letter_ranks _) x w.if-x-outs.true w.wide-owed.ensures w.owed-is
+    | else-x-outs w ↦ counted_free (letter_ranks _) x (omega arith) w.owed-is
+    ])).0
+
+pub overflow_add-p : goal.overflow_add-p
+overflow_add-p c = omega (arith, (loop-owed-preserved c).inside)
+
+pub loop-owed-smaller : goal.loop-owed-smaller
+loop-owed-smaller c = omega (arith, (loop-owed-preserved c).inside)
+
+pub returns : goal.returns
+returns c = owing_done c.loop-owed.invariant (omega arith)
