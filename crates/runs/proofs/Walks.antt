@@ -114,7 +114,7 @@ module _ {stock starts bytes s ends : List ℕ} {p k : ℕ} (R : Ready stock sta
     letter_bounds = (call_here.child, call_here.state, ready_few.0)
 
     pub apply_call : applied stock starts bytes s p k ≡ (65536 * i + 128 * x + p) ∷ []
-    unfolding applied run first paired preorder pair_code renamed mapT bind assoc
+    unfolding applied run first preorder pair_code renamed mapT bind assoc
     apply_call =
         let n : 65536 * i + (x * 128 + p) ≡ 65536 * i + 128 * x + p = omega arith in
         ap (λ F. spelt (paired (run (tabled (inputs stock) (outputs stock) starts bytes) (first F) p))) call_here.there ∙ ap (λ z. z ∷ []) n
