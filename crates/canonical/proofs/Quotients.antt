@@ -13,7 +13,7 @@ use lib.Seq.{slice, slice_empty, length-slice, length-take-le, take_at, take-app
 use borrow.Author.Count.{below_more}
 use Rattle.theory.specs.NormalForm.{Identical}
 use Rattle.theory.specs.Quotient.{Classes, no_class, old_class, new_class, quotient}
-use Rattle.theory.specs.Term.{Term, var, node, Terms, none, more, count, bind, binds, mapT}
+use Rattle.theory.specs.Term.{Term, var, node, Terms, none, more, bind, binds, mapT}
 use Rattle.theory.specs.Transducer.{renamed}
 use Rattle.theory.proofs.Terms.{count_binds}
 use Rattle.trees.specs.Alphabets.{Leaf}

@@ -1,0 +1,9 @@
+-- `add_keys` meets its contract: what `copy_keys` asks and does, at the starts that are read. Assumes nothing.
+use Rattle.canonical.proofs.Quotients.{can_copy, has_copied}
+use Rattle.canonical.proofs.quotient.add_keys.Goals as goal
+
+pub copy_keys-requires : goal.copy_keys-requires
+copy_keys-requires c = can_copy c.requires c.number-at.ensures c.number-from.ensures c.number.ensures
+
+pub returns : goal.returns
+returns c = has_copied c.requires c.number-at.ensures c.number-from.ensures c.number.ensures c.copy_keys.ensures
