@@ -3,7 +3,7 @@ use trees::refusal::Refusal;
 
 // How many transducers are held, how many bytes of the area are used, how many entries were answered.
 #[repr(C)]
-#[derive(Drop)]
+#[derive(Clone, Copy)]
 pub struct Head {
     pub held: usize,
     pub used: usize,
@@ -12,7 +12,7 @@ pub struct Head {
 
 // Where a body starts in the area, how many bytes it has, and how many entries were answered with its number.
 #[repr(C)]
-#[derive(Drop)]
+#[derive(Clone, Copy)]
 pub struct Record {
     pub start: usize,
     pub size: usize,
@@ -27,14 +27,14 @@ pub enum Entered {
 }
 
 // The number that a transducer has to get: any, as in an entry, or this one, as in a commit.
-#[derive(Drop)]
+#[derive(Clone, Copy)]
 pub enum Claim {
     Any,
     Number(usize),
 }
 
 // What an entry or a commit says beside its file.
-#[derive(Drop)]
+#[derive(Clone, Copy)]
 pub struct Submission {
     pub claim: Claim,
 }
@@ -54,7 +54,7 @@ pub enum Made {
 }
 
 // What the records passed tell: whether they lie as a registry's, where the next body starts, what they count together (18,446,744,073,709,551,615 for as many and more), the first record and the wanted one.
-#[derive(Drop)]
+#[derive(Clone, Copy)]
 pub struct Survey {
     pub right: bool,
     pub end: usize,
@@ -79,7 +79,7 @@ pub struct Asked {
 }
 
 // What the search found: the number of the bytes and its record; 0 and an unused one where they are not held.
-#[derive(Drop)]
+#[derive(Clone, Copy)]
 pub struct Located {
     pub number: usize,
     pub its: Record,
