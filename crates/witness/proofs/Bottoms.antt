@@ -14,14 +14,14 @@ use Rattle.theory.specs.Inner.Leaves.{put, leaf_of}
 use Rattle.theory.specs.Inner.Nodes.{symbol}
 use Rattle.theory.specs.Inner.Slim.{Slim}
 use Rattle.theory.specs.Size.{levels}
-use Rattle.theory.specs.Term.{Term, Terms, Tree, var, node, none, more, count, bind}
+use Rattle.theory.specs.Term.{Term, Terms, Tree, var, node, none, more, bind}
 use Rattle.theory.specs.Transducer.{Transducer, output}
 use Rattle.theory.specs.Vars.{AllVars, each, EachVars, both}
 use Rattle.theory.specs.Wf.{Fits, nth}
 use Rattle.theory.proofs.Along.{Along, here, under, Alongs, first, later}
 use Rattle.theory.proofs.Leaves.{put_allowed, put_leaves, call_put, call_other}
 use Rattle.theory.proofs.OtherRoot.{falls_levels, falls_other}
-use Rattle.theory.proofs.Runs.{fill, call, output_node}
+use Rattle.theory.proofs.Runs.{fill, output_node}
 use Rattle.theory.proofs.Slim.{leaf_slim}
 use Rattle.theory.proofs.Terms.{conflict, count_binds}
 use Rattle.theory.proofs.Vars.{all_one}

@@ -13,7 +13,7 @@ use Rattle.theory.specs.Earliest.{Earliest}
 use Rattle.theory.specs.Inner.Leaves.{put}
 use Rattle.theory.specs.Inner.Nodes.{symbol}
 use Rattle.theory.specs.Inner.OtherRoot.{CallsOnly, fall_root, fall_call}
-use Rattle.theory.specs.Term.{Term, var, count, bind}
+use Rattle.theory.specs.Term.{Term, var, bind}
 use Rattle.theory.proofs.Leaves.{call_put}
 use Rattle.theory.proofs.OtherRoot.{only_call, all_found}
 use Rattle.theory.proofs.Runs.{output_node}
