@@ -1,0 +1,12 @@
+-- `compare_parts` meets its contract: the first earliest form, and then what is answered of it and of the second. Assumes nothing.
+use Rattle.comparison.proofs.Comparing.{parts_over, early_form, parts_with}
+use Rattle.comparison.proofs.compare.compare_parts.Goals as goal
+
+pub compare_with-requires : goal.compare_with-requires
+compare_with-requires c = (early_form c.requires.0 c.form_of_parts.ensures c.in-States.is, c.requires.1, c.requires.2, c.requires.3)
+
+pub returns-in-States : goal.returns-in-States
+returns-in-States c = parts_with c.requires.0 c.form_of_parts.ensures c.in-States.is c.compare_with.result c.compare_with.ensures
+
+pub returns-in-Over : goal.returns-in-Over
+returns-in-Over c = parts_over c.requires.0 c.form_of_parts.ensures c.in-Over.is
