@@ -73,7 +73,7 @@ pub walk-returns-then-w-gt64 : goal.walk-returns-then-w-gt64
 walk-returns-then-w-gt64 t c = (passed c.loop-j.invariant.2 (omega (arith, c.if-w-gt64.true)), c.loop-j.invariant.2.same)
 
 pub walk-put-requires : goal.walk-put-requires
-walk-put-requires t c = (omega (arith, c.loop-j.invariant.2.same, c.loop-j.invariant.2.inside), omega (arith, c.wide-x.ensures, c.shared_slice_known-2-1.given (2 * c.loop-j.j + 1)))
+walk-put-requires t c = (omega (arith, c.loop-j.invariant.2.same, c.loop-j.invariant.2.inside), omega (arith, c.wide-x.ensures, c.type_inv.marks (2 * c.loop-j.j + 1)))
 
 pub walk-loop-j-preserved-then-i-eq0 : goal.walk-loop-j-preserved-then-i-eq0
 walk-loop-j-preserved-then-i-eq0 t c =
