@@ -1,2 +1,0 @@
--- Lending: what entry and commit lend on, and what they tell.
-mod Lending
