@@ -34,8 +34,8 @@ loop-k-preserved c =
     let x = get_or a.marks.now (2 * (a.from + l.k) + 1) 0 in
     let y = c.if-i-gt0.x in
     let key : key_of a.classes.now (i, x) ≡ (i, y) = elim c.if-i-gt0.branch [
-      then-i-gt0 w ↦ key_by a.classes.now i x y (λ h. w.x-is ∙ ap (λ q. get_or a.classes.now q 0) w.wide.ensures) (λ h. absurd (omega arith))
-    | else-i-gt0 w ↦ key_by a.classes.now i x y (λ h. absurd (omega arith)) (λ h. w.x-is)
+      | then-i-gt0 w ↦ key_by a.classes.now i x y (λ h. w.x-is ∙ ap (λ q. get_or a.classes.now q 0) w.wide.ensures) (λ h. absurd (omega arith))
+      | else-i-gt0 w ↦ key_by a.classes.now i x y (λ h. absurd (omega arith)) (λ h. w.x-is)
     ] in
     (omega arith, key_more c.requires.0 c.loop-k-test.true a.at l.invariant.1 key)
 

@@ -90,17 +90,20 @@ loop-j-preserved c =
     let l = c.loop-j in
     let E = c.requires in
     let x = c.wide-x.result in
-    let rest = expanded a.heads.now a.sizes.now a.marks.now (l.j + 1) a.to in
-    (omega arith, omega arith, elim c.if-i-eq0.branch [
-      then-i-eq0 w ↦ one_more_lem l.invariant.2 x rest (expand_symbol a.heads.now a.sizes.now a.marks.now l.j a.to c.loop-j-test.true E.grafts.inside c.wide-i.ensures c.wide-x.ensures w.if-i-eq0.true) w.w-is w.out-is
-    | else-i-eq0 w ↦
-        let i = c.wide-i.result in
-        let C = called_head E l.j l.invariant.0 c.loop-j-test.true c.wide-i.ensures c.wide-x.ensures w.if-i-eq0.false in
-        let e = head_lent a.heads.now a.sizes.now x w.wide.ensures (omega arith) in
-        word_more l.invariant.2 (labels a.heads.now a.sizes.now i x) rest C.next
-        (w.w-is ∙ omega (arith, C.long, w.wide.ensures, labeled_length (65536 * i + 64 * x) (head_at a.heads.now a.sizes.now x)))
-        (w.out-is ∙ w.label_head.ensures ∙ ap (λ s. sets l.out l.w (labeled (65536 * i + 64 * x) s)) e)
-    ])
+    let rest = expanded a.heads.now a.sizes.now a.marks.now (l.j + 1) a.to in (
+      omega arith,
+      omega arith,
+      elim c.if-i-eq0.branch [
+        | then-i-eq0 w ↦ one_more_lem l.invariant.2 x rest (expand_symbol a.heads.now a.sizes.now a.marks.now l.j a.to c.loop-j-test.true E.grafts.inside c.wide-i.ensures c.wide-x.ensures w.if-i-eq0.true) w.w-is w.out-is
+        | else-i-eq0 w ↦
+            let i = c.wide-i.result in
+            let C = called_head E l.j l.invariant.0 c.loop-j-test.true c.wide-i.ensures c.wide-x.ensures w.if-i-eq0.false in
+            let e = head_lent a.heads.now a.sizes.now x w.wide.ensures (omega arith) in
+            word_more l.invariant.2 (labels a.heads.now a.sizes.now i x) rest C.next
+            (w.w-is ∙ omega (arith, C.long, w.wide.ensures, labeled_length (65536 * i + 64 * x) (head_at a.heads.now a.sizes.now x)))
+            (w.out-is ∙ w.label_head.ensures ∙ ap (λ s. sets l.out l.w (labeled (65536 * i + 64 * x) s)) e)
+      ],
+    )
 
 pub returns : goal.returns
 returns c =

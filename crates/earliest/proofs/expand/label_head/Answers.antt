@@ -23,11 +23,13 @@ loop-m-preserved c =
     let l = c.loop-m in
     let x = c.wide-x.result in
     let h = c.loop-m-test.true in
-    let rest = labeled (a.base + (l.m + 1)) (drop (l.m + 1) a.head.now) in
-    (omega arith, elim c.if-x-eq255.branch [
-      then-x-eq255 w ↦ one_more_lem l.invariant.1 (a.base + l.m) rest (labeled_top a.base a.head.now l.m h c.wide-x.ensures w.if-x-eq255.true) (omega arith) w.out-is
-    | else-x-eq255 w ↦ one_more_lem l.invariant.1 x rest (labeled_symbol a.base a.head.now l.m h c.wide-x.ensures w.if-x-eq255.false) (omega arith) w.out-is
-    ])
+    let rest = labeled (a.base + (l.m + 1)) (drop (l.m + 1) a.head.now) in (
+      omega arith,
+      elim c.if-x-eq255.branch [
+        | then-x-eq255 w ↦ one_more_lem l.invariant.1 (a.base + l.m) rest (labeled_top a.base a.head.now l.m h c.wide-x.ensures w.if-x-eq255.true) (omega arith) w.out-is
+        | else-x-eq255 w ↦ one_more_lem l.invariant.1 x rest (labeled_symbol a.base a.head.now l.m h c.wide-x.ensures w.if-x-eq255.false) (omega arith) w.out-is
+      ],
+    )
 
 pub returns : goal.returns
 returns c =

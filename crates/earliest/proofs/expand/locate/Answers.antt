@@ -21,8 +21,8 @@ loop-i-preserved c =
     let L = c.requires in
     let W = c.loop-i.invariant in
     elim c.if-wide-outs.branch [
-      then-wide-outs w ↦ next_symbol L W c.loop-i-test.true c.wide.ensures w.if-wide-outs.true w.p-is
-    | else-wide-outs w ↦ next_top L W c.loop-i-test.true c.wide.ensures (omega arith) w.letter_end-p.ensures w.p-is
+      | then-wide-outs w ↦ next_symbol L W c.loop-i-test.true c.wide.ensures w.if-wide-outs.true w.p-is
+      | else-wide-outs w ↦ next_top L W c.loop-i-test.true c.wide.ensures (omega arith) w.letter_end-p.ensures w.p-is
     ]
 
 pub returns : goal.returns

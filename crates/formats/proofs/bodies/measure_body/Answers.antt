@@ -29,8 +29,8 @@ overflow_cast-levels c = omega (arith, few_levels_lem c.loop-j.invariant c.loop-
 pub loop-j-preserved : goal.loop-j-preserved
 loop-j-preserved c =
     elim c.if-i-gt0.branch [
-      then-i-gt0+else-i-r+else-x-n w ↦ rw (w.levels-is, w.behind-is) (call_read c.loop-j.invariant c.loop-j-test.true c.wide-i.ensures c.wide-x.ensures w.if-i-gt0.true w.if-i-r.false w.if-x-n.false)
-    | else-i-gt0+else-x-outs+else-m-behind w ↦ rw (w.levels-is, w.behind-is) (symbol_read c.loop-j.invariant c.loop-j-test.true c.wide-i.ensures c.wide-x.ensures (omega arith) w.if-x-outs.false w.wide-m.ensures w.if-m-behind.false w.most_levels-deep.ensures)
+      | then-i-gt0+else-i-r+else-x-n w ↦ rw (w.levels-is, w.behind-is) (call_read c.loop-j.invariant c.loop-j-test.true c.wide-i.ensures c.wide-x.ensures w.if-i-gt0.true w.if-i-r.false w.if-x-n.false)
+      | else-i-gt0+else-x-outs+else-m-behind w ↦ rw (w.levels-is, w.behind-is) (symbol_read c.loop-j.invariant c.loop-j-test.true c.wide-i.ensures c.wide-x.ensures (omega arith) w.if-x-outs.false w.wide-m.ensures w.if-m-behind.false w.most_levels-deep.ensures)
     ]
 
 pub overflow_add-behind : goal.overflow_add-behind

@@ -56,19 +56,19 @@ overflow_add-w-in-loop-i c =
     let M = c.loop-i.invariant in
     let t = c.loop-i-test.true in
     elim c.if-k-y.branch [
-      then-k-y w ↦ elim w.if-w-i.branch [
-        then-w-i v ↦ omega (arith, (run_turn M t w.if-k-y.true v.if-w-i.true v.same_run-t.ensures).behind, v.same_run-t.ensures.first, M.long)
-      | else-w-i v ↦ omega (arith, (same_turn M t w.if-k-y.true).behind, M.long)
+      | then-k-y w ↦ elim w.if-w-i.branch [
+        | then-w-i v ↦ omega (arith, (run_turn M t w.if-k-y.true v.if-w-i.true v.same_run-t.ensures).behind, v.same_run-t.ensures.first, M.long)
+        | else-w-i v ↦ omega (arith, (same_turn M t w.if-k-y.true).behind, M.long)
       ]
-    | else-k-y w ↦ omega (arith, M.behind, M.long)
+      | else-k-y w ↦ omega (arith, M.behind, M.long)
     ]
 
 pub loop-i-smaller : goal.loop-i-smaller
 loop-i-smaller c =
     let M = c.loop-i.invariant in
     elim c.if-k-y.branch [
-      then-k-y w ↦ elim w.if-w-i.branch [ then-w-i v ↦ omega (arith, v.same_run-t.ensures.first, M.long) | else-w-i v ↦ omega (arith, M.long) ]
-    | else-k-y w ↦ omega (arith, w.pattern_end-i.ensures.further, M.long)
+      | then-k-y w ↦ elim w.if-w-i.branch [ then-w-i v ↦ omega (arith, v.same_run-t.ensures.first, M.long) | else-w-i v ↦ omega (arith, M.long) ]
+      | else-k-y w ↦ omega (arith, w.pattern_end-i.ensures.further, M.long)
     ]
 
 pub loop-i-preserved : goal.loop-i-preserved
@@ -76,14 +76,14 @@ loop-i-preserved c =
     let M = c.loop-i.invariant in
     let t = c.loop-i-test.true in
     elim c.if-k-y.branch [
-      then-k-y w ↦ elim w.if-w-i.branch [
-        then-w-i v ↦ rw (w.x-is, w.i-is, w.j-is, w.w-is, w.cut-is, v.x-is, v.i-is, v.j-is, v.w-is) (run_turn M t w.if-k-y.true v.if-w-i.true v.same_run-t.ensures)
-      | else-w-i v ↦ rw (w.x-is, w.i-is, w.j-is, w.w-is, w.cut-is, v.x-is, v.i-is, v.j-is, v.w-is) (same_turn M t w.if-k-y.true)
+      | then-k-y w ↦ elim w.if-w-i.branch [
+        | then-w-i v ↦ rw (w.x-is, w.i-is, w.j-is, w.w-is, w.cut-is, v.x-is, v.i-is, v.j-is, v.w-is) (run_turn M t w.if-k-y.true v.if-w-i.true v.same_run-t.ensures)
+        | else-w-i v ↦ rw (w.x-is, w.i-is, w.j-is, w.w-is, w.cut-is, v.x-is, v.i-is, v.j-is, v.w-is) (same_turn M t w.if-k-y.true)
       ]
-    | else-k-y w ↦ rw (w.x-is, w.i-is, w.j-is, w.w-is, w.cut-is)
-        (other_turn M t w.if-k-y.false w.pattern_end-i.ensures w.pattern_end-j.ensures
-        (λ h. elim w.if-wide-outs.branch [ then-wide-outs v ↦ v.cut-is | else-wide-outs v ↦ absurd (omega arith) ])
-        (λ h. elim w.if-wide-outs.branch [ then-wide-outs v ↦ absurd (omega arith) | else-wide-outs v ↦ v.cut-is ]))
+      | else-k-y w ↦ rw (w.x-is, w.i-is, w.j-is, w.w-is, w.cut-is)
+          (other_turn M t w.if-k-y.false w.pattern_end-i.ensures w.pattern_end-j.ensures
+          (λ h. elim w.if-wide-outs.branch [ then-wide-outs v ↦ v.cut-is | else-wide-outs v ↦ absurd (omega arith) ])
+          (λ h. elim w.if-wide-outs.branch [ then-wide-outs v ↦ absurd (omega arith) | else-wide-outs v ↦ v.cut-is ]))
     ]
 
 pub shape_of-x : goal.shape_of-x

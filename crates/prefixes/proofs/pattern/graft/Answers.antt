@@ -63,10 +63,10 @@ loop-j-preserved c =
     let L = c.loop-j.invariant in
     let t = c.loop-j-test.true in
     elim c.if-i-eq0.branch [
-      then-i-eq0 w ↦ graft_symbol G L t w.if-i-eq0.true w.out-is w.w-is
-    | else-i-eq0 w ↦
-        let C = called G c.loop-j.j L.first t w.if-i-eq0.false w.wide-q.ensures in
-        graft_call G L t (32 * ((w.wide-size.result + 31) / 32)) (omega arith) (omega (arith, C.small, w.wide-size.ensures)) w.if-i-eq0.false w.wide-q.ensures w.wide-size.ensures (w.out-is ∙ w.copy_at.ensures) w.w-is
+      | then-i-eq0 w ↦ graft_symbol G L t w.if-i-eq0.true w.out-is w.w-is
+      | else-i-eq0 w ↦
+          let C = called G c.loop-j.j L.first t w.if-i-eq0.false w.wide-q.ensures in
+          graft_call G L t (32 * ((w.wide-size.result + 31) / 32)) (omega arith) (omega (arith, C.small, w.wide-size.ensures)) w.if-i-eq0.false w.wide-q.ensures w.wide-size.ensures (w.out-is ∙ w.copy_at.ensures) w.w-is
     ]
 
 pub shape_of-out : goal.shape_of-out

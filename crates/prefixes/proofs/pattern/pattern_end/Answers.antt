@@ -26,8 +26,8 @@ loop-owed-preserved c =
     let x = c.wide-x.ensures in
     (owing_next c.loop-owed.invariant c.loop-owed-test.true
     (elim c.if-x-outs.branch [
-      then-x-outs w ↦ counted_named (top_ranks _) x w.if-x-outs.true w.wide-owed.ensures w.owed-is
-    | else-x-outs w ↦ counted_free (top_ranks _) x (omega arith) w.owed-is
+      | then-x-outs w ↦ counted_named (top_ranks _) x w.if-x-outs.true w.wide-owed.ensures w.owed-is
+      | else-x-outs w ↦ counted_free (top_ranks _) x (omega arith) w.owed-is
     ])).0
 
 pub overflow_add-p : goal.overflow_add-p

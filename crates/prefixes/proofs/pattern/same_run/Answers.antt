@@ -14,8 +14,8 @@ same_words-t-requires c =
 pub loop-t-init : goal.loop-t-init
 loop-t-init c =
     elim c.if-y-j.branch [
-      then-y-j w ↦ (c.same_words-t.ensures.0, omega arith, omega arith, c.same_words-t.ensures.1)
-    | else-y-j w ↦ (c.same_words-t.ensures.0, omega arith, omega arith, c.same_words-t.ensures.1)
+      | then-y-j w ↦ (c.same_words-t.ensures.0, omega arith, omega arith, c.same_words-t.ensures.1)
+      | else-y-j w ↦ (c.same_words-t.ensures.0, omega arith, omega arith, c.same_words-t.ensures.1)
     ]
 
 pub returns-then-x-i : goal.returns-then-x-i

@@ -29,8 +29,8 @@ loop-a-preserved c =
     let t = c.loop-a-test.true in
     let k = c.cut_rhs in
     elim c.if-cut_rhs.branch [
-      then-cut_rhs w ↦ loop_cut B L t k.ensures k.auto.heads k.auto.sizes k.auto.other w.if-cut_rhs.true w.any-is
-    | else-cut_rhs w ↦ loop_none B L t k.ensures k.auto.heads k.auto.sizes k.auto.other w.if-cut_rhs.false w.any-is
+      | then-cut_rhs w ↦ loop_cut B L t k.ensures k.auto.heads k.auto.sizes k.auto.other w.if-cut_rhs.true w.any-is
+      | else-cut_rhs w ↦ loop_none B L t k.ensures k.auto.heads k.auto.sizes k.auto.other w.if-cut_rhs.false w.any-is
     ]
 
 pub shape_of-heads : goal.shape_of-heads

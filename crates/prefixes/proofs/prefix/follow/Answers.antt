@@ -50,8 +50,8 @@ loop-f-smaller c =
     let o = c.loop-f.flags in
     let L = c.loop-f.invariant in
     elim c.if-cut_state.branch [
-      then-cut_state w ↦ less_cut B L k.ensures (weight o.low o.high o.low2 o.high2) w.if-cut_state.true c.first_flag-f.ensures.1
-    | else-cut_state w ↦ less_none B L k.ensures w.if-cut_state.false (omega (arith, c.other_flags-flags.ensures, c.next_flags-flags.ensures, ap (λ x. weight x.low x.high x.low2 x.high2) w.flags-is))
+      | then-cut_state w ↦ less_cut B L k.ensures (weight o.low o.high o.low2 o.high2) w.if-cut_state.true c.first_flag-f.ensures.1
+      | else-cut_state w ↦ less_none B L k.ensures w.if-cut_state.false (omega (arith, c.other_flags-flags.ensures, c.next_flags-flags.ensures, ap (λ x. weight x.low x.high x.low2 x.high2) w.flags-is))
     ]
 
 pub loop-f-preserved : goal.loop-f-preserved
