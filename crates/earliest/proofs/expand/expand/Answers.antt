@@ -18,7 +18,7 @@ loop-j-init c =
     (omega arith, c.requires.grafts.ordered, begin (expanded a.heads.now a.sizes.now a.marks.now a.from a.to) a.out.now 0)
 
 pub overflow_cast-out : goal.overflow_cast-out
-overflow_cast-out c = omega (arith, c.wide-x.ensures, c.shared_slice_known-in-loop-j-2-1.given (2 * c.loop-j.j + 1))
+overflow_cast-out c = omega (arith, c.wide-x.ensures, c.type_inv.marks (2 * c.loop-j.j + 1))
 
 pub offset_bounds-out-w : goal.offset_bounds-out-w
 offset_bounds-out-w c =

@@ -15,7 +15,7 @@ loop-m-init c =
     (omega arith, rw (add-zero, add-zero) (begin (labeled a.base a.head.now) a.out.now a.at))
 
 pub overflow_cast-out-else-x-eq255 : goal.overflow_cast-out-else-x-eq255
-overflow_cast-out-else-x-eq255 c = omega (arith, c.wide-x.ensures, c.shared_slice_known-in-loop-m-1.given c.loop-m.m)
+overflow_cast-out-else-x-eq255 c = omega (arith, c.wide-x.ensures, c.type_inv.head c.loop-m.m)
 
 pub loop-m-preserved : goal.loop-m-preserved
 loop-m-preserved c =

@@ -11,10 +11,10 @@ pub loop-j-init : goal.loop-j-init
 loop-j-init c = (omega arith, count_none c.args.counts.now)
 
 pub overflow_mul-c : goal.overflow_mul-c
-overflow_mul-c c = omega (arith, c.wide.ensures, c.shared_slice_known-in-loop-j-1.given (2 * c.loop-j.j))
+overflow_mul-c c = omega (arith, c.wide.ensures, c.type_inv.counts (2 * c.loop-j.j))
 
 pub overflow_add-c : goal.overflow_add-c
-overflow_add-c c = omega (arith, c.wide.ensures, c.wide-in-loop-j.ensures, c.shared_slice_known-in-loop-j-1.given (2 * c.loop-j.j), c.shared_slice_known-in-loop-j-2-1.given (2 * c.loop-j.j + 1))
+overflow_add-c c = omega (arith, c.wide.ensures, c.wide-in-loop-j.ensures, c.type_inv.counts (2 * c.loop-j.j), c.type_inv.counts (2 * c.loop-j.j + 1))
 
 pub returns-then-c-eq0 : goal.returns-then-c-eq0
 returns-then-c-eq0 c =

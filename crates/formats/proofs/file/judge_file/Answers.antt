@@ -7,7 +7,7 @@ pub returns-then-sheet-eq0 : goal.returns-then-sheet-eq0
 returns-then-sheet-eq0 c = empty_file c.args.stock.now c.args.sheet.now c.requires c.if-sheet-eq0.true
 
 pub counts_end-from-requires : goal.counts_end-from-requires
-counts_end-from-requires c = (c.requires, omega (arith, c.wide-n.ensures, c.shared_slice_known-3-1.given 0))
+counts_end-from-requires c = (c.requires, omega (arith, c.wide-n.ensures, c.type_inv.sheet 0))
 
 pub returns-then-sheet-from : goal.returns-then-sheet-from
 returns-then-sheet-from c = short_file c.args.stock.now c.args.sheet.now c.requires c.wide-n.result c.counts_end-from.result c.wide-n.ensures c.counts_end-from.ensures c.if-sheet-from.true

@@ -10,7 +10,7 @@ pub overflow_sub-size : goal.overflow_sub-size
 overflow_sub-size c = omega (arith, c.requires.2 c.loop-j.j c.loop-j-test.true, c.number.ensures, c.number-in-loop-j.ensures)
 
 pub overflow_cast-counts : goal.overflow_cast-counts
-overflow_cast-counts c = omega (arith, c.shared_slice_known-in-loop-j-1.given (c.loop-j.j + 1), c.number.ensures)
+overflow_cast-counts c = omega (arith, c.type_inv.starts (c.loop-j.j + 1), c.number.ensures)
 
 pub bounds-counts-j-in-loop-j : goal.bounds-counts-j-in-loop-j
 bounds-counts-j-in-loop-j c = omega (arith, length-set c.loop-j.counts (2 * c.loop-j.j) ((c.number.result - c.number-in-loop-j.result) / 256))

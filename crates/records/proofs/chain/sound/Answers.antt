@@ -13,4 +13,4 @@ pub returns-then-s-ne0 : goal.returns-then-s-ne0
 returns-then-s-ne0 c = λ k rs T. decides_no (λ S. omega (arith, ap (λ w. w.count) (T.first (omega arith)), S.stock, c.if-s-ne0.true))
 
 pub returns : goal.returns
-returns c = λ k rs T. record { sound = λ e. counts_tell T (omega (arith, c.if-h-eq18446744073709551615.false, c.struct_known-1.given)) c.if-s-ne0.false (eqb-true _ _ e); complete = λ S. eq-eqb _ _ (counts_told T S) }
+returns c = λ k rs T. record { sound = λ e. counts_tell T (omega arith) c.if-s-ne0.false (eqb-true _ _ e); complete = λ S. eq-eqb _ _ (counts_told T S) }

@@ -9,7 +9,7 @@ pub returns-then-stock-lt2 : goal.returns-then-stock-lt2
 returns-then-stock-lt2 c = decides_no (λ A. omega (arith, file_length A))
 
 pub overflow_add-p : goal.overflow_add-p
-overflow_add-p c = omega (arith, c.wide-p.ensures, c.shared_slice_known-2-1.given 0)
+overflow_add-p c = omega (arith, c.wide-p.ensures, c.type_inv.stock 0)
 
 pub returns-then-stock-p : goal.returns-then-stock-p
 returns-then-stock-p c = decides_no (λ A. omega (arith, file_length A, c.wide-p.ensures))

@@ -43,7 +43,7 @@ pub returns-then-d-eq0 : goal.returns-then-d-eq0
 returns-then-d-eq0 c = (step_none c.requires.0 c.requires.1 c.number-at.ensures c.args.b c.wide-x.ensures c.if-marks-at-eq0.false c.wide-d.ensures c.if-d-eq0.true, omega arith)
 
 pub overflow_add-result : goal.overflow_add-result
-overflow_add-result c = omega (arith, c.shared_slice_known-8-1.given c.wide-x.result, c.wide-d.ensures)
+overflow_add-result c = omega (arith, c.type_inv.dist c.wide-x.result, c.wide-d.ensures)
 
 pub returns : goal.returns
-returns c = (step_call c.requires.0 c.requires.1 c.number-at.ensures c.args.b c.wide-x.ensures c.if-marks-at-eq0.false c.wide-d.ensures c.if-d-eq0.false, omega (arith, c.shared_slice_known-8-1.given c.wide-x.result, c.wide-d.ensures))
+returns c = (step_call c.requires.0 c.requires.1 c.number-at.ensures c.args.b c.wide-x.ensures c.if-marks-at-eq0.false c.wide-d.ensures c.if-d-eq0.false, omega (arith, c.type_inv.dist c.wide-x.result, c.wide-d.ensures))
