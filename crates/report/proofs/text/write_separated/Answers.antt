@@ -1,0 +1,47 @@
+-- `write_separated` meets its contract: the first number, and the others with a byte in front. Assumes nothing.
+use native.Mathlib.Omega.{arith}
+use mathlib.Core.Path.{ap}
+use lib.ListN.{length, length-set}
+use Rattle.report.specs.Text.{number_text}
+use Rattle.formats.proofs.Writing.{wrote_as, wrote_long}
+use Rattle.report.proofs.Pieces.{none_separated, first_room, first_separated, next_room, all_separated, next_separated}
+use Rattle.report.proofs.text.write_separated.Goals as goal
+
+pub returns-then-items-eq0 : goal.returns-then-items-eq0
+returns-then-items-eq0 c = let a = c.args in none_separated a.s a.items.now a.text.now a.at c.if-items-eq0.true
+
+pub write_number-to-requires : goal.write_number-to-requires
+write_number-to-requires c =
+    let a = c.args in
+    let e = c.wide.ensures in
+    (omega (arith, e, c.shared_slice_known-2-1.given 0), omega (arith, ap (λ n. length (number_text n)) e, first_room a.s a.items.now a.text.now a.at (omega (arith, c.if-items-eq0.false)) c.requires))
+
+pub loop-k-init : goal.loop-k-init
+loop-k-init c = let a = c.args in first_separated a.s a.items.now (omega (arith, c.if-items-eq0.false)) (wrote_as (ap number_text c.wide.ensures) c.write_number-to.ensures)
+
+pub bounds-text-to : goal.bounds-text-to
+bounds-text-to c =
+    let a = c.args in
+    omega (arith, next_room a.s a.items.now (omega (arith, c.if-items-eq0.false)) (wrote_as (ap number_text c.wide.ensures) c.write_number-to.ensures) c.loop-k.invariant c.loop-k-test.true c.requires)
+
+pub overflow_add-to : goal.overflow_add-to
+overflow_add-to c =
+    let a = c.args in
+    omega (arith, next_room a.s a.items.now (omega (arith, c.if-items-eq0.false)) (wrote_as (ap number_text c.wide.ensures) c.write_number-to.ensures) c.loop-k.invariant c.loop-k-test.true c.requires)
+
+pub write_number-to-requires-in-loop-k : goal.write_number-to-requires-in-loop-k
+write_number-to-requires-in-loop-k c =
+    let a = c.args in
+    let l = c.loop-k in
+    let e = c.wide-in-loop-k.ensures in
+    let r = next_room a.s a.items.now (omega (arith, c.if-items-eq0.false)) (wrote_as (ap number_text c.wide.ensures) c.write_number-to.ensures) l.invariant c.loop-k-test.true c.requires in
+    (omega (arith, e, c.shared_slice_known-in-loop-k-1.given l.k), omega (arith, ap (λ n. length (number_text n)) e, length-set l.text l.to a.s, r))
+
+pub loop-k-preserved : goal.loop-k-preserved
+loop-k-preserved c = let a = c.args in next_separated a.s a.items.now c.loop-k.invariant c.loop-k-test.true (wrote_as (ap number_text c.wide-in-loop-k.ensures) c.write_number-to-in-loop-k.ensures)
+
+pub shape_of-text : goal.shape_of-text
+shape_of-text c = let a = c.args in wrote_long (all_separated a.s a.items.now (omega (arith, c.if-items-eq0.false)) (wrote_as (ap number_text c.wide.ensures) c.write_number-to.ensures) c.loop-k.invariant c.loop-k-test.false)
+
+pub returns : goal.returns
+returns c = let a = c.args in all_separated a.s a.items.now (omega (arith, c.if-items-eq0.false)) (wrote_as (ap number_text c.wide.ensures) c.write_number-to.ensures) c.loop-k.invariant c.loop-k-test.false
