@@ -117,6 +117,7 @@ all_rows =
     also no_more
 
 listed : {rs : List Row} {row : Row} → All rs → Memᴰ row rs → Says row
+listed {row = row} no_more x3 = elim x3 [ ]
 listed (w also ws) (Memᴰ.head e) = subst Says (sym e) w
 listed (w also ws) (Memᴰ.tail m) = listed ws m
 
