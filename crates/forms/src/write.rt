@@ -15,7 +15,7 @@ pub enum FormSize {
 }
 
 // How many states and marks a form has, and how long its file is; or the refusal.
-#[derive(Drop)]
+#[derive(Clone, Copy)]
 pub enum Formed {
     Form(usize, usize, usize),
     Refused(Refusal),

@@ -15,7 +15,7 @@ use trees::refusal::Refusal;
 use trees::tree::Extent;
 
 // How long the result of a conversion is, or the refusal.
-#[derive(Drop)]
+#[derive(Clone, Copy)]
 pub enum Converted {
     Length(usize),
     Refused(Refusal),
