@@ -17,6 +17,7 @@ use crate::reader::{NO_NUMBER, between, count, nth, number, put_file};
 use crate::{answer, calls};
 use check::same;
 use formats::file::{transducer_counts, transducer_marks};
+use std::io;
 use std::num::wrapping_sub_usize;
 use trees::bytes::wide;
 
@@ -64,6 +65,7 @@ fn asked(s: &[u8], call: &[u8], end: usize) -> usize {
 
 // The calls that are lent areas; x is the line's last number.
 fn lent<'a>(
+    rt: &impl Print,
     k: usize,
     x: usize,
     a: &[u8],
@@ -72,21 +74,22 @@ fn lent<'a>(
     d: &[u8],
     area: &mut [u8],
     other: &mut [u8],
-) {
+) -> io::Result<()> {
     match k {
-        8 => calls::sewing(a, b, c, area),
-        9 => calls::cleaning(a, b, area, other, x),
-        10 => calls::writing(a, b, c, x, area, other.len()),
-        11 => calls::pair(a, b, c, area, other),
-        12 => calls::joining(a, b, c, d, area, other.len()),
-        13 => calls::xml(a, b, area, other.len()),
-        14 => calls::plan(a, b, area, other.len()),
-        _ => answer::bad_line(),
+        8 => calls::sewing(rt, a, b, c, area),
+        9 => calls::cleaning(rt, a, b, area, other, x),
+        10 => calls::writing(rt, a, b, c, x, area, other.len()),
+        11 => calls::pair(rt, a, b, c, area, other),
+        12 => calls::joining(rt, a, b, c, d, area, other.len()),
+        13 => calls::xml(rt, a, b, area, other.len()),
+        14 => calls::plan(rt, a, b, area, other.len()),
+        _ => answer::bad_line(rt),
     }
 }
 
 // Lends of each area as much as the line says.
 fn lend<'a>(
+    rt: &impl Print,
     k: usize,
     call: &[u8],
     a: &[u8],
@@ -95,54 +98,75 @@ fn lend<'a>(
     d: &[u8],
     area: &mut [u8],
     other: &mut [u8],
-) {
+) -> io::Result<()> {
     let n = number(nth(call, 2, b' '));
     let m = number(nth(call, 3, b' '));
     let x = number(nth(call, 4, b' '));
     if n <= area.len() {
         if m <= other.len() {
             if x != NO_NUMBER {
-                return lent(k, x, a, b, c, d, &mut area[0..n], &mut other[0..m]);
+                return lent(rt, k, x, a, b, c, d, &mut area[0..n], &mut other[0..m]);
             }
         }
     }
-    answer::bad_line();
+    answer::bad_line(rt)
 }
 
-fn with_areas<'a>(k: usize, call: &[u8], a: &[u8], b: &'a [u8], c: &'a [u8], d: &[u8]) {
+fn with_areas<'a>(
+    rt: &impl Print,
+    k: usize,
+    call: &[u8],
+    a: &[u8],
+    b: &'a [u8],
+    c: &'a [u8],
+    d: &[u8],
+) -> io::Result<()> {
     let mut area = [7u8; 20483];
     let mut other = [7u8; 20483];
-    lend(k, call, a, b, c, d, &mut area, &mut other);
+    lend(rt, k, call, a, b, c, d, &mut area, &mut other)
 }
 
 // The files end at these places of the store.
-fn answer_call(k: usize, call: &[u8], store: &[u8], kept: usize, ends: [usize; 4]) {
+fn answer_call(
+    rt: &impl Print,
+    k: usize,
+    call: &[u8],
+    store: &[u8],
+    kept: usize,
+    ends: [usize; 4],
+) -> io::Result<()> {
     let a = between(store, kept, ends[0]);
     let b = between(store, ends[0], ends[1]);
     let c = between(store, ends[1], ends[2]);
     let d = between(store, ends[2], ends[3]);
     match k {
-        1 => calls::stock(a),
-        2 => calls::design(a, b),
-        3 => calls::sheet(a, b),
-        4 => answer::handed(transducer_counts(a, b)),
-        5 => answer::handed(transducer_marks(a, b)),
-        6 => calls::single(a, b),
-        7 => calls::place(a, b, c, d),
-        _ => with_areas(k, call, a, b, c, d),
+        1 => calls::stock(rt, a),
+        2 => calls::design(rt, a, b),
+        3 => calls::sheet(rt, a, b),
+        4 => answer::handed(rt, transducer_counts(a, b)),
+        5 => answer::handed(rt, transducer_marks(a, b)),
+        6 => calls::single(rt, a, b),
+        7 => calls::place(rt, a, b, c, d),
+        _ => with_areas(rt, k, call, a, b, c, d),
     }
 }
 
 // A line that names bytes. They are kept.
-fn name(letter: u8, kept: usize, end: usize, names: &mut [usize; 52]) -> usize {
+fn name(
+    rt: &impl Print,
+    letter: u8,
+    kept: usize,
+    end: usize,
+    names: &mut [usize; 52],
+) -> io::Result<usize> {
     let k = wrapping_sub_usize(wide(letter), 65);
     if k > 25 {
-        answer::bad_line();
-        return kept;
+        answer::bad_line(rt)?;
+        return Ok(kept);
     }
     names[2 * k] = kept;
     names[2 * k + 1] = end;
-    end
+    Ok(end)
 }
 
 // Puts the files into the store behind what is kept, and says where each ends. One that is not there is empty.
@@ -156,24 +180,25 @@ fn put_files(s: &[u8], kept: usize, store: &mut [u8; 65536], names: &[usize; 52]
 
 // Reads a line and answers. Says how much of the store is to be kept behind it.
 pub(crate) fn line(
+    rt: &impl Print,
     s: &[u8],
     kept: usize,
     store: &mut [u8; 65536],
     names: &mut [usize; 52],
-) -> usize {
+) -> io::Result<usize> {
     if s.len() == 0 {
-        return kept;
+        return Ok(kept);
     }
     if s[0] == b'#' {
-        return kept;
+        return Ok(kept);
     }
     let ends = put_files(s, kept, store, names);
     let call = nth(s, 1, b'|');
     let k = asked(s, call, ends[3]);
     if k == 0 {
-        return name(s[0], kept, ends[0], names);
+        return name(rt, s[0], kept, ends[0], names);
     }
-    answer::text(nth(s, 0, b'|'));
-    answer_call(k, call, store, kept, ends);
-    kept
+    answer::text(rt, nth(s, 0, b'|'))?;
+    answer_call(rt, k, call, store, kept, ends)?;
+    Ok(kept)
 }

@@ -9,26 +9,27 @@ mod calls;
 mod line;
 mod reader;
 
-use libc::STDIN_FILENO;
+use std::io::{self, Read};
 
 // The cases, line by line. A line may name bytes, which those behind it use: they stay at the start of the store.
-fn run(text: &[u8], store: &mut [u8; 65536]) {
+fn run(rt: &impl Print, text: &[u8], store: &mut [u8; 65536]) -> io::Result<()> {
     let mut names = [0usize; 52];
     let mut kept = 0;
     let mut at = 0;
     while at < text.len() {
         let end = reader::find(text, at, b'\n');
-        kept = line::line(reader::between(text, at, end), kept, store, &mut names);
+        kept = line::line(rt, reader::between(text, at, end), kept, store, &mut names)?;
         if end >= text.len() {
-            return;
+            return Ok(());
         }
         at = end + 1;
     }
+    Ok(())
 }
 
-fn main() {
-    let mut text = io::large_buffer();
-    let n = io::read_full(STDIN_FILENO, &mut text);
-    let mut store = io::large_buffer();
-    run(&text[..n], &mut store);
+fn main(rt: HostRuntime) -> io::Result<()> {
+    let mut text = Vec::new(rt.alloc());
+    rt.reader().take(65536).read_to_end(&mut text)?;
+    let mut store = [0u8; 65536];
+    run(&rt, &text, &mut store)
 }
