@@ -4,7 +4,7 @@
  * These are the functions of the proved library libexports.a, over files of bytes and areas that the caller lends.
  * docs/FORMATS.md has the byte formats, docs/GLOSSARY.md the words, docs/REFUSALS.md the refusals with small inputs.
  *
- * Building. `rt staticlib exports` in the repository writes target/staticlib/libexports.a. A program needs that file
+ * Building. `tools/build exports` in the repository writes target/staticlib/libexports.a. A program needs that file
  * and this header, and no other library than C's own (memcpy, memset, strlen):
  *
  *     gcc -std=c99 -Iinclude program.c target/staticlib/libexports.a -o program

@@ -1,4 +1,4 @@
-//! Links the proved library, which `rt staticlib exports` writes to target/staticlib of the repository.
+//! Links the proved library, which `tools/build exports` writes to target/staticlib of the repository.
 use std::path::Path;
 
 fn main() {
@@ -7,7 +7,7 @@ fn main() {
     println!("cargo:rerun-if-changed={}", archive.display());
     println!("cargo:rerun-if-changed=build.rs");
     if !archive.is_file() {
-        println!("cargo::error=the proved library is missing: run `rt staticlib exports` in the folder above, which writes {}", archive.display());
+        println!("cargo::error=the proved library is missing: run `tools/build exports` in the folder above, which writes {}", archive.display());
         return;
     }
     println!("cargo:rustc-link-search=native={}", folder.display());

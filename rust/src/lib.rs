@@ -1,6 +1,6 @@
 //! Top-down tree transducers over the proved library.
 //!
-//! The proved library is `target/staticlib/libexports.a` of the repository, which `rt staticlib exports` writes. What
+//! The proved library is `target/staticlib/libexports.a` of the repository, which `tools/build exports` writes. What
 //! it answers is proved for every input (docs/PROMISES.md); this crate hands it memory and gives its answers types.
 //! [`slices`] has its functions over lent memory, [`ffi`] the C functions themselves and the only `unsafe` code.
 //! [`text`] is the text form of the files, [`store`] keeps a registry on disk, and [`drawing`] draws trees.

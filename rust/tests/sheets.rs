@@ -20,7 +20,7 @@ fn folder(stock: &[u8], first: &[u8], second: &[u8]) -> Folder {
 /// What the program prints in this folder. It ends well whatever it finds, and says nothing else.
 fn run(folder: &Folder) -> String {
     let program = Path::new(env!("CARGO_MANIFEST_DIR")).join("../target/bin/sheets");
-    assert!(program.is_file(), "target/bin/sheets is missing: `rt check sheets` proves and builds it");
+    assert!(program.is_file(), "target/bin/sheets is missing: `tools/build sheets` proves and builds it");
     let ended = folder.run(&program.canonicalize().expect("a path"), &[] as &[&str], b"");
     assert_eq!((ended.status, &ended.err[..]), (Some(0), ""));
     ended.text().to_string()
