@@ -26,9 +26,9 @@
  * with an `out` of its own, and caplune_body.
  *
  * Stack. All work memory is local. Bytes of stack of one call, measured on x86-64 (docs/AREAS.md, which has the
- * local arrays of each function): translate 275,159, symbol_at 78,111 and read_tree 65,647 on a chain of 512 levels,
- * shorter 123,023, commit 121,743, enter 121,727, question 121,647, compare 105,295, clean 100,831, earliest_form
- * 66,735, join 55,519, read_xml 16,719, write_xml 12,575, is_linear 9,207; the others under 4,600. Mind this where a
+ * local arrays of each function): translate 209,351, symbol_at 69,895 and read_tree 57,431 on a chain of 512 levels,
+ * shorter 122,691, commit 121,443, enter 121,427, question 121,427, compare 105,027, clean 100,611, earliest_form
+ * 66,595, join 52,407, read_xml 16,671, write_xml 12,575, is_linear 9,159; the others under 4,600. Mind this where a
  * thread's stack is made small.
  */
 #ifndef CAPLUNE_H

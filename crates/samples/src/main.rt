@@ -9,6 +9,8 @@ mod calls;
 mod line;
 mod reader;
 
+ghost use Rattle.std.specs.Prelude.{◌≤◌, length};
+
 use std::io::{self, Read};
 
 // The cases, line by line. A line may name bytes, which those behind it use: they stay at the start of the store.
@@ -27,9 +29,26 @@ fn run(rt: &impl Print, text: &[u8], store: &mut [u8; 65536]) -> io::Result<()> 
     Ok(())
 }
 
+// Fills `text` from the input as far as that goes, and answers how many bytes came: those before a read that fails.
+fn read_text(input: &mut impl Read, text: &mut [u8]) -> usize
+    ensures { result ≤ length text.new }
+{
+    let mut done = 0;
+    while done < text.len() {
+        let Ok(n) = input.read(&mut text[done..]) else {
+            return done;
+        };
+        if n == 0 {
+            return done;
+        }
+        done += n;
+    }
+    done
+}
+
 fn main(rt: HostRuntime) -> io::Result<()> {
-    let mut text = Vec::new(rt.alloc());
-    rt.reader().take(65536).read_to_end(&mut text)?;
+    let mut text = [0u8; 65536];
+    let n = read_text(&mut rt.reader(), &mut text);
     let mut store = [0u8; 65536];
-    run(&rt, &text, &mut store)
+    run(&rt, &text[..n], &mut store)
 }

@@ -1,4 +1,4 @@
-// Why an input is refused: the table of document 01, and the numbers that 02 adds. `refusalNumber` of specs/Refusal.antt gives the number of each.
+// Why an input is refused: the table of document 01, and the numbers that 02 adds. `refusal_number` of specs/Refusal.antt gives the number of each.
 ghost use Rattle.std.specs.Prelude.{◌≡◌};
 ghost use Rattle.trees.specs.Refusal.{refusal_number};
 
