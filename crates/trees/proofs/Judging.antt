@@ -6,7 +6,8 @@ use mathlib.Core.Logic.{inl, inr}
 use mathlib.Core.Path.{◌≡◌, refl, sym, ap, ◌∙◌}
 use Rattle.theory.proofs.Terms.{conflict}
 use lib.ListN.{get_or}
-use Rattle.trees.specs.Refusal.{refusal_number, Outcome, accepted, refused, Checks, done, check, Holds, IsJudged, Judged}
+use Rattle.std.specs.Prelude.{Result, Ok, Err}
+use Rattle.trees.specs.Refusal.{refusal_number, Outcome, accepted, refused, outcome_of, Checks, done, check, Holds, IsJudged, Judged}
 use Rattle.trees.specs.declared.refusal.Refusal.{Refusal}
 use Rattle.trees.specs.declared.refusal.Refusal.TheVariants.{ShortArea, BadAlphabets, BadTree, BadContents, BadBody, LongOutput, OverLimits, FullRegistry, BadRegistry, DeepOutput, BadOutput, ShortTarget, OtherNumber, OtherAlphabet, JoinOverLimits}
 
@@ -59,6 +60,17 @@ all_hold Kept Good (check k P rest) r h (inr (p, j)) = all_hold Kept Good rest r
 
 pub must_accept : {A Kept : Type 0} {Good : A → Type 0} {checks : Checks} {r : Outcome A} → Holds checks → Judged Kept Good checks r → (a : A) × ((r ≡ accepted a) × Good a)
 must_accept {Kept} {Good} {checks} {r} h j = all_hold Kept Good checks r h j.verdict
+
+-- in terms of the answer: where all checks hold, it is Ok, and what it holds is good
+pub must_answer : {A Kept : Type 0} {Good : A → Type 0} {checks : Checks} {r : Result A Refusal} → Holds checks → Judged Kept Good checks (outcome_of r) → (a : A) × ((r ≡ Ok a) × Good a)
+must_answer {A} {Kept} {Good} {checks} {r} h J = go r (must_accept h J)
+  where
+    go : (r : Result A Refusal) → (a : A) × ((outcome_of r ≡ accepted a) × Good a) → (a : A) × ((r ≡ Ok a) × Good a)
+    go (Ok b) (a, (e, g)) = (a, (ap (λ x. Ok x) (same_value e), g))
+      where
+        same_value : {b a : A} → ◌≡◌ {A = Outcome A} (accepted b) (accepted a) → b ≡ a
+        same_value e = cc
+    go (Err x) (a, (e, g)) = conflict (cc)
 
 -- checks, and others behind them
 abbrev pub behind : Checks → Checks → Checks

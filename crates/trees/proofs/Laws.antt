@@ -4,56 +4,38 @@ use Prim.Native.Nat.{ℕ}
 use mathlib.Core.List.{List}
 use mathlib.Core.Path.{◌≡◌, ap, ap₂, ◌∙◌}
 use lib.ListN.{length}
+use Rattle.std.specs.Prelude.{Result, Ok}
 use Rattle.theory.specs.Size.{size, levels}
 use Rattle.theory.specs.Term.{Tree}
-use Rattle.theory.proofs.Terms.{conflict}
-use Rattle.trees.specs.Alphabets.{Ranks, Leaf, stock, Alphabets, inputs, outputs}
-use Rattle.trees.specs.Answers.{alphabets_read, ReadsAlphabets, tree_read, ReadsTree}
-use Rattle.trees.specs.Refusal.{Outcome, accepted, refused, Holds}
+use Rattle.trees.specs.Alphabets.{Ranks, Leaf, stock, Alphabets, inputs}
+use Rattle.trees.specs.Answers.{ReadsAlphabets, ReadsTree}
+use Rattle.trees.specs.Refusal.{Holds}
 use Rattle.trees.specs.Tree.{InputTree}
-use Rattle.trees.specs.declared.alphabet.AlphabetsRead.{AlphabetsRead}
-use Rattle.trees.specs.declared.alphabet.AlphabetsRead.TheVariants as alphabets
-use Rattle.trees.specs.declared.tree.TreeRead.{TreeRead}
-use Rattle.trees.specs.declared.tree.TreeRead.TheVariants as tree
-use Rattle.trees.proofs.Judging.{accepted_holds, must_accept}
+use Rattle.trees.specs.declared.alphabet.AlphabetSizes.{AlphabetSizes}
+use Rattle.trees.specs.declared.refusal.Refusal.{Refusal}
+use Rattle.trees.specs.declared.tree.TreeSize.{TreeSize}
+use Rattle.trees.proofs.Judging.{accepted_holds, must_answer}
 use Rattle.trees.proofs.Stock.{stock_reads, stock_reads_outputs, stock_right}
 use Rattle.trees.proofs.Trees.{input_unique}
 
--- the values of an answer of two numbers
-abbrev first_of : Outcome (ℕ × ℕ) → ℕ
-first_of (accepted v) = v.0
-first_of (refused k) = 0
-
-abbrev second_of : Outcome (ℕ × ℕ) → ℕ
-second_of (accepted v) = v.1
-second_of (refused k) = 0
-
 -- ---- the file of two alphabets
 -- the file of two alphabets within the limits is accepted, with the numbers of their symbols
-pub stock_accepted : {ins outs : List ℕ} → Ranks 16 ins → Ranks 64 outs → Leaf ins → (r : AlphabetsRead) → ReadsAlphabets (stock ins outs) r → r ≡ alphabets.Symbols (length ins) (length outs)
+pub stock_accepted : {ins outs : List ℕ} → Ranks 16 ins → Ranks 64 outs → Leaf ins → (r : Result AlphabetSizes Refusal) → ReadsAlphabets (stock ins outs) r → r ≡ Ok (record { inputs = length ins; outputs = length outs })
 unfolding Holds
-stock_accepted {ins} {outs} I O L r J = go r (must_accept (stock_right I O L, tt) J)
-  where
-    go : (r : AlphabetsRead) → (v : ℕ × ℕ) × ((alphabets_read r ≡ accepted v) × ((v.0 ≡ length (inputs (stock ins outs))) × (v.1 ≡ length (outputs (stock ins outs))))) → r ≡ alphabets.Symbols (length ins) (length outs)
-    go (alphabets.Symbols p b) (v, (e, (x, y))) =
-        let p' : p ≡ v.0 = ap (λ o. first_of o) e in
-        let b' : b ≡ v.1 = ap (λ o. second_of o) e in
-        ap₂ alphabets.Symbols (p' ∙ x ∙ ap length (stock_reads ins outs)) (b' ∙ y ∙ ap length (stock_reads_outputs ins outs))
-    go (alphabets.Refused x) (v, (e, w)) = conflict (cc)
+stock_accepted {ins} {outs} I O L r J =
+    let w = must_answer (stock_right I O L, tt) J in
+    w.1.0 ∙ ap₂ (λ p b. Ok (record { inputs = p; outputs = b })) (w.1.1.0 ∙ ap length (stock_reads ins outs)) (w.1.1.1 ∙ ap length (stock_reads_outputs ins outs))
 
 -- ---- the file of an input tree
 module _ (stock s : List ℕ) where
   -- a file is accepted exactly if the stock is one and the file is the code of a tree over it within the limits
-  pub tree_accepted : (n l : ℕ) → ReadsTree stock s (tree.Tree n l) → Alphabets stock × ((d : Tree) × (InputTree (inputs stock) s d × (n ≡ size d) × (l ≡ levels d)))
+  pub tree_accepted : (v : TreeSize) → ReadsTree stock s (Ok v) → Alphabets stock × ((d : Tree) × (InputTree (inputs stock) s d × (v.nodes ≡ size d) × (v.levels ≡ levels d)))
   unfolding Holds
-  tree_accepted n l J = let w = accepted_holds J in (w.0.0, w.1)
+  tree_accepted v J = let w = accepted_holds J in (w.0.0, w.1)
 
-  pub tree_read_lem : Alphabets stock → (d : Tree) → InputTree (inputs stock) s d → (r : TreeRead) → ReadsTree stock s r → r ≡ tree.Tree (size d) (levels d)
+  pub tree_read_lem : Alphabets stock → (d : Tree) → InputTree (inputs stock) s d → (r : Result TreeSize Refusal) → ReadsTree stock s r → r ≡ Ok (record { nodes = size d; levels = levels d })
   unfolding Holds
-  tree_read_lem A d I r J = go r (must_accept (A, ((d, I), tt)) J)
-    where
-      go : (r : TreeRead) → (v : ℕ × ℕ) × ((tree_read r ≡ accepted v) × ((t : Tree) × (InputTree (inputs stock) s t × (v.0 ≡ size t) × (v.1 ≡ levels t)))) → r ≡ tree.Tree (size d) (levels d)
-      go (tree.Tree n l) (v, (e, (t, (T, x, y)))) =
-          let u : t ≡ d = input_unique T I in
-          ap₂ tree.Tree (ap (λ o. first_of o) e ∙ x ∙ ap size u) (ap (λ o. second_of o) e ∙ y ∙ ap levels u)
-      go (tree.Refused x) (v, (e, w)) = conflict (cc)
+  tree_read_lem A d I r J =
+      let w = must_answer (A, ((d, I), tt)) J in
+      let u : w.1.1.0 ≡ d = input_unique w.1.1.1.0 I in
+      w.1.0 ∙ ap₂ (λ n l. Ok (record { nodes = n; levels = l })) (w.1.1.1.1 ∙ ap size u) (w.1.1.1.2 ∙ ap levels u)

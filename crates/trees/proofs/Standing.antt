@@ -14,11 +14,11 @@ use Rattle.theory.specs.Inner.Forests.{letters, letters_all}
 use Rattle.theory.specs.Size.{levels, deepest}
 use Rattle.theory.specs.Term.{Terms, node, none, more, count}
 use Rattle.theory.proofs.Terms.{conflict}
+use Rattle.std.specs.Prelude.{None}
 use Rattle.trees.specs.Inner.Decode.{Letter, call, symbol, unknown, firsts, rests, put, forest, first, Whole}
-use Rattle.trees.specs.Inner.Measured.{MeasuredWhole, noted, most}
-use Rattle.trees.specs.declared.tree.Extent.TheVariants.{Tree, Bad}
+use Rattle.trees.specs.Inner.Measured.{some_extent, MeasuredWhole, noted, most}
 use Rattle.trees.proofs.Codes.{single}
-use Rattle.trees.proofs.Extents.{levels_letters}
+use Rattle.trees.proofs.Extents.{levels_letters, same_extent}
 use Rattle.trees.proofs.Forest.{count_rests, put_letters}
 
 -- ---- the levels of some trees
@@ -62,23 +62,12 @@ unfolding noted
 noted_more table d v h = rw add-one (ap₂ ◌∷◌ (get_or-set_same table d v 0 h) (noted_same table (set table d v) d (λ i b. get_or-set_other table d i v 0 (omega arith))))
 
 -- the most of n entries, from the last on
-pub most_none : (table : List ℕ) (behind n : ℕ) → most n (noted table behind) ≡ max 0 (most n (noted table behind))
-most_none table behind n = omega arith
-
-pub most_more : (table : List ℕ) (all deep p left : ℕ) → 0 < left → left ≤ p → all ≡ max deep (most left (noted table p)) → all ≡ max (max deep (get_or table (p - 1) 0)) (most (left - 1) (noted table (p - 1)))
+pub most_next : (table : List ℕ) (from k deep x : ℕ) → deep ≡ most k (noted table (from + k)) → x ≡ max deep (get_or table (from + k) 0) → x ≡ most (k + 1) (noted table (from + (k + 1)))
 unfolding noted most
-most_more table all deep zero left h l e = absurd (omega arith)
-most_more table all deep (suc p) zero h l e = absurd (omega arith)
-most_more table all deep (suc p) (suc left) h l e =
-    let f : all ≡ max deep (max (get_or table p 0) (most left (noted table p))) = e in
-    let i : suc p - 1 ≡ p = omega arith in
-    let j : suc left - 1 ≡ left = omega arith in
-    rw (i, j) (omega (arith, f))
-
-pub most_all : (table : List ℕ) (all deep p left : ℕ) → left ≡ 0 → all ≡ max deep (most left (noted table p)) → deep ≡ all
-unfolding most
-most_all table all deep p zero z e = omega (arith, e)
-most_all table all deep p (suc left) z e = absurd (omega arith)
+most_next table from k deep x e q =
+    let i : from + (k + 1) ≡ suc (from + k) = omega arith in
+    let j : k + 1 ≡ suc k = omega arith in
+    rw (i, j) (omega (arith, e, q))
 
 -- ---- the trees behind a place
 -- w is the code of `behind` trees, one behind the other, and the table has the levels of each
@@ -140,8 +129,8 @@ module _ {A X : Type 0} (f : X → Letter A) where
             heights = noted_more table (behind - n) (deep + 1) room ∙ ap₂ ◌∷◌ lower others ∙ ap levels_of (sym t);
           }
 
-pub no_tree : {A X : Type 0} {f : X → Letter A} {w : List X} {at : ℕ} → (Whole f w → ⊥) → MeasuredWhole f w at Bad
-no_tree n = record { whole = λ e l x. conflict (cc); bad = λ x. n }
+pub no_tree : {A X : Type 0} {f : X → Letter A} {w : List X} {at : ℕ} → (Whole f w → ⊥) → MeasuredWhole f w at None
+no_tree n = record { whole = λ e l x. conflict (cc); none = λ x. n }
 
 -- ---- all letters are read
 module _ {A X : Type 0} {f : X → Letter A} {w : List X} {table : List ℕ} {behind : ℕ} (S : Standing f w table behind) where
@@ -160,11 +149,11 @@ module _ {A X : Type 0} {f : X → Letter A} {w : List X} {table : List ℕ} {be
       sym (ap (λ l. get_or l 0 0) (q ∙ ap levels_of (single F (S.many ∙ b))))
 
   -- what measuring answers
-  pub measured_standing : {at l : ℕ} → behind ≡ 1 → l ≡ get_or table 0 0 → MeasuredWhole f w at (Tree (at + length w) l)
+  pub measured_standing : {at l : ℕ} → behind ≡ 1 → l ≡ get_or table 0 0 → MeasuredWhole f w at (some_extent (at + length w) l)
   measured_standing {at} {l} b e = record {
-    whole = λ e' l' x. let u : at + length w ≡ e' = cc in let v : l ≡ l' = cc in (one_standing b, sym u, omega (arith, e, its_levels b));
-    bad = λ x. conflict (cc);
+    whole = λ e' l' x. let u = (same_extent x).0 in let v = (same_extent x).1 in (one_standing b, sym u, omega (arith, e, its_levels b));
+    none = λ x. conflict (cc);
   }
 
-  pub none_standing : {at : ℕ} → (behind ≡ 1 → ⊥) → MeasuredWhole f w at Bad
+  pub none_standing : {at : ℕ} → (behind ≡ 1 → ⊥) → MeasuredWhole f w at None
   none_standing n = no_tree (not_one n)

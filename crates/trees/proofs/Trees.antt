@@ -9,10 +9,10 @@ use Rattle.theory.specs.Term.{Term, Tree, bind}
 use Rattle.trees.specs.Code.{preorder, code}
 use Rattle.trees.specs.Inner.Decode.{forest, first, Over}
 use Rattle.trees.specs.Inner.Symbols.{symbol_of, trees, tree, IsTree}
-use Rattle.trees.specs.Inner.Measured.{WholeTree, MeasuredAll}
+use Rattle.trees.specs.Inner.Measured.{some_extent, WholeTree, MeasuredAll}
 use Rattle.trees.specs.Tree.{InputTree}
 use Rattle.trees.specs.declared.tree.Extent.{Extent}
-use Rattle.trees.specs.declared.tree.Extent.TheVariants as extent
+use Rattle.std.specs.Prelude.{Option, None}
 use Rattle.trees.proofs.Codes.{preorder_bind, reads_back, exactly}
 use Rattle.trees.proofs.Extents.{whole_size}
 use Rattle.trees.proofs.Letters.{faithful_symbols, over_tree, ranked_tree}
@@ -62,9 +62,9 @@ module _ {ins s : List ℕ} where
   input_unique I I' = sym (input_whole I).1 ∙ (input_whole I').1
 
 -- ---- what measuring all of s says
-module _ {ins s : List ℕ} {r : Extent} (M : MeasuredAll ins s r) where
-  pub measured_tree : {e l : ℕ} → r ≡ extent.Tree e l → (d : Tree) × (InputTree ins s d × (e ≡ size d) × (l ≡ levels d))
+module _ {ins s : List ℕ} {r : Option Extent} (M : MeasuredAll ins s r) where
+  pub measured_tree : {e l : ℕ} → r ≡ some_extent e l → (d : Tree) × (InputTree ins s d × (e ≡ size d) × (l ≡ levels d))
   measured_tree {e} {l} q = let w = M.whole e l q in (tree ins s, (whole_input w.0, w.1, w.2))
 
-  pub measured_none : r ≡ extent.Bad → (d : Tree) × InputTree ins s d → ⊥
-  measured_none q w = M.bad q (input_whole w.1).0
+  pub measured_none : r ≡ None → (d : Tree) × InputTree ins s d → ⊥
+  measured_none q w = M.none q (input_whole w.1).0

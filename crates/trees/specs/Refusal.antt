@@ -1,5 +1,5 @@
 -- How an entry point answers: the first of its checks that does not hold refuses, by that check's number in document 01's table or of 02.
-use Rattle.std.specs.Prelude.{ℕ, Bool, true, List, [], ◌⊎◌, ◌≡◌}
+use Rattle.std.specs.Prelude.{ℕ, Bool, true, List, [], ◌⊎◌, ◌≡◌, Result, Ok, Err}
 use Rattle.trees.specs.declared.refusal.Refusal.{Refusal}
 use Rattle.trees.specs.declared.refusal.Refusal.TheVariants.{ShortArea, BadAlphabets, BadTree, BadContents, BadBody, LongOutput, OverLimits, FullRegistry, BadRegistry, DeepOutput, BadOutput, ShortTarget, OtherNumber, OtherAlphabet, JoinOverLimits}
 
@@ -25,6 +25,11 @@ refusal_number JoinOverLimits = 17
 pub data Outcome (A : Type 0) : Type 0 where
   accepted : A → Outcome A
   refused : ℕ → Outcome A
+
+-- the answer of an entry point in these terms: for each case the values and numbers of document 01
+abbrev pub outcome_of : {A : Type 0} → Result A Refusal → Outcome A
+outcome_of (Ok a) = accepted a
+outcome_of (Err r) = refused (refusal_number r)
 
 -- checks in the order in which they are made: the number given where one does not hold, and what it asks
 pub data Checks : Type 1 where

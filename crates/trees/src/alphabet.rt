@@ -4,42 +4,27 @@ ghost use Rattle.trees.specs.Alphabets.{Ranks, Leaf, Alphabets, inputs, outputs}
 ghost use Rattle.trees.specs.Answers.{ReadsAlphabets};
 ghost use Rattle.trees.specs.Refusal.{Decides};
 
-use crate::bytes::wide;
 use crate::refusal::Refusal;
 
-// How many input and output symbols there are, or the refusal.
-#[derive(Drop)]
-pub enum AlphabetsRead {
-    Symbols(usize, usize),
-    Refused(Refusal),
+// How many input and output symbols there are.
+#[derive(Clone, Copy, Debug, PartialEq, Eq)]
+pub struct AlphabetSizes {
+    pub inputs: usize,
+    pub outputs: usize,
 }
 
 // Whether every rank is at most 4.
 fn ranks_low(rs: &[u8]) -> bool
     ensures { Decides ((k : ℕ) → k < length rs.now → get_or rs.now k 0 ≤ 4) result }
 {
-    let mut k = 0;
-    while k < rs.len() {
-        if rs[k] > 4 {
-            return false;
-        }
-        k += 1;
-    }
-    true
+    rs.iter().all(|rank| *rank <= 4)
 }
 
 // Whether some rank is 0.
 fn has_leaf(rs: &[u8]) -> bool
     ensures { Decides (Leaf rs.now) result }
 {
-    let mut k = 0;
-    while k < rs.len() {
-        if rs[k] == 0 {
-            return true;
-        }
-        k += 1;
-    }
-    false
+    rs.contains(&0)
 }
 
 // Whether these are the ranks of an alphabet of at most `most` symbols.
@@ -62,11 +47,11 @@ pub fn alphabets_right(stock: &[u8]) -> bool
     if stock.len() < 2 {
         return false;
     }
-    let p = wide(stock[0]);
+    let p = usize::from(stock[0]);
     if stock.len() < p + 2 {
         return false;
     }
-    if wide(stock[p + 1]) != stock.len() - (p + 2) {
+    if usize::from(stock[p + 1]) != stock.len() - (p + 2) {
         return false;
     }
     let ins = &stock[1..p + 1];
@@ -84,7 +69,7 @@ pub fn input_ranks(stock: &[u8]) -> &[u8]
     requires { Alphabets stock.now }
     ensures { result.now ≡ inputs stock.now }
 {
-    let p = wide(stock[0]);
+    let p = usize::from(stock[0]);
     &stock[1..p + 1]
 }
 
@@ -93,18 +78,21 @@ pub fn output_ranks(stock: &[u8]) -> &[u8]
     requires { Alphabets stock.now }
     ensures { result.now ≡ outputs stock.now }
 {
-    let p = wide(stock[0]);
+    let p = usize::from(stock[0]);
     &stock[p + 2..]
 }
 
 // Reads the file of two alphabets.
-pub fn read_alphabets(stock: &[u8]) -> AlphabetsRead
+pub fn read_alphabets(stock: &[u8]) -> Result<AlphabetSizes, Refusal>
     ensures { ReadsAlphabets stock.now result }
 {
     if !alphabets_right(stock) {
-        return AlphabetsRead::Refused(Refusal::BadAlphabets);
+        return Err(Refusal::BadAlphabets);
     }
     let ins = input_ranks(stock);
     let outs = output_ranks(stock);
-    AlphabetsRead::Symbols(ins.len(), outs.len())
+    Ok(AlphabetSizes {
+        inputs: ins.len(),
+        outputs: outs.len(),
+    })
 }

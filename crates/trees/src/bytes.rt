@@ -31,15 +31,5 @@ pub struct Span {
 pub fn same_bytes(a: &[u8], b: &[u8]) -> bool
     ensures { Decides (a.now ≡ b.now) result }
 {
-    if a.len() != b.len() {
-        return false;
-    }
-    let mut i = 0;
-    while i < a.len() {
-        if a[i] != b[i] {
-            return false;
-        }
-        i += 1;
-    }
-    true
+    a == b
 }

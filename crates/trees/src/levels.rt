@@ -2,20 +2,14 @@
 ghost use Rattle.std.specs.Prelude.{◌≤◌, ◌≡◌, length};
 ghost use Rattle.trees.specs.Inner.Measured.{noted, most};
 
-use crate::bytes::{larger, number};
-
 // The most levels of the n trees that were noted last, of `behind`.
 pub fn most_levels(levels: &[u16], behind: usize, n: usize) -> usize
     requires { (n ≤ behind) × (behind ≤ length levels.now) }
     ensures { result ≡ most n (noted levels.now behind) }
 {
     let mut deep = 0;
-    let mut at = behind;
-    let mut left = n;
-    while left > 0 {
-        at -= 1;
-        left -= 1;
-        deep = larger(deep, number(levels[at]));
+    for level in &levels[behind - n..behind] {
+        deep = deep.max(usize::from(*level));
     }
     deep
 }

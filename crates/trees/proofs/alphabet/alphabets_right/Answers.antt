@@ -9,31 +9,31 @@ pub returns-then-stock-lt2 : goal.returns-then-stock-lt2
 returns-then-stock-lt2 c = decides_no (λ A. omega (arith, file_length A))
 
 pub overflow_add-p : goal.overflow_add-p
-overflow_add-p c = omega (arith, c.wide-p.ensures, c.type_inv.stock 0)
+overflow_add-p c = omega (arith, c.from-p.ensures, c.type_inv.stock 0)
 
 pub returns-then-stock-p : goal.returns-then-stock-p
-returns-then-stock-p c = decides_no (λ A. omega (arith, file_length A, c.wide-p.ensures))
+returns-then-stock-p c = decides_no (λ A. omega (arith, file_length A, c.from-p.ensures))
 
-pub returns-then-wide-stock : goal.returns-then-wide-stock
-returns-then-wide-stock c =
-    let e = c.wide-p.ensures in
-    decides_no (λ A. omega (arith, file_length A, outputs_count A e, c.wide.ensures, c.if-wide-stock.true))
+pub returns-then-from-stock : goal.returns-then-from-stock
+returns-then-from-stock c =
+    let e = c.from-p.ensures in
+    decides_no (λ A. omega (arith, file_length A, outputs_count A e, c.from.ensures, c.if-from-stock.true))
 
 pub returns-then-not-ranks_right : goal.returns-then-not-ranks_right
 returns-then-not-ranks_right c =
-    let part = inputs_part c.args.stock.now c.wide-p.ensures in
+    let part = inputs_part c.args.stock.now c.from-p.ensures in
     decides_no (λ A. refuted c.ranks_right.ensures c.if-not-ranks_right.true-raw (rw part A.ins))
 
 pub returns-then-not-ranks_right-2 : goal.returns-then-not-ranks_right-2
 returns-then-not-ranks_right-2 c =
-    let part = outputs_part c.args.stock.now c.wide-p.ensures in
+    let part = outputs_part c.args.stock.now c.from-p.ensures in
     decides_no (λ A. refuted c.ranks_right-2.ensures c.if-not-ranks_right-2.true-raw (rw part A.outs))
 
 pub returns : goal.returns
 returns c =
     let s = c.args.stock.now in
-    let e = c.wide-p.ensures in
-    let count = sym c.wide.ensures ∙ c.if-wide-stock.false in
+    let e = c.from-p.ensures in
+    let count = sym c.from.ensures ∙ c.if-from-stock.false in
     let ins = held c.ranks_right.ensures c.if-not-ranks_right.false-raw in
     let outs = held c.ranks_right-2.ensures c.if-not-ranks_right-2.false-raw in
     decides_same (tested s e c.if-stock-p.false count ins outs) (λ A. rw (inputs_part s e) A.leaf) c.has_leaf.ensures

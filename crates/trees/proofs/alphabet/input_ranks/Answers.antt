@@ -7,10 +7,10 @@ pub bounds-stock-0 : goal.bounds-stock-0
 bounds-stock-0 c = omega (arith, file_length c.requires)
 
 pub overflow_add-result : goal.overflow_add-result
-overflow_add-result c = omega (arith, c.wide-p.ensures, file_length c.requires)
+overflow_add-result c = omega (arith, c.from-p.ensures, file_length c.requires)
 
 pub slice_bounds-result-end : goal.slice_bounds-result-end
-slice_bounds-result-end c = omega (arith, c.wide-p.ensures, file_length c.requires)
+slice_bounds-result-end c = omega (arith, c.from-p.ensures, file_length c.requires)
 
 pub returns : goal.returns
-returns c = inputs_part c.args.stock.now c.wide-p.ensures
+returns c = inputs_part c.args.stock.now c.from-p.ensures

@@ -1,26 +1,22 @@
--- `most_levels` meets its contract. The invariant: the most of all is the most of those that were looked at and of the others. Assumes nothing.
+-- `most_levels` meets its contract. The invariant: the largest of those passed. Assumes nothing.
+use Prim.Native.Nat.{◌+◌, ◌-◌, max}
 use native.Mathlib.Omega.{arith}
-use borrow.Author.Rules.{rules}
-use Rattle.trees.proofs.Standing.{most_none, most_more, most_all}
+use mathlib.Core.Path.{◌≡◌, ◌∙◌, ap, refl}
+use lib.ListN.{get_or, take, drop}
+use Rattle.std.proofs.lemmas.Grind.{common_steps}
+use Rattle.trees.specs.Inner.Measured.{most}
+use Rattle.trees.proofs.Standing.{most_next}
+use Rattle.trees.proofs.Numbers.{max_is}
 use Rattle.trees.proofs.levels.most_levels.Goals as goal
 
-pub loop-left-preserved : goal.loop-left-preserved
-loop-left-preserved c =
-    let l = c.loop-left in
+pub loop-level-init : goal.loop-level-init
+unfolding most
+loop-level-init c = refl
+
+pub loop-level-preserved : goal.loop-level-preserved
+loop-level-preserved c =
+    let l = c.loop-level in
+    let from = c.args.behind - c.args.n in
     let t = c.args.levels.now in
-    (omega (arith, l.invariant.0), omega (arith, l.invariant.1), omega (arith, most_more t _ l.deep l.at l.left (search rules) l.invariant.0 l.invariant.2, c.larger-deep.ensures, c.number.ensures))
-
-pub loop-left-init : goal.loop-left-init
-loop-left-init c = (search rules, search rules, most_none _ _ _)
-
-pub overflow_sub-at : goal.overflow_sub-at
-overflow_sub-at c = omega (arith, c.loop-left.invariant.0)
-
-pub offset_bounds-levels-at : goal.offset_bounds-levels-at
-offset_bounds-levels-at c = omega (arith, c.loop-left.invariant.1, c.ranges, c.well_formed)
-
-pub bounds-levels-at : goal.bounds-levels-at
-bounds-levels-at c = omega (arith, c.loop-left.invariant.0, c.loop-left.invariant.1)
-
-pub returns : goal.returns
-returns c = most_all _ _ _ _ _ (omega arith) c.loop-left.invariant.2
+    let here : get_or (take (c.args.behind - from) (drop from t)) l.level-index 0 ≡ get_or t (from + l.level-index) 0 = grind (arith, common_steps) in
+    most_next t from l.level-index l.deep c.max-deep.result l.invariant (c.max-deep.ensures ∙ max_is _ _ ∙ ap (max l.deep) (c.from.ensures ∙ here))

@@ -13,8 +13,5 @@ bytes_left s at = length s - at
 abbrev pub decreases-measure : goal.decreases-measure
 decreases-measure l = bytes_left l.s.now l.at
 
-abbrev pub invariant-loop-left : goal.invariant-loop-left
-invariant-loop-left l = Measuring (symbol_of {A = ⊥} l.ranks) l.s l.at l.room l.left l.p l.deep
-
-abbrev pub decreases-loop-left : goal.decreases-loop-left
-decreases-loop-left l = l.left
+abbrev pub invariant-loop : goal.invariant-loop
+invariant-loop l = Measuring (symbol_of {A = ⊥} l.ranks) l.s l.at l.room (l.end - l.counter) l.end-2 l.levels

@@ -6,11 +6,11 @@ use Rattle.trees.proofs.tree.measure_all.Goals as goal
 pub returns-then-s-gt4096 : goal.returns-then-s-gt4096
 returns-then-s-gt4096 c = too_long c.if-s-gt4096.true
 
-pub returns-then-e-s : goal.returns-then-e-s
-returns-then-e-s c = not_all c.measure.ensures c.in-Tree.is (λ x. omega (arith, x, c.if-e-s.true))
+pub returns-in_err-tree : goal.returns-in_err-tree
+returns-in_err-tree c = rw c.from_residual.ensures (no_tree c.measure.ensures c.in_err-tree.was)
 
-pub returns-else-e-s : goal.returns-else-e-s
-returns-else-e-s c = all_measured c.measure.ensures c.in-Tree.is c.if-e-s.false c.if-s-gt4096.false
+pub returns-then-tree-s : goal.returns-then-tree-s
+returns-then-tree-s c = not_all c.measure.ensures c.in_ok-tree.was (λ x. omega (arith, x, c.if-tree-s.true))
 
-pub returns-in-Bad : goal.returns-in-Bad
-returns-in-Bad c = no_tree c.measure.ensures c.in-Bad.is
+pub returns : goal.returns
+returns c = all_measured c.measure.ensures c.in_ok-tree.was c.if-tree-s.false c.if-s-gt4096.false
