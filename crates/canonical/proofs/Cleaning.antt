@@ -1,4 +1,7 @@
 -- Cleaning from its ends: the normal form of the parts of a file, and of a file.
+use Rattle.std.specs.Prelude.{Err, None, Ok, Option, Result, Some}
+use Rattle.trees.specs.declared.refusal.Refusal.{Refusal}
+use Rattle.forms.specs.declared.write.Form.{Form}
 use Prim.Native.Nat.{ℕ, ◌≤◌}
 use mathlib.Core.List.{List}
 use mathlib.Core.Path.{◌≡◌}
@@ -13,9 +16,6 @@ use Rattle.transducer.specs.Inner.Machine.{Machine}
 use Rattle.transducer.proofs.Opening.{Opened}
 use Rattle.forms.specs.Inner.Writing.{WritesForm, WritesFound}
 use Rattle.earliest.specs.Inner.Loaded.{EarliestOf, FormOfParts, FormsFile}
-use Rattle.forms.specs.declared.write.FormSize.{FormSize}
-use Rattle.forms.specs.declared.write.FormSize.TheVariants.{States, Over}
-use Rattle.forms.specs.declared.write.Formed.{Formed}
 use Rattle.forms.proofs.Filing.{packed_encoded}
 use Rattle.earliest.proofs.Forming.{found_file, file_made}
 use Rattle.forms.proofs.Files.{encoded_wf}
@@ -23,9 +23,9 @@ use Rattle.canonical.specs.Answers.{NormalFile, Cleans}
 use Rattle.canonical.specs.Inner.Normal.{Reducible, Reduces, NormalOf, NormalBy}
 
 -- ---- of the parts of a file, by their earliest form
-module _ {stock counts bytes from early : List ℕ} {n : ℕ} {r : FormSize} (X : Machine stock n counts bytes) (B : FormOfParts stock n counts bytes from early r) where
+module _ {stock counts bytes from early : List ℕ} {n : ℕ} {r : Option ℕ} (X : Machine stock n counts bytes) (B : FormOfParts stock n counts bytes from early r) where
   -- it is over the limits
-  pub normal_over : {starts out : List ℕ} → r ≡ Over → NormalBy stock n counts bytes starts out Over
+  pub normal_over : {starts out : List ℕ} → r ≡ None → NormalBy stock n counts bytes starts out None
   normal_over e = record {
     over = λ z. B.over e;
     within = λ k z. conflict (cc);
@@ -34,7 +34,7 @@ module _ {stock counts bytes from early : List ℕ} {n : ℕ} {r : FormSize} (X 
     normal = λ k z. conflict (cc);
   }
 
-  module _ {k : ℕ} (e : r ≡ States k) where
+  module _ {k : ℕ} (e : r ≡ Some k) where
     pub normal_reducible : {ins outs : List ℕ} → ins ≡ inputs stock → outs ≡ outputs stock → Reducible ins outs from early k
     normal_reducible i o = rw (i, o) (record { layout = B.layout k e; packed = B.packed k e })
 
@@ -46,7 +46,7 @@ module _ {stock counts bytes from early : List ℕ} {n : ℕ} {r : FormSize} (X 
         (k, (w.0, (w.1, record { alphabets = X.alphabets; machine = X.machine; machine_coded = X.encodes; form = w.2; trimmed = trimmed_form (identical_sym (w.4 l)) (B.trimmed k e X.machine X.encodes l); form_coded = w.3 })))
 
     -- its quotient by the equivalence of states is the normal form
-    normal_here : {starts out : List ℕ} {c : ℕ} → Reduces (inputs stock) (outputs stock) from early k starts out c → NormalBy stock n counts bytes starts out (States c)
+    normal_here : {starts out : List ℕ} {c : ℕ} → Reduces (inputs stock) (outputs stock) from early k starts out c → NormalBy stock n counts bytes starts out (Some c)
     normal_here {c = c} R = record {
       over = λ z. conflict (cc);
       within = λ c' z. early_file;
@@ -60,13 +60,13 @@ module _ {stock counts bytes from early : List ℕ} {n : ℕ} {r : FormSize} (X 
           rw (← h) (record { equivalent = equivalent_trans (trimmed_equivalent W T) N.equivalent; canonical = N.canonical; numbered = N.numbered });
     }
 
-    pub normal_states : {ins outs starts out : List ℕ} {c : ℕ} → ins ≡ inputs stock → outs ≡ outputs stock → Reduces ins outs from early k starts out c → NormalBy stock n counts bytes starts out (States c)
+    pub normal_states : {ins outs starts out : List ℕ} {c : ℕ} → ins ≡ inputs stock → outs ≡ outputs stock → Reduces ins outs from early k starts out c → NormalBy stock n counts bytes starts out (Some c)
     normal_states i o R = normal_here (rw (i, o) at R)
 
 -- ---- the file of the normal form
-module _ {stock counts bytes starts out : List ℕ} {n : ℕ} {found : FormSize} (B : NormalBy stock n counts bytes starts out found) (X : Machine stock n counts bytes) where
+module _ {stock counts bytes starts out : List ℕ} {n : ℕ} {found : Option ℕ} (B : NormalBy stock n counts bytes starts out found) (X : Machine stock n counts bytes) where
   -- what was written is the file of the normal form
-  normal_of : {k : ℕ} → found ≡ States k → {before after : List ℕ} {size : ℕ} (W : WritesForm stock starts out k before after size) → NormalOf stock n counts bytes k W.counts W.marks
+  normal_of : {k : ℕ} → found ≡ Some k → {before after : List ℕ} {size : ℕ} (W : WritesForm stock starts out k before after size) → NormalOf stock n counts bytes k W.counts W.marks
   normal_of {k} e W = record {
     alphabets = X.alphabets;
     machine = X.machine;
@@ -77,7 +77,7 @@ module _ {stock counts bytes starts out : List ℕ} {n : ℕ} {found : FormSize}
   }
 
   -- the contract of `clean_file`
-  pub clean_form : {before after : List ℕ} {r : Formed} → WritesFound stock found starts out before after r → FormsFile (NormalOf stock n counts bytes) stock n counts bytes before after r
+  pub clean_form : {before after : List ℕ} {r : Result Form Refusal} → WritesFound stock found starts out before after r → FormsFile (NormalOf stock n counts bytes) stock n counts bytes before after r
   clean_form W = found_file (NormalOf stock n counts bytes) found W B.over (λ k e size f. (normal_of e f, B.within k e))
 
 -- ---- of a file: what is answered of its parts is answered of it
@@ -86,5 +86,5 @@ module _ {stock sheet ins counts bytes : List ℕ} {n : ℕ} (O : Opened stock s
   normal_file K = record { alphabets = K.alphabets; states = n; machine = K.machine; sheet = record { counts = counts; bytes = bytes; coded = O.coded; encodes = K.machine_coded }; form = K.form; normal = K.normal; encodes = K.form_coded }
 
   -- the contract of `clean`
-  pub file_cleaned : {before after : List ℕ} → longest ≤ length before → (r : Formed) → FormsFile (NormalOf stock n counts bytes) stock n counts bytes before after r → Cleans stock sheet before after r
+  pub file_cleaned : {before after : List ℕ} → longest ≤ length before → (r : Result Form Refusal) → FormsFile (NormalOf stock n counts bytes) stock n counts bytes before after r → Cleans stock sheet before after r
   file_cleaned = file_made O (λ k counts' bytes' K. normal_file K)

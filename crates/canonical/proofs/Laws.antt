@@ -1,4 +1,8 @@
 -- What cleaning promises of two files and of its own results: equal clean files exactly for transducers that are alike; a clean file is accepted again, translates as its transducer, and cleans to itself; the contract determines the answer and the area; a clean file is the trimmed one with equal states made one.
+use Rattle.std.specs.Prelude.{Option, Result}
+use Rattle.trees.specs.declared.refusal.Refusal.{Refusal}
+use Rattle.forms.specs.declared.write.Form.{Form}
+use Rattle.trees.specs.Refusal.{outcome_of, accepted, done, Holds}
 use Prim.Native.Nat.{ℕ, ◌≤◌}
 use native.Mathlib.Omega.{arith}
 use mathlib.Core.List.{List}
@@ -17,15 +21,13 @@ use Rattle.theory.proofs.Identity.{identical_sym, identical_equivalent, identica
 use Rattle.theory.proofs.NormalForms.{normal_unique, classes_normal, quotient_normal}
 use Rattle.theory.proofs.Trimming.{trimmed_equivalent, trimmed_wf, trimmed_earliest, trimmed_numbered}
 use Rattle.trees.specs.Alphabets.{Leaf, Alphabets, inputs, outputs, alphabet_check}
-use Rattle.trees.specs.Refusal.{accepted, done, Holds}
 use Rattle.formats.specs.Sheet.{file, Sheet, sheet_check}
 use Rattle.trees.proofs.Judging.{accepted_holds}
 use Rattle.formats.proofs.Laws.{written_take}
 use Rattle.formats.proofs.Sheets.{sheet_counted, encodes_counted, file_short}
 use Rattle.forms.specs.Alphabet.{alphabet}
 use Rattle.earliest.specs.Answers.{EarliestFile, form_check}
-use Rattle.forms.specs.Answers.{form_of}
-use Rattle.forms.specs.declared.write.Formed.{Formed}
+
 use Rattle.forms.proofs.Files.{encoded_wf, same_file, parts_same, file_same}
 use Rattle.forms.proofs.Leaves.{identical_leaf, equiv_leaf, trimmed_leaf}
 use Rattle.earliest.proofs.Laws.{made_one}
@@ -80,7 +82,7 @@ pub record Cleaned (stock s after : List ℕ) (v : ℕ × ℕ × ℕ) : Type 0 w
   pub normal : NormalFile stock s v.0 counts bytes
   pub begins : take v.2 after ≡ file v.0 counts bytes
 
-pub cleaned : {stock s before after : List ℕ} (r : Formed) {v : ℕ × ℕ × ℕ} → Cleans stock s before after r → form_of r ≡ accepted v → Cleaned stock s after v
+pub cleaned : {stock s before after : List ℕ} (r : Result Form Refusal) {v : ℕ × ℕ × ℕ} → Cleans stock s before after r → outcome_of r ≡ accepted v → Cleaned stock s after v
 unfolding Holds
 cleaned {stock} {s} {before} {after} r {v} J e =
     let w = accepted_holds (rw e at J) in
@@ -108,7 +110,7 @@ sheets_alike F F' = (
 )
 
 -- For two files accepted for cleaning under one stock: the clean files are equal exactly if the two sew alike.
-pub cleaned_exact : {stock s s' before after before' after' : List ℕ} (r r' : Formed) {v v' : ℕ × ℕ × ℕ} → Cleans stock s before after r → form_of r ≡ accepted v → Cleans stock s' before' after' r' → form_of r' ≡ accepted v' → (take v.2 after ≡ take v'.2 after') ↔ SewAlike stock s s'
+pub cleaned_exact : {stock s s' before after before' after' : List ℕ} (r r' : Result Form Refusal) {v v' : ℕ × ℕ × ℕ} → Cleans stock s before after r → outcome_of r ≡ accepted v → Cleans stock s' before' after' r' → outcome_of r' ≡ accepted v' → (take v.2 after ≡ take v'.2 after') ↔ SewAlike stock s s'
 cleaned_exact r r' J e J' e' =
     let C = cleaned r J e in
     let C' = cleaned r' J' e' in
@@ -124,7 +126,7 @@ normal_one k k' counts counts' bytes bytes' F F' =
     parts_same l F.encodes F'.encodes ((normal_unique (F.normal l) (F'.normal l)).0 (same_equivalent F.alphabets.ins.few l F.sheet F'.sheet))
 
 -- The contract of cleaning determines the answer and the area.
-pub cleans_one : {stock s before after after' : List ℕ} (r r' : Formed) → Cleans stock s before after r → Cleans stock s before after' r' → (after ≡ after') × (form_of r ≡ form_of r')
+pub cleans_one : {stock s before after after' : List ℕ} (r r' : Result Form Refusal) → Cleans stock s before after r → Cleans stock s before after' r' → (after ≡ after') × (outcome_of r ≡ outcome_of r')
 cleans_one {stock} {s} = made_one {Form = NormalFile stock s} normal_one
 
 -- ---- the clean sheet in document 01's words
@@ -169,6 +171,6 @@ module _ {stock s : List ℕ} {k : ℕ} {counts bytes : List ℕ} where
       }
 
 -- What is written is the file of the trimmed sheet with equal passes made one, and numbered as first met.
-pub cleaned_merged : {stock s before after : List ℕ} (r : Formed) {v : ℕ × ℕ × ℕ} → Cleans stock s before after r → form_of r ≡ accepted v → {counts bytes : List ℕ} → NormalFile stock s v.0 counts bytes → MergedFile stock s v.0 counts bytes
+pub cleaned_merged : {stock s before after : List ℕ} (r : Result Form Refusal) {v : ℕ × ℕ × ℕ} → Cleans stock s before after r → outcome_of r ≡ accepted v → {counts bytes : List ℕ} → NormalFile stock s v.0 counts bytes → MergedFile stock s v.0 counts bytes
 unfolding Holds
 cleaned_merged r J e F = let w = accepted_holds (rw e at J) in normal_merged w.0.1.1.1.1.0.1.1.1 F

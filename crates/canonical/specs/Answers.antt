@@ -1,5 +1,7 @@
 -- What cleaning answers, and when two transducers are alike.
-use Rattle.std.specs.Prelude.{ℕ, ◌<◌, List, ◌↔◌, ◌≡◌}
+use Rattle.std.specs.Prelude.{Option, Result, ℕ, ◌<◌, List, ◌↔◌, ◌≡◌}
+use Rattle.trees.specs.declared.refusal.Refusal.{Refusal}
+use Rattle.forms.specs.declared.write.Form.{Form}
 use Rattle.theory.specs.Equivalent.{EquivStates}
 use Rattle.theory.specs.NormalForm.{NormalForm, Identical}
 use Rattle.theory.specs.Numbered.{Numbered}
@@ -12,7 +14,6 @@ use Rattle.trees.specs.Code.{Ranked}
 use Rattle.formats.specs.Sheet.{Encodes, Sheet}
 use Rattle.forms.specs.Alphabet.{alphabet}
 use Rattle.earliest.specs.Answers.{MakesForm}
-use Rattle.forms.specs.declared.write.Formed.{Formed}
 
 -- two transducers over one input alphabet are equivalent (01: sew alike): they give equal output trees on every input tree, of any size
 pub record Alike (ins : List ℕ) (M M' : Transducer ℕ) : Type 0 where
@@ -60,5 +61,5 @@ pub record MergedFile (stock s : List ℕ) (k : ℕ) (counts bytes : List ℕ) :
   pub encodes : Encodes (inputs stock) (outputs stock) k counts bytes form
 
 -- ---- cleaning: the file of the normal form
-abbrev pub Cleans : List ℕ → List ℕ → List ℕ → List ℕ → Formed → Type 0
+abbrev pub Cleans : List ℕ → List ℕ → List ℕ → List ℕ → Result Form Refusal → Type 0
 Cleans stock s before after r = MakesForm (NormalFile stock s) stock s before after r

@@ -8,8 +8,8 @@ ghost use Rattle.canonical.specs.Inner.Normal.{Reducible, Reduces, NormalOf, Nor
 
 use crate::quotient::merge;
 use earliest::earliest::form_of_parts;
-use formats::file::{FileRead, counts_end, read_transducer};
-use forms::write::{FormSize, Formed, write_found};
+use formats::file::{counts_end, read_transducer};
+use forms::write::{write_found, Form};
 use merging::refining::settle_classes;
 use trees::alphabet::{input_ranks, output_ranks};
 use trees::refusal::Refusal;
@@ -71,14 +71,14 @@ pub(crate) fn normal_by(
     marks: &[u8],
     starts: &mut [u16],
     out: &mut [u8],
-) -> FormSize
+) -> Option<usize>
     requires { Machine stock.now n counts.now marks.now × (2050 ≤ length starts.old) × (length out.old ≡ 16384) }
     ensures { NormalBy stock.now n counts.now marks.now starts.new out.new result }
 {
     let mut from = [0u16; 2050];
     let mut early = [0u8; 16384];
     match form_of_parts(stock, n, counts, marks, &mut from, &mut early) {
-        FormSize::States(k) => FormSize::States(reduce(
+        Some(k) => Some(reduce(
             input_ranks(stock),
             output_ranks(stock),
             &from,
@@ -87,12 +87,12 @@ pub(crate) fn normal_by(
             starts,
             out,
         )),
-        FormSize::Over => FormSize::Over,
+        None => None,
     }
 }
 
 // The file of the normal form of the transducer whose n, counts and marks these are.
-fn clean_file(stock: &[u8], n: usize, counts: &[u8], marks: &[u8], area: &mut [u8]) -> Formed
+fn clean_file(stock: &[u8], n: usize, counts: &[u8], marks: &[u8], area: &mut [u8]) -> Result<Form, Refusal>
     requires { Machine stock.now n counts.now marks.now × (longest ≤ length area.old) }
     ensures { FormsFile (NormalOf stock.now n counts.now marks.now) stock.now n counts.now marks.now area.old area.new result }
 {
@@ -103,17 +103,17 @@ fn clean_file(stock: &[u8], n: usize, counts: &[u8], marks: &[u8], area: &mut [u
 }
 
 // Writes the file of the normal form of the transducer of the file `sheet` (01: the clean sheet).
-pub fn clean(stock: &[u8], sheet: &[u8], area: &mut [u8]) -> Formed
+pub fn clean(stock: &[u8], sheet: &[u8], area: &mut [u8]) -> Result<Form, Refusal>
     ensures { Cleans stock.now sheet.now area.old area.new result }
 {
     if area.len() < 20483 {
-        return Formed::Refused(Refusal::ShortArea);
+        return Err(Refusal::ShortArea);
     }
     match read_transducer(stock, sheet) {
-        FileRead::States(n) => {
+        Ok(n) => {
             let from = counts_end(stock, n);
             clean_file(stock, n, &sheet[1..from], &sheet[from..], area)
         }
-        FileRead::Refused(r) => Formed::Refused(r),
+        Err(r) => Err(r),
     }
 }

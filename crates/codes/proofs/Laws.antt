@@ -1,5 +1,7 @@
 -- What the promise of the codes comes to.
 -- Assumes nothing.
+use Rattle.std.specs.Prelude.{Option, Result}
+use Rattle.trees.specs.declared.refusal.Refusal.{Refusal}
 use Prim.Native.Nat.{ℕ, zero, suc, ◌+◌, ◌*◌, ◌≤◌, ◌<◌}
 use native.Mathlib.Nat.{div-add-mod', le_of_suc-le-suc, eq-or-lt_of_le}
 use native.Mathlib.Omega.{arith}
@@ -13,7 +15,6 @@ use Rattle.trees.proofs.Judging.{must_accept}
 use Rattle.codes.specs.Codes.{symbol_code, codes}
 use Rattle.codes.specs.Answers.{codes_area, WritesCodes}
 use Rattle.codes.specs.Inner.Table.{symbol_from, symbol_with}
-use Rattle.codes.specs.declared.symbol.CodesWritten.{CodesWritten}
 use Rattle.codes.proofs.Table.{search_ends, search_goes}
 use Rattle.codes.proofs.Writing.{codes_long}
 
@@ -51,7 +52,7 @@ codes_at (suc n) k h = ⊎_elim last (λ l. before l (codes_at n k l)) (eq-or-lt
         rw (drop-append-le (2 * k) (codes n) (symbol_code n) d, take-append-le 2 (drop (2 * k) (codes n)) (symbol_code n) t) e
 
 -- in an area that is long enough, the code of each of the 64 symbols stands from twice its number on
-pub written_at : (area area' : List ℕ) (r : CodesWritten) → WritesCodes area area' r → codes_area ≤ length area → (k : ℕ) → k < 64 → take 2 (drop (2 * k) area') ≡ symbol_code k
+pub written_at : (area area' : List ℕ) (r : Result (Unit {0}) Refusal) → WritesCodes area area' r → codes_area ≤ length area → (k : ℕ) → k < 64 → take 2 (drop (2 * k) area') ≡ symbol_code k
 unfolding Holds
 written_at area area' r W h k l =
     let w : area' ≡ sets area 0 (codes 64) = (must_accept (h, tt) W).1.1 in

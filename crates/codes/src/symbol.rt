@@ -18,13 +18,6 @@ const CODES: [[u8; 2]; 64] = [
     *b"H5", *b"H6", *b"H7", *b"H8",
 ];
 
-// All codes were written, or the refusal of the area.
-#[derive(Drop)]
-pub enum CodesWritten {
-    All,
-    Refused(Refusal),
-}
-
 // The table, which passes a test of every entry.
 fn table() -> [[u8; 2]; 64]
     ensures { T (coded 0 64 result) }
@@ -58,11 +51,11 @@ pub fn symbol_of(letter: u8, digit: u8) -> u8
 }
 
 // Writes the codes of all 64 output symbols to the start of the area, two bytes each.
-pub fn write_codes(area: &mut [u8]) -> CodesWritten
+pub fn write_codes(area: &mut [u8]) -> Result<(), Refusal>
     ensures { WritesCodes area.old area.new result }
 {
     if area.len() < 128 {
-        return CodesWritten::Refused(Refusal::ShortArea);
+        return Err(Refusal::ShortArea);
     }
     let mut k = 0;
     while k < 64 {
@@ -70,5 +63,5 @@ pub fn write_codes(area: &mut [u8]) -> CodesWritten
         copy_at(&code, area, 2 * k);
         k += 1;
     }
-    CodesWritten::All
+    Ok(())
 }

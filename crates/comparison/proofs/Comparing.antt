@@ -1,5 +1,8 @@
 -- The comparison from its ends: of two earliest forms, of the parts of two files, and of two files.
 -- Assumes nothing.
+use Rattle.std.specs.Prelude.{Err, None, Ok, Option, Result, Some}
+use Rattle.witness.specs.declared.witness.Shown.{Shown}
+use Rattle.trees.specs.Refusal.{outcome_of, refusal_number, Outcome, accepted, refused, Checks, done, check, IsJudged, Holds, Judged}
 use Prim.Native.Nat.{ℕ, ◌-◌, ◌≤◌, ◌<◌}
 use native.Mathlib.Nat.{sub-zero}
 use native.Mathlib.Omega.{arith}
@@ -18,10 +21,7 @@ use Rattle.theory.proofs.Terms.{conflict}
 use Rattle.theory.proofs.Trimming.{trimmed_equivalent, trimmed_earliest, trimmed_form}
 use Rattle.trees.specs.Alphabets.{Leaf, inputs, outputs, alphabet_check}
 use Rattle.formats.specs.Answers.{ReadsFile, HandsMarks}
-use Rattle.trees.specs.Refusal.{refusal_number, Outcome, accepted, refused, Checks, done, check, IsJudged, Holds, Judged}
 use Rattle.formats.specs.Sheet.{Encodes, Sheet, sheet_check}
-use Rattle.formats.specs.declared.file.FileRead.{FileRead}
-use Rattle.formats.specs.declared.file.FileRead.TheVariants as reading
 use Rattle.trees.specs.declared.refusal.Refusal.{Refusal}
 use Rattle.trees.specs.declared.refusal.Refusal.TheVariants.{OverLimits}
 use Rattle.trees.proofs.Judging.{refuse, pass, accept, accepted_holds, refused_fails}
@@ -34,19 +34,15 @@ use Rattle.forms.specs.Inner.Tables.{machine}
 use Rattle.forms.proofs.Files.{machine_wf, encoded_wf}
 use Rattle.earliest.specs.Answers.{form_check}
 use Rattle.earliest.specs.Inner.Loaded.{EarliestOf, FormOfParts}
-use Rattle.forms.specs.declared.write.FormSize.{FormSize}
-use Rattle.forms.specs.declared.write.FormSize.TheVariants.{States, Over}
 use Rattle.forms.proofs.Filing.{packed_encoded}
 use Rattle.earliest.proofs.Forming.{from_parts, to_parts}
 use Rattle.canonical.specs.Answers.{SewAlike}
 use Rattle.canonical.proofs.Alike.{equivalent_alike, ranked_allowed}
 use Rattle.witness.specs.Difference.{tree_area, address_area, Difference}
 use Rattle.witness.specs.Inner.Forms.{Comparable, Shows}
-use Rattle.comparison.specs.Answers.{Differ, Found, Compares, compared_as, pair_check, HandsShorter}
+use Rattle.comparison.specs.Answers.{Differ, Found, Compares, pair_check, HandsShorter}
 use Rattle.pairs.specs.Inner.Pairs.{sides, Forms, Searches}
 use Rattle.comparison.specs.Inner.Verdicts.{ComparesForms, FoundParts, ComparesParts, EarlyForm, ComparesWith}
-use Rattle.comparison.specs.declared.compare.Comparison.{Comparison}
-use Rattle.comparison.specs.declared.compare.Comparison.TheVariants as compared
 use Rattle.pairs.specs.declared.pairs.Verdict.{Verdict}
 use Rattle.pairs.specs.declared.pairs.Verdict.TheVariants as verdict
 
@@ -79,16 +75,16 @@ module _ {ins outs starts bytes starts' bytes' : List ℕ} {k k' : ℕ} (C : Com
   }
 
 -- ---- of the parts of two files, by their earliest forms
-module _ {stock counts bytes starts out : List ℕ} {n : ℕ} {r : FormSize} (X : Machine stock n counts bytes) (B : FormOfParts stock n counts bytes starts out r) where
+module _ {stock counts bytes starts out : List ℕ} {n : ℕ} {r : Option ℕ} (X : Machine stock n counts bytes) (B : FormOfParts stock n counts bytes starts out r) where
   -- the earliest form is over the limits
-  early_none : r ≡ Over → (k : ℕ) × ((cs : List ℕ) × ((bs : List ℕ) × EarliestOf stock n counts bytes k cs bs)) → ⊥
+  early_none : r ≡ None → (k : ℕ) × ((cs : List ℕ) × ((bs : List ℕ) × EarliestOf stock n counts bytes k cs bs)) → ⊥
   early_none e w = B.over e w.0 w.1.0 w.1.1.0 w.1.1.1
 
   -- and it is the first of the two
-  pub parts_over : {tree address counts' bytes' : List ℕ} {n' : ℕ} → r ≡ Over → ComparesParts stock n counts bytes n' counts' bytes' tree tree address address (compared.Refused OverLimits)
+  pub parts_over : {tree address counts' bytes' : List ℕ} {n' : ℕ} → r ≡ None → ComparesParts stock n counts bytes n' counts' bytes' tree tree address address (Err OverLimits)
   parts_over e = refuse (early_none e) (refl, refl)
 
-  module _ {k : ℕ} (e : r ≡ States k) where
+  module _ {k : ℕ} (e : r ≡ Some k) where
     -- the earliest form as a file
     early_some : (k' : ℕ) × ((cs : List ℕ) × ((bs : List ℕ) × EarliestOf stock n counts bytes k' cs bs))
     early_some =
@@ -100,20 +96,20 @@ module _ {stock counts bytes starts out : List ℕ} {n : ℕ} {r : FormSize} (X 
     early_form = record { states = n; counts = counts; bytes = bytes; machine = X; earliest = rw e at B }
 
     -- what is answered of the form is answered of the parts
-    pub parts_with : {n' : ℕ} {counts' bytes' tree tree' address address' : List ℕ} (x : Comparison) → ComparesWith stock starts out k n' counts' bytes' tree tree' address address' x → ComparesParts stock n counts bytes n' counts' bytes' tree tree' address address' x
+    pub parts_with : {n' : ℕ} {counts' bytes' tree tree' address address' : List ℕ} (x : Result (Option Shown) Refusal) → ComparesWith stock starts out k n' counts' bytes' tree tree' address address' x → ComparesParts stock n counts bytes n' counts' bytes' tree tree' address address' x
     parts_with x W = W n counts bytes X (rw e at B)
 
     -- the transducers with these parts are equivalent to it
     early_same : {M : Transducer ℕ} → Encodes (inputs stock) (outputs stock) n counts bytes M → (l : Leaf (inputs stock)) → Equivalent (alphabet (inputs stock) l) M (machine (inputs stock) (outputs stock) starts out k)
     early_same {M} E l = trimmed_equivalent (encoded_wf X.alphabets.ins.few l E) (B.trimmed k e M E l)
 
-module _ {stock counts bytes starts out counts' bytes' starts' out' : List ℕ} {n n' : ℕ} {r r' : FormSize} (X : Machine stock n counts bytes) (B : FormOfParts stock n counts bytes starts out r) (X' : Machine stock n' counts' bytes') (B' : FormOfParts stock n' counts' bytes' starts' out' r') where
-  module _ {k : ℕ} (e : r ≡ States k) where
+module _ {stock counts bytes starts out counts' bytes' starts' out' : List ℕ} {n n' : ℕ} {r r' : Option ℕ} (X : Machine stock n counts bytes) (B : FormOfParts stock n counts bytes starts out r) (X' : Machine stock n' counts' bytes') (B' : FormOfParts stock n' counts' bytes' starts' out' r') where
+  module _ {k : ℕ} (e : r ≡ Some k) where
     -- the second is over the limits
-    pub parts_second_over : {tree address : List ℕ} → r' ≡ Over → ComparesParts stock n counts bytes n' counts' bytes' tree tree address address (compared.Refused OverLimits)
+    pub parts_second_over : {tree address : List ℕ} → r' ≡ None → ComparesParts stock n counts bytes n' counts' bytes' tree tree address address (Err OverLimits)
     parts_second_over e' = pass (early_some X B e) (refuse (early_none X' B' e') (refl, refl))
 
-    module _ {k' : ℕ} (e' : r' ≡ States k') where
+    module _ {k' : ℕ} (e' : r' ≡ Some k') where
       -- neither is, and the two forms can be compared
       parts_comparable_here : Comparable (inputs stock) (outputs stock) starts out k starts' out' k'
       parts_comparable_here = record {
@@ -145,15 +141,15 @@ module _ {stock counts bytes starts out counts' bytes' starts' out' : List ℕ} 
           }
 
       -- and forms are equivalent exactly if the transducers are
-      parts_answered : {tree tree' address address' : List ℕ} (x : Comparison) → ComparesForms (inputs stock) (outputs stock) starts out k starts' out' k' tree tree' address address' x → Judged ((tree' ≡ tree) × (address' ≡ address)) (FoundParts stock n counts bytes n' counts' bytes' tree tree' address address') done (compared_as x)
+      parts_answered : {tree tree' address address' : List ℕ} (x : Result (Option Shown) Refusal) → ComparesForms (inputs stock) (outputs stock) starts out k starts' out' k' tree tree' address address' x → Judged ((tree' ≡ tree) × (address' ≡ address)) (FoundParts stock n counts bytes n' counts' bytes' tree tree' address address') done (outcome_of x)
       parts_answered compared.Alike F =
           let w = F.same refl in
           let l = X.alphabets.leaf in
           accept ((λ M M' E E'. (equivalent_alike l).0 (equivalent_trans (early_same X B e E l) (equivalent_trans (w.0 l) (equivalent_sym (early_same X' B' e' E' l))))), w.1, w.2)
       parts_answered (compared.Differ m p b b') F = let S = F.differ m p b b' refl in accept (S.shown, (S.place, (S.written, λ M M' E E'. parts_difference S.difference E E')))
-      parts_answered (compared.Refused x) F = absurd (F.answered x refl)
+      parts_answered (Err x) F = absurd (F.answered x refl)
 
-      pub parts_compared : {ins outs tree tree' address address' : List ℕ} → ins ≡ inputs stock → outs ≡ outputs stock → (x : Comparison) → ComparesForms ins outs starts out k starts' out' k' tree tree' address address' x → ComparesParts stock n counts bytes n' counts' bytes' tree tree' address address' x
+      pub parts_compared : {ins outs tree tree' address address' : List ℕ} → ins ≡ inputs stock → outs ≡ outputs stock → (x : Result (Option Shown) Refusal) → ComparesForms ins outs starts out k starts' out' k' tree tree' address address' x → ComparesParts stock n counts bytes n' counts' bytes' tree tree' address address' x
       parts_compared i o x F = pass (early_some X B e) (pass (early_some X' B' e') (parts_answered x (rw (i, o) at F)))
 
 -- ---- of two files: what is answered of their parts is answered of them
@@ -178,7 +174,7 @@ module _ {stock s ins counts bytes : List ℕ} {n : ℕ} (O : Opened stock s n i
   second_passed j = let w = O.holds in pass w.1.0 (pass w.1.1.0 j)
 
   -- it is refused
-  pub second_refused : (s' : List ℕ) (rest : Checks) {x : Refusal} {r : FileRead} → Kept → ReadsFile stock s' r → r ≡ reading.Refused x → Judged {A = A} Kept Good (alphabet_check stock (sheet_check stock s (sheet_check stock s' rest))) (refused (refusal_number x))
+  pub second_refused : (s' : List ℕ) (rest : Checks) {x : Refusal} {r : Result ℕ Refusal} → Kept → ReadsFile stock s' r → r ≡ Err x → Judged {A = A} Kept Good (alphabet_check stock (sheet_check stock s (sheet_check stock s' rest))) (refused (refusal_number x))
   second_refused s' rest kept J e = first_passed (past O.alphabets (not_opened stock s' rest kept J e))
 
 module _ {stock s s' ins ins' counts counts' bytes bytes' : List ℕ} {n n' : ℕ} (O : Opened stock s n ins counts bytes) (O' : Opened stock s' n' ins' counts' bytes') where
@@ -195,9 +191,9 @@ module _ {stock s s' ins ins' counts counts' bytes bytes' : List ℕ} {n n' : �
       (record { states = n; machine = O.machine; sheet = S; states' = n'; machine' = O'.machine; sheet' = S'; alike = F.0 O.machine O'.machine (sheet_parts O S) (sheet_parts O' S') }, F.1, F.2)
   files_found tree tree' address address' (some v) F = record { shown = F.0; place = F.1.0; written = F.1.1.0; differ = λ m m' M M' S S'. F.1.1.1 M M' (sheet_parts O S) (sheet_parts O' S') }
 
-  pub files_compared : {tree tree' address address' : List ℕ} → tree_area ≤ length tree → address_area ≤ length address → (x : Comparison) → ComparesParts stock n counts bytes n' counts' bytes' tree tree' address address' x → Compares stock s s' tree tree' address address' x
+  pub files_compared : {tree tree' address address' : List ℕ} → tree_area ≤ length tree → address_area ≤ length address → (x : Result (Option Shown) Refusal) → ComparesParts stock n counts bytes n' counts' bytes' tree tree' address address' x → Compares stock s s' tree tree' address address' x
   unfolding IsJudged
-  files_compared {tree} {tree'} {address} {address'} h h' x J = pass (h, h') (first_passed O (second_passed O' (first (compared_as x) J.verdict)))
+  files_compared {tree} {tree'} {address} {address'} h h' x J = pass (h, h') (first_passed O (second_passed O' (first (outcome_of x) J.verdict)))
     where
       Kept : Type 0
       Kept = (tree' ≡ tree) × (address' ≡ address)
@@ -225,7 +221,7 @@ differ_unlike D A =
     d.unlike (symbols_same d.left d.right (ap (λ x. symbol_at x D.place) (A.alike.plans D.shown d.ranked)))
 
 -- ---- the marks of the alike one with fewer
-module _ {stock s s' tree tree' address address' : List ℕ} {r : Comparison} (J : Compares stock s s' tree tree' address address' r) where
+module _ {stock s s' tree tree' address address' : List ℕ} {r : Result (Option Shown) Refusal} (J : Compares stock s s' tree tree' address address' r) where
   -- the two are alike, and these are their marks
   module _ (e : r ≡ compared.Alike) {left right : List ℕ} (B : HandsMarks stock s left) (B' : HandsMarks stock s' right) where
     alike_holds : Holds (pair_check stock s s') × SewAlike stock s s'
@@ -269,6 +265,6 @@ module _ {stock s s' tree tree' address address' : List ℕ} {r : Comparison} (J
   shorter_differ e = let w = accepted_holds (rw e at J) in inl (w.0.1, inr (differ_unlike w.1, refl))
 
   -- or are refused
-  pub shorter_refused : tree_area ≤ length tree → address_area ≤ length address → {x : Refusal} → r ≡ compared.Refused x → HandsShorter stock s s' []
+  pub shorter_refused : tree_area ≤ length tree → address_area ≤ length address → {x : Refusal} → r ≡ Err x → HandsShorter stock s s' []
   unfolding Holds
   shorter_refused h h' e = inr ((λ w. (refused_fails (rw e at J)).0 ((h, h'), w)), refl)

@@ -1,4 +1,8 @@
 -- What a comparison promises: it answers alike exactly if the two files sew alike, and exactly then the part that is handed out is not empty; there is one such part.
+use Rattle.std.specs.Prelude.{Option, Result}
+use Rattle.trees.specs.declared.refusal.Refusal.{Refusal}
+use Rattle.witness.specs.declared.witness.Shown.{Shown}
+use Rattle.trees.specs.Refusal.{outcome_of, accepted, Holds}
 use Prim.Native.Nat.{ℕ, ◌≤◌}
 use native.Mathlib.Decide.{dec_lt}
 use native.Mathlib.Omega.{arith}
@@ -11,14 +15,12 @@ use Rattle.theory.specs.Transducer.{Transducer}
 use Rattle.theory.proofs.Terms.{conflict}
 use Rattle.trees.specs.Alphabets.{inputs, outputs}
 use Rattle.trees.specs.Code.{Mark}
-use Rattle.trees.specs.Refusal.{accepted, Holds}
 use Rattle.formats.specs.Sheet.{mark_bytes, body_bytes, bodies_of, Sheet}
 use Rattle.formats.proofs.Cuts.{length-mark_bytes}
 use Rattle.trees.proofs.Judging.{accepted_holds}
 use Rattle.formats.proofs.Sheets.{sheet_unique}
 use Rattle.canonical.specs.Answers.{SewAlike}
-use Rattle.comparison.specs.Answers.{Found, pair_check, Compares, compared_as, FewerMarks, HandsShorter}
-use Rattle.comparison.specs.declared.compare.Comparison.{Comparison}
+use Rattle.comparison.specs.Answers.{Found, pair_check, Compares, FewerMarks, HandsShorter}
 use Rattle.comparison.proofs.Comparing.{differ_unlike}
 
 -- what is found says which
@@ -27,7 +29,7 @@ found_exact tree tree' address address' nothing F = (λ e. F.0, λ a. refl)
 found_exact tree tree' address address' (some v) F = (λ e. conflict (cc), λ a. absurd (differ_unlike F a))
 
 -- Of two files accepted for comparison under one stock: the answer is alike exactly if the two sew alike.
-pub compare_exact : {stock s s' tree tree' address address' : List ℕ} (r : Comparison) {v : Option (ℕ × ℕ × ℕ × ℕ)} → Compares stock s s' tree tree' address address' r → compared_as r ≡ accepted v → (v ≡ nothing) ↔ SewAlike stock s s'
+pub compare_exact : {stock s s' tree tree' address address' : List ℕ} (r : Result (Option Shown) Refusal) {v : Option (ℕ × ℕ × ℕ × ℕ)} → Compares stock s s' tree tree' address address' r → outcome_of r ≡ accepted v → (v ≡ nothing) ↔ SewAlike stock s s'
 compare_exact {stock} {s} {s'} {tree} {tree'} {address} {address'} r {v} J e = found_exact tree tree' address address' v (accepted_holds (rw e at J)).1
 
 -- bodies of which the first has a mark have bytes

@@ -1,16 +1,16 @@
 -- What a comparison answers.
-use Rattle.std.specs.Prelude.{ℕ, ◌≤◌, ◌<◌, List, [], ◌⊎◌, ◌≡◌, length}
+use Rattle.std.specs.Prelude.{Err, None, Ok, Option, Result, Some, ℕ, ◌≤◌, ◌<◌, List, [], ◌⊎◌, ◌≡◌, length}
+use Rattle.trees.specs.declared.refusal.Refusal.{Refusal}
+use Rattle.witness.specs.declared.witness.Shown.{Shown}
+use Rattle.trees.specs.Refusal.{outcome_of, refusal_number, Outcome, accepted, refused, Checks, done, check, Judged, Handed}
 use Rattle.std.proofs.Math.Option.{Option, some, none as nothing}
 use Rattle.theory.specs.Term.{Tree}
 use Rattle.theory.specs.Transducer.{Transducer}
 use Rattle.trees.specs.Alphabets.{inputs, outputs, alphabet_check}
-use Rattle.trees.specs.Refusal.{refusal_number, Outcome, accepted, refused, Checks, done, check, Judged, Handed}
 use Rattle.formats.specs.Sheet.{Sheet, sheet_check}
 use Rattle.earliest.specs.Answers.{form_check}
 use Rattle.canonical.specs.Answers.{SewAlike}
 use Rattle.witness.specs.Difference.{tree_area, address_area, Difference, Written}
-use Rattle.comparison.specs.declared.compare.Comparison.{Comparison}
-use Rattle.comparison.specs.declared.compare.Comparison.TheVariants as compared
 
 -- the transducers of the files s and s' differ, as the areas show
 pub record Differ (stock s s' tree tree' address address' : List ℕ) (nodes numbers b b' : ℕ) : Type 0 where
@@ -20,11 +20,6 @@ pub record Differ (stock s s' tree tree' address address' : List ℕ) (nodes num
   pub differ : (n n' : ℕ) (M M' : Transducer ℕ) → Sheet (inputs stock) (outputs stock) s n M → Sheet (inputs stock) (outputs stock) s' n' M' → Difference (inputs stock) (outputs stock) M M' shown place b b'
 
 -- alike, or the numbers of nodes and of address numbers and the two symbols
-abbrev pub compared_as : Comparison → Outcome (Option (ℕ × ℕ × ℕ × ℕ))
-compared_as compared.Alike = accepted nothing
-compared_as (compared.Differ n m b b') = accepted (some (n, m, b, b'))
-compared_as (compared.Refused r) = refused (refusal_number r)
-
 abbrev pub Found : List ℕ → List ℕ → List ℕ → List ℕ → List ℕ → List ℕ → List ℕ → Option (ℕ × ℕ × ℕ × ℕ) → Type 0
 Found stock s s' tree tree' address address' nothing = SewAlike stock s s' × (tree' ≡ tree) × (address' ≡ address)
 Found stock s s' tree tree' address address' (some v) = Differ stock s s' tree tree' address address' v.0 v.1 v.2 v.3
@@ -34,11 +29,11 @@ abbrev pub pair_check : List ℕ → List ℕ → List ℕ → Checks
 pair_check stock s s' = alphabet_check stock (sheet_check stock s (sheet_check stock s' (form_check stock s (form_check stock s' done))))
 
 -- ---- comparison
-abbrev pub Compares : List ℕ → List ℕ → List ℕ → List ℕ → List ℕ → List ℕ → List ℕ → Comparison → Type 0
+abbrev pub Compares : List ℕ → List ℕ → List ℕ → List ℕ → List ℕ → List ℕ → List ℕ → Result (Option Shown) Refusal → Type 0
 Compares stock s s' tree tree' address address' r =
     Judged ((tree' ≡ tree) × (address' ≡ address)) (Found stock s s' tree tree' address address')
     (check 1 ((tree_area ≤ length tree) × (address_area ≤ length address)) (pair_check stock s s'))
-    (compared_as r)
+    (outcome_of r)
 
 -- ---- the marks of the alike one with fewer
 -- part is the marks of the transducer of s or of s', whichever has fewer, and of s if both have as many

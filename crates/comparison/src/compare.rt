@@ -6,20 +6,11 @@ ghost use Rattle.witness.specs.Inner.Forms.{Comparable};
 ghost use Rattle.comparison.specs.Inner.Verdicts.{ComparesForms, EarlyForm, ComparesWith, ComparesParts};
 
 use earliest::earliest::form_of_parts;
-use formats::file::{FileRead, counts_end, read_transducer};
-use forms::write::FormSize;
+use formats::file::{counts_end, read_transducer};
 use pairs::pairs::{Verdict, search};
 use trees::alphabet::{input_ranks, output_ranks};
 use trees::refusal::Refusal;
 use witness::witness::show;
-
-// Alike; or how many nodes the tree and how many numbers the address have that show a difference, and the two symbols there; or the refusal.
-#[derive(Drop)]
-pub enum Comparison {
-    Alike,
-    Differ(usize, usize, usize, usize),
-    Refused(Refusal),
-}
 
 // Compares two earliest forms.
 fn compare_forms(
@@ -33,7 +24,7 @@ fn compare_forms(
     n2: usize,
     tree: &mut [u8],
     address: &mut [u8],
-) -> Comparison
+) -> Result<Option<Shown>, Refusal>
     requires { Comparable ins.now outs.now starts1.now marks1.now n1 starts2.now marks2.now n2 × (1536 ≤ length tree.old) × (16128 ≤ length address.old) }
     ensures { ComparesForms ins.now outs.now starts1.now marks1.now n1 starts2.now marks2.now n2 tree.old tree.new address.old address.new result }
 {
@@ -71,14 +62,14 @@ fn compare_with(
     marks2: &[u8],
     tree: &mut [u8],
     address: &mut [u8],
-) -> Comparison
+) -> Result<Option<Shown>, Refusal>
     requires { EarlyForm stock.now starts1.now form1.now k1 × Machine stock.now n2 counts2.now marks2.now × (1536 ≤ length tree.old) × (16128 ≤ length address.old) }
     ensures { ComparesWith stock.now starts1.now form1.now k1 n2 counts2.now marks2.now tree.old tree.new address.old address.new result }
 {
     let mut starts2 = [0u16; 2050];
     let mut form2 = [0u8; 16384];
     match form_of_parts(stock, n2, counts2, marks2, &mut starts2, &mut form2) {
-        FormSize::States(k2) => compare_forms(
+        Some(k2) => compare_forms(
             input_ranks(stock),
             output_ranks(stock),
             starts1,
@@ -90,7 +81,7 @@ fn compare_with(
             tree,
             address,
         ),
-        FormSize::Over => Comparison::Refused(Refusal::OverLimits),
+        None => Err(Refusal::OverLimits),
     }
 }
 
@@ -105,17 +96,17 @@ fn compare_parts(
     marks2: &[u8],
     tree: &mut [u8],
     address: &mut [u8],
-) -> Comparison
+) -> Result<Option<Shown>, Refusal>
     requires { Machine stock.now n1 counts1.now marks1.now × Machine stock.now n2 counts2.now marks2.now × (1536 ≤ length tree.old) × (16128 ≤ length address.old) }
     ensures { ComparesParts stock.now n1 counts1.now marks1.now n2 counts2.now marks2.now tree.old tree.new address.old address.new result }
 {
     let mut starts = [0u16; 2050];
     let mut form = [0u8; 16384];
     match form_of_parts(stock, n1, counts1, marks1, &mut starts, &mut form) {
-        FormSize::States(k) => compare_with(
+        Some(k) => compare_with(
             stock, &starts, &form, k, n2, counts2, marks2, tree, address,
         ),
-        FormSize::Over => Comparison::Refused(Refusal::OverLimits),
+        None => Err(Refusal::OverLimits),
     }
 }
 
@@ -126,18 +117,18 @@ pub fn compare(
     second: &[u8],
     tree: &mut [u8],
     address: &mut [u8],
-) -> Comparison
+) -> Result<Option<Shown>, Refusal>
     ensures { Compares stock.now first.now second.now tree.old tree.new address.old address.new result }
 {
     if tree.len() < 1536 {
-        return Comparison::Refused(Refusal::ShortArea);
+        return Err(Refusal::ShortArea);
     }
     if address.len() < 16128 {
-        return Comparison::Refused(Refusal::ShortArea);
+        return Err(Refusal::ShortArea);
     }
     match read_transducer(stock, first) {
-        FileRead::States(n1) => match read_transducer(stock, second) {
-            FileRead::States(n2) => {
+        Ok(n1) => match read_transducer(stock, second) {
+            Ok(n2) => {
                 let from1 = counts_end(stock, n1);
                 let from2 = counts_end(stock, n2);
                 compare_parts(
@@ -152,8 +143,8 @@ pub fn compare(
                     address,
                 )
             }
-            FileRead::Refused(r) => Comparison::Refused(r),
+            Err(r) => Err(r),
         },
-        FileRead::Refused(r) => Comparison::Refused(r),
+        Err(r) => Err(r),
     }
 }

@@ -1,7 +1,7 @@
 // The bodies of the alike one with fewer marks, as a part of the caller's own file.
 ghost use Rattle.comparison.specs.Answers.{HandsShorter};
 
-use crate::compare::{Comparison, compare};
+use crate::compare::compare;
 use formats::file::transducer_marks;
 
 // Of two transducers that are equivalent, the marks of the one with fewer, of the first if both have as many; an empty part of two that differ, and on a refusal.
@@ -21,6 +21,6 @@ pub fn shorter<'a>(stock: &[u8], first: &'a [u8], second: &'a [u8]) -> &'a [u8]
             }
         }
         Comparison::Differ(_, _, _, _) => &first[0..0],
-        Comparison::Refused(_) => &first[0..0],
+        Err(_) => &first[0..0],
     }
 }

@@ -1,5 +1,8 @@
 -- Request F-3 is met: the laws of `registry` over lists of entries, and what the promises say of one call.
 -- Assumes nothing.
+use Rattle.std.specs.Prelude.{Err, None, Ok, Option, Result, Some}
+use Rattle.trees.specs.declared.refusal.Refusal.{Refusal}
+use Rattle.trees.specs.Refusal.{outcome_of, accepted, refused, done, check, Holds}
 use Prim.Native.Nat.{ℕ, ◌+◌}
 use native.Mathlib.Omega.{arith}
 use mathlib.Core.List.{List, []}
@@ -7,17 +10,12 @@ use mathlib.Core.Logic.{inl, inr, ⊎_elim, ◌≢◌}
 use mathlib.Core.Path.{◌≡◌, refl, ap}
 use Rattle.theory.specs.Registry.{begun, entered}
 use Rattle.theory.proofs.Terms.{conflict}
-use Rattle.trees.specs.Refusal.{accepted, refused, done, check, Holds}
 use Rattle.formats.specs.Sheet.{sheet_check}
 use Rattle.trees.proofs.Judging.{accepted_holds, must_refuse}
 use Rattle.earliest.specs.Answers.{form_check}
-use Rattle.records.specs.Answers.{made_of, Makes, number_of, CleanFile, HasPlace, Enters, HandsBody}
+use Rattle.records.specs.Answers.{Makes, CleanFile, HasPlace, Enters, HandsBody}
 use Rattle.records.specs.Book.{record_at, body, Chained}
-use Rattle.records.specs.declared.book.Entered.{Entered}
-use Rattle.records.specs.declared.book.Entered.TheVariants.{Number, Refused}
 use Rattle.records.specs.declared.book.Head.{Head}
-use Rattle.records.specs.declared.book.Made.{Made}
-use Rattle.records.specs.declared.book.Made.TheVariants as making
 use Rattle.records.specs.declared.book.Record.{Record}
 use Rattle.registry.specs.Calls.{Book, MadeWith}
 use Rattle.registry.proofs.Keeping.{gives_counts}
@@ -31,22 +29,22 @@ no_registry (inr (inl f)) C = f C.counts.stock
 no_registry (inr (inr (i, (g, l, f)))) C = f (ap (λ w. w.count) (C.lies.unused.none i g l))
 
 -- ---- lists of calls are made of calls
-pub made_with : {stock : List ℕ} (b b' : Book) (r : Made) → Makes stock b.head b.records b.area b'.head b'.records b'.area r → made_of r ≡ accepted tt → MadeWith stock b'
-made_with b b' making.Empty J e = record { before = b; call = J }
-made_with b b' (making.Refused q) J e = conflict (cc)
+pub made_with : {stock : List ℕ} (b b' : Book) (r : Result (Unit {0}) Refusal) → Makes stock b.head b.records b.area b'.head b'.records b'.area r → outcome_of r ≡ accepted tt → MadeWith stock b'
+made_with b b' (Ok tt) J e = record { before = b; call = J }
+made_with b b' (Err q) J e = conflict (cc)
 
 -- ---- one call
 module _ {s area area' : List ℕ} {h h' : Head} {rs rs' : List Record} where
-  raised : {n : ℕ} (r : Entered) → Enters s h rs area h' rs' area' r → number_of r ≡ accepted n → ((record_at rs' n).count ≡ (record_at rs n).count + 1) × ((m : ℕ) → m ≢ n → (record_at rs' m).count ≡ (record_at rs m).count)
+  raised : {n : ℕ} (r : Result ℕ Refusal) → Enters s h rs area h' rs' area' r → outcome_of r ≡ accepted n → ((record_at rs' n).count ≡ (record_at rs n).count + 1) × ((m : ℕ) → m ≢ n → (record_at rs' m).count ≡ (record_at rs m).count)
   unfolding Holds
-  raised {n} (Number k) J e =
+  raised {n} (Ok k) J e =
       let z : k ≡ n = cc in
       let w = accepted_holds J in
       let O = gives_counts w.0.0 w.1.1.1 in
       rw (← z) (omega (arith, O.here), λ m o. ap (λ v. v.count) (O.others m o))
-  raised (Refused q) J e = conflict (cc)
+  raised (Err q) J e = conflict (cc)
 
-  nine : (r : Entered) → Enters s h rs area h' rs' area' r → Miscounted h rs → number_of r ≡ refused 9
+  nine : (r : Result ℕ Refusal) → Enters s h rs area h' rs' area' r → Miscounted h rs → outcome_of r ≡ refused 9
   unfolding Holds
   nine r J m = (must_refuse done (sheet_check (body rs area 0) s (form_check (body rs area 0) s (check 8 ((x : List ℕ) × (CleanFile (body rs area 0) s x × HasPlace h rs area x)) done))) tt (no_registry m) J).0
 

@@ -1,5 +1,9 @@
 -- Request F-9 is met.
 -- Assumes nothing.
+use Rattle.std.specs.Prelude.{Err, None, Ok, Option, Result, Some}
+use Rattle.trees.specs.declared.refusal.Refusal.{Refusal}
+use Rattle.forms.specs.declared.write.Form.{Form}
+use Rattle.trees.specs.Refusal.{outcome_of, accepted, done, Holds}
 use Prim.Native.Nat.{ℕ, ◌<◌}
 use native.Mathlib.Omega.{arith}
 use mathlib.Core.List.{List}
@@ -11,13 +15,10 @@ use Rattle.theory.specs.Transducer.{Transducer, translate}
 use Rattle.theory.proofs.Terms.{conflict}
 use Rattle.trees.specs.Alphabets.{Alphabets, inputs, outputs, alphabet_check}
 use Rattle.trees.specs.Code.{Ranked, code}
-use Rattle.trees.specs.Refusal.{accepted, done, Holds}
 use Rattle.trees.proofs.Stock.{stock_reads, stock_reads_outputs}
 use Rattle.formats.specs.Sheet.{file, Sheet, sheet_check}
 use Rattle.transducer.specs.Output.{Output}
-use Rattle.forms.specs.Answers.{form_of}
-use Rattle.forms.specs.declared.write.Formed.{Formed}
-use Rattle.forms.specs.declared.write.Formed.TheVariants.{Form, Refused}
+
 use Rattle.join.specs.Answers.{JoinedFile, joined_stock, Joins}
 use Rattle.join.proofs.Laws.{TranslateAlike, sheet_alike, joined_sheet, join_translates_any, join_output, JoinWritten, join_written, join_sheet, join_unique, join_alike_first, join_alike_second, join_assoc_files}
 use Rattle.canonical.specs.Answers.{SewAlike}
@@ -96,25 +97,25 @@ joining = record {
 
 -- ---- of the functions themselves
 -- what an accepted call wrote
-wrote_file : (r : Formed) (area : List ℕ) (v : ℕ × ℕ × ℕ) → form_of r ≡ accepted v → file_in r area ≡ take v.2 area
+wrote_file : (r : Result Form Refusal) (area : List ℕ) (v : ℕ × ℕ × ℕ) → outcome_of r ≡ accepted v → file_in r area ≡ take v.2 area
 wrote_file (Form k m n) area v e = let w : (k, m, n) ≡ v = cc in ap (λ w. take w.2 area) w
-wrote_file (Refused x) area v e = conflict (cc)
+wrote_file (Err x) area v e = conflict (cc)
 
 -- the part of the area that it is, in which an area that is too short for it would be whole
-pub file_part : (r : Formed) (area : List ℕ) {k m n : ℕ} → r ≡ Form k m n → take n area ≡ file_in r area
+pub file_part : (r : Result Form Refusal) (area : List ℕ) {k m n : ℕ} → r ≡ Form k m n → take n area ≡ file_in r area
 file_part r area e = rw e
 
-pub file_whole : (r : Formed) (area : List ℕ) {k m n : ℕ} → r ≡ Form k m n → length area < n → area ≡ file_in r area
+pub file_whole : (r : Result Form Refusal) (area : List ℕ) {k m n : ℕ} → r ≡ Form k m n → length area < n → area ≡ file_in r area
 file_whole r area {k} {m} {n} e h = rw e (sym (take_all n area (omega arith)))
 
 -- joining what a call wrote, as the first sheet or as the second
-pub joins_first : {a b f f' t x x' : List ℕ} (r : Formed) → f ≡ f' → Joins a b f t x x' r → Joins a b f' t x x' r
+pub joins_first : {a b f f' t x x' : List ℕ} (r : Result Form Refusal) → f ≡ f' → Joins a b f t x x' r → Joins a b f' t x x' r
 joins_first r e J = rw e at J
 
-pub joins_second : {a b s f f' x x' : List ℕ} (r : Formed) → f ≡ f' → Joins a b s f x x' r → Joins a b s f' x x' r
+pub joins_second : {a b s f f' x x' : List ℕ} (r : Result Form Refusal) → f ≡ f' → Joins a b s f x x' r → Joins a b s f' x x' r
 joins_second r e J = rw e at J
 
-pub both_ways : {a b c ab bc s t u x x' y y' z z' w w' : List ℕ} (first left second right : Formed) → Joins a b s t x x' first → Joins ab c (file_in first x') u y y' left → Joins b c t u z z' second → Joins a bc s (file_in second z') w w' right → JoinsThree a b c ab bc first left second right y' w'
+pub both_ways : {a b c ab bc s t u x x' y y' z z' w w' : List ℕ} (first left second right : Result Form Refusal) → Joins a b s t x x' first → Joins ab c (file_in first x') u y y' left → Joins b c t u z z' second → Joins a bc s (file_in second z') w w' right → JoinsThree a b c ab bc first left second right y' w'
 both_ways {x' = x'} {y' = y'} {z' = z'} {w' = w'} first left second right J J₁ J₂ J₃ e f v v₁ v₂ v₃ h h₁ h₂ h₃ =
     let A = joining.joins first J h in
     let B = joining.joins left (rw (e, wrote_file first x' v h) at J₁) h₁ in

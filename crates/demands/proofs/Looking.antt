@@ -1,5 +1,9 @@
 -- Request F-6 is met: what an entry answers says what a question and a commit answer, and the promises leave no other answer.
 -- Assumes nothing.
+use Rattle.std.specs.Prelude.{Err, None, Ok, Option, Result, Some}
+use Rattle.forms.specs.declared.write.Form.{Form}
+use Rattle.records.specs.declared.book.Foretold.{Foretold}
+use Rattle.trees.specs.Refusal.{outcome_of, refusal_number, accepted, refused, done, Holds}
 use Prim.Native.Nat.{ℕ, ◌+◌, ◌≤◌, ◌<◌}
 use native.Mathlib.Omega.{arith}
 use mathlib.Core.List.{List}
@@ -11,24 +15,18 @@ use lib.Seq.{length-sets, sets-eq, drop_at}
 use Rattle.theory.specs.Registry.{begun, entered}
 use Rattle.theory.proofs.Terms.{conflict}
 use Rattle.trees.specs.Alphabets.{inputs, outputs}
-use Rattle.trees.specs.Refusal.{refusal_number, accepted, refused, done, Holds}
 use Rattle.trees.specs.declared.refusal.Refusal.{Refusal}
 use Rattle.trees.specs.declared.refusal.Refusal.TheVariants.{OtherNumber}
 use Rattle.trees.proofs.Judging.{accepted_holds, must_accept, must_refuse}
 use Rattle.formats.specs.Sheet.{longest}
 use Rattle.formats.proofs.Laws.{written_take}
 use Rattle.formats.proofs.Sheets.{encodes_counted, file_short}
-use Rattle.forms.specs.declared.write.Formed.{Formed}
 use Rattle.canonical.specs.Answers.{Cleans}
 use Rattle.canonical.proofs.Laws.{cleaned}
-use Rattle.records.specs.Answers.{CleanFile, number_of, entry_check, Enters, reply_of, Foretells, Questions, Commits}
+use Rattle.records.specs.Answers.{CleanFile, entry_check, Enters, Foretells, Questions, Commits}
 use Rattle.records.specs.Book.{body}
-use Rattle.records.specs.declared.book.Entered.{Entered}
-use Rattle.records.specs.declared.book.Entered.TheVariants.{Number, Refused}
 use Rattle.records.specs.declared.book.Head.{Head}
 use Rattle.records.specs.declared.book.Record.{Record}
-use Rattle.records.specs.declared.book.Reply.{Reply}
-use Rattle.records.specs.declared.book.Reply.TheVariants as replying
 use Rattle.records.proofs.Entering.{clean_unique}
 use Rattle.registry.specs.Questions.{entry, commit, question, foretold}
 use Rattle.registry.proofs.Determined.{commits_one, questions_one}
@@ -42,36 +40,36 @@ use Rattle.demands.proofs.Counts.{made_with}
 use Rattle.demands.proofs.First.{demand_1}
 
 -- ---- the question, beside an entry
-was_long : {s area before after : List ℕ} {h : Head} {rs : List Record} {v : ℕ × ℕ} (q : Reply) → Questions s h rs area before after q → reply_of q ≡ accepted v → longest ≤ length before
+was_long : {s area before after : List ℕ} {h : Head} {rs : List Record} {v : ℕ × ℕ} (q : Result Foretold Refusal) → Questions s h rs area before after q → outcome_of q ≡ accepted v → longest ≤ length before
 unfolding Holds
 was_long q Q e = (accepted_holds (rw e at Q)).0.0
 
 module _ {s area area' before after : List ℕ} {h h' : Head} {rs rs' : List Record} where
-  module _ (q : Reply) (long : longest ≤ length before) (Q : Questions s h rs area before after q) where
-    number_asked : {n : ℕ} → Enters s h rs area h' rs' area' (Number n) → (size : ℕ) × (reply_of q ≡ accepted (n, size))
+  module _ (q : Result Foretold Refusal) (long : longest ≤ length before) (Q : Questions s h rs area before after q) where
+    number_asked : {n : ℕ} → Enters s h rs area h' rs' area' (Ok n) → (size : ℕ) × (outcome_of q ≡ accepted (n, size))
     number_asked {n} E = let w = entry_answers long E in (w.0, (questions_one q (replying.Number n w.0) Q w.1.1).1)
 
-    refusal_asked : (p : Refusal) → Enters s h rs area h' rs' area' (Refused p) → reply_of q ≡ refused (refusal_number p)
-    refusal_asked p E = (questions_one q (replying.Refused p) Q (entry_unanswered long p E)).1
+    refusal_asked : (p : Refusal) → Enters s h rs area h' rs' area' (Err p) → outcome_of q ≡ refused (refusal_number p)
+    refusal_asked p E = (questions_one q (Err p) Q (entry_unanswered long p E)).1
 
-  would_get : {n size : ℕ} (q : Reply) (r : Entered) → Questions s h rs area before after q → Enters s h rs area h' rs' area' r → reply_of q ≡ accepted (n, size) → number_of r ≡ accepted n
-  would_get {n} {size} q (Number k) Q E e =
+  would_get : {n size : ℕ} (q : Result Foretold Refusal) (r : Result ℕ Refusal) → Questions s h rs area before after q → Enters s h rs area h' rs' area' r → outcome_of q ≡ accepted (n, size) → outcome_of r ≡ accepted n
+  would_get {n} {size} q (Ok k) Q E e =
       let (j, z) = number_asked q (was_long q Q e) Q E in
       let w : ◌≡◌ {A = ℕ × ℕ} (k, j) (n, size) = cc in
       ap (λ v. accepted v.0) w
-  would_get q (Refused p) Q E e = let z = refusal_asked q (was_long q Q e) Q p E in conflict (cc)
+  would_get q (Err p) Q E e = let z = refusal_asked q (was_long q Q e) Q p E in conflict (cc)
 
-  gets_asked : {n : ℕ} (q : Reply) (r : Entered) → longest ≤ length before → Questions s h rs area before after q → Enters s h rs area h' rs' area' r → number_of r ≡ accepted n → (size : ℕ) × (reply_of q ≡ accepted (n, size))
-  gets_asked {n} q (Number k) long Q E e = let w = number_asked q long Q E in let z : k ≡ n = cc in (w.0, w.1 ∙ ap (λ i. accepted (i, w.0)) z)
-  gets_asked q (Refused p) long Q E e = conflict (cc)
+  gets_asked : {n : ℕ} (q : Result Foretold Refusal) (r : Result ℕ Refusal) → longest ≤ length before → Questions s h rs area before after q → Enters s h rs area h' rs' area' r → outcome_of r ≡ accepted n → (size : ℕ) × (outcome_of q ≡ accepted (n, size))
+  gets_asked {n} q (Ok k) long Q E e = let w = number_asked q long Q E in let z : k ≡ n = cc in (w.0, w.1 ∙ ap (λ i. accepted (i, w.0)) z)
+  gets_asked q (Err p) long Q E e = conflict (cc)
 
-  refused_alike : (k : ℕ) (q : Reply) (r : Entered) → longest ≤ length before → Questions s h rs area before after q → Enters s h rs area h' rs' area' r → (reply_of q ≡ refused k) ↔ (number_of r ≡ refused k)
-  refused_alike k q (Number n) long Q E = let z = (number_asked q long Q E).1 in (λ e. conflict (cc), λ e. conflict (cc))
-  refused_alike k q (Refused p) long Q E =
+  refused_alike : (k : ℕ) (q : Result Foretold Refusal) (r : Result ℕ Refusal) → longest ≤ length before → Questions s h rs area before after q → Enters s h rs area h' rs' area' r → (outcome_of q ≡ refused k) ↔ (outcome_of r ≡ refused k)
+  refused_alike k q (Ok n) long Q E = let z = (number_asked q long Q E).1 in (λ e. conflict (cc), λ e. conflict (cc))
+  refused_alike k q (Err p) long Q E =
       let z = refusal_asked q long Q p E in
       (λ e. let w : refusal_number p ≡ k = cc in ap (λ i. refused i) w, λ e. let w : refusal_number p ≡ k = cc in z ∙ ap (λ i. refused i) w)
 
-too_short : {s area before after : List ℕ} {h : Head} {rs : List Record} (q : Reply) → length before < longest → Questions s h rs area before after q → reply_of q ≡ refused 1
+too_short : {s area before after : List ℕ} {h : Head} {rs : List Record} (q : Result Foretold Refusal) → length before < longest → Questions s h rs area before after q → outcome_of q ≡ refused 1
 unfolding Holds
 too_short {s} {area} {h = h} {rs = rs} q l Q = (must_refuse done (entry_check s h rs area done) tt (λ k. omega arith) Q).0
 
@@ -81,7 +79,7 @@ clean_short {stock} C =
     let F = C.normal in
     omega (arith, ap length C.coded, file_short (inputs stock) C.states C.counts C.bytes F.alphabets.ins.few (encodes_counted (inputs stock) (outputs stock) C.states C.counts C.bytes F.form F.encodes))
 
-module _ {s area before after : List ℕ} {h : Head} {rs : List Record} {n size : ℕ} (q : Reply) (Q : Questions s h rs area before after q) (e : reply_of q ≡ accepted (n, size)) where
+module _ {s area before after : List ℕ} {h : Head} {rs : List Record} {n size : ℕ} (q : Result Foretold Refusal) (Q : Questions s h rs area before after q) (e : outcome_of q ≡ accepted (n, size)) where
   told_so : Holds (entry_check s h rs area done) × Foretells s h rs area before after n size
   unfolding Holds
   told_so = let w = accepted_holds (rw e at Q) in (w.0.1, w.1)
@@ -89,7 +87,7 @@ module _ {s area before after : List ℕ} {h : Head} {rs : List Record} {n size 
   fits_before : size ≤ length before
   fits_before = let F = told_so.1 in omega (arith, F.long, clean_short F.file, was_long q Q e)
 
-  shows_clean : {room room' : List ℕ} (r : Formed) → longest ≤ length room → Cleans (body rs area 0) s room room' r → (size ≤ length after) × Wrote r room' (take size after)
+  shows_clean : {room room' : List ℕ} (r : Result Form Refusal) → longest ≤ length room → Cleans (body rs area 0) s room room' r → (size ≤ length after) × Wrote r room' (take size after)
   unfolding Holds
   shows_clean r long C =
       let (w, F) = told_so in
@@ -117,15 +115,15 @@ never_13 s h rs area (inr (p, inr (p₁, inr (p₂, inr (p₃, inl (f, e)))))) =
 never_13 s h rs area (inr (p, inr (p₁, inr (p₂, inr (p₃, inr (p₄, f)))))) = f
 
 module _ {s area area' : List ℕ} {h h' : Head} {rs rs' : List Record} where
-  as_entry : {m n : ℕ} (r : Entered) → Commits s m h rs area h' rs' area' r × (number_of r ≡ accepted n) → Enters s h rs area h' rs' area' r × (number_of r ≡ accepted n) × (n ≡ m)
-  as_entry (Number k) (C, e) = let (E, z) = commit_enters C in (E, e, cc)
-  as_entry (Refused p) (C, e) = conflict (cc)
+  as_entry : {m n : ℕ} (r : Result ℕ Refusal) → Commits s m h rs area h' rs' area' r × (outcome_of r ≡ accepted n) → Enters s h rs area h' rs' area' r × (outcome_of r ≡ accepted n) × (n ≡ m)
+  as_entry (Ok k) (C, e) = let (E, z) = commit_enters C in (E, e, cc)
+  as_entry (Err p) (C, e) = conflict (cc)
 
-  as_commit : {m n : ℕ} (r : Entered) → Enters s h rs area h' rs' area' r × (number_of r ≡ accepted n) × (n ≡ m) → Commits s m h rs area h' rs' area' r × (number_of r ≡ accepted n)
-  as_commit {m} (Number k) (E, e, z) = let w : k ≡ m = cc in (subst (λ i. Commits s i h rs area h' rs' area' (Number k)) w (entry_commits E), e)
-  as_commit (Refused p) (E, e, z) = conflict (cc)
+  as_commit : {m n : ℕ} (r : Result ℕ Refusal) → Enters s h rs area h' rs' area' r × (outcome_of r ≡ accepted n) × (n ≡ m) → Commits s m h rs area h' rs' area' r × (outcome_of r ≡ accepted n)
+  as_commit {m} (Ok k) (E, e, z) = let w : k ≡ m = cc in (subst (λ i. Commits s i h rs area h' rs' area' (Ok k)) w (entry_commits E), e)
+  as_commit (Err p) (E, e, z) = conflict (cc)
 
-  entry_not_13 : (r : Entered) → Enters s h rs area h' rs' area' r → number_of r ≡ refused 13 → ⊥
+  entry_not_13 : (r : Result ℕ Refusal) → Enters s h rs area h' rs' area' r → outcome_of r ≡ refused 13 → ⊥
   entry_not_13 r E e =
       ⊎_elim
       (λ w. let z = w.1.0 in conflict (cc))
@@ -133,28 +131,28 @@ module _ {s area area' : List ℕ} {h h' : Head} {rs rs' : List Record} where
       (demand_1.entry s area area' h h' rs rs' r E)
 
 module _ {s area area₁ area₂ : List ℕ} {h h₁ h₂ : Head} {rs rs₁ rs₂ : List Record} {m : ℕ} where
-  leaves_same : (r r' : Entered) → Enters s h rs area h₁ rs₁ area₁ r → Commits s m h rs area h₂ rs₂ area₂ r' → number_of r ≡ accepted m → (number_of r' ≡ accepted m) × (h₂ ≡ h₁) × (rs₂ ≡ rs₁) × (area₂ ≡ area₁)
+  leaves_same : (r r' : Result ℕ Refusal) → Enters s h rs area h₁ rs₁ area₁ r → Commits s m h rs area h₂ rs₂ area₂ r' → outcome_of r ≡ accepted m → (outcome_of r' ≡ accepted m) × (h₂ ≡ h₁) × (rs₂ ≡ rs₁) × (area₂ ≡ area₁)
   leaves_same r r' E C e =
       let (D, d) = as_commit r (E, e, refl) in
       let w = commits_one r' r C D in
       (w.1 ∙ d, w.0.0, w.0.1, w.0.2)
 
-  by_13 : {n : ℕ} (r r' : Entered) → Enters s h rs area h₁ rs₁ area₁ r → Commits s m h rs area h₂ rs₂ area₂ r' → number_of r ≡ accepted n → m ≢ n → number_of r' ≡ refused 13
-  by_13 {n} (Number k) r' E C e o = let z : k ≡ n = cc in (commits_one r' (Refused OtherNumber) C (other_refused E (λ w. o (w ∙ z)))).1
-  by_13 (Refused p) r' E C e o = conflict (cc)
+  by_13 : {n : ℕ} (r r' : Result ℕ Refusal) → Enters s h rs area h₁ rs₁ area₁ r → Commits s m h rs area h₂ rs₂ area₂ r' → outcome_of r ≡ accepted n → m ≢ n → outcome_of r' ≡ refused 13
+  by_13 {n} (Ok k) r' E C e o = let z : k ≡ n = cc in (commits_one r' (Err OtherNumber) C (other_refused E (λ w. o (w ∙ z)))).1
+  by_13 (Err p) r' E C e o = conflict (cc)
 
-  as_entry_refused : {k : ℕ} (r r' : Entered) → Enters s h rs area h₁ rs₁ area₁ r → Commits s m h rs area h₂ rs₂ area₂ r' → number_of r ≡ refused k → number_of r' ≡ refused k
-  as_entry_refused (Number n) r' E C e = conflict (cc)
-  as_entry_refused (Refused p) r' E C e = (commits_one r' (Refused p) C (entry_refuses p E)).1 ∙ e
+  as_entry_refused : {k : ℕ} (r r' : Result ℕ Refusal) → Enters s h rs area h₁ rs₁ area₁ r → Commits s m h rs area h₂ rs₂ area₂ r' → outcome_of r ≡ refused k → outcome_of r' ≡ refused k
+  as_entry_refused (Ok n) r' E C e = conflict (cc)
+  as_entry_refused (Err p) r' E C e = (commits_one r' (Err p) C (entry_refuses p E)).1 ∙ e
 
-  by_13_alone : (r r' : Entered) → Enters s h rs area h₁ rs₁ area₁ r → Commits s m h rs area h₂ rs₂ area₂ r' → number_of r' ≡ refused 13 → (n : ℕ) × ((number_of r ≡ accepted n) × (m ≢ n))
-  by_13_alone (Number n) r' E C e = (n, (refl, λ z. let d = (leaves_same (Number n) r' E C (ap (λ i. accepted i) (sym z))).0 in conflict (cc)))
-  by_13_alone (Refused p) r' E C e = absurd (entry_not_13 (Refused p) E (sym (as_entry_refused (Refused p) r' E C refl) ∙ e))
+  by_13_alone : (r r' : Result ℕ Refusal) → Enters s h rs area h₁ rs₁ area₁ r → Commits s m h rs area h₂ rs₂ area₂ r' → outcome_of r' ≡ refused 13 → (n : ℕ) × ((outcome_of r ≡ accepted n) × (m ≢ n))
+  by_13_alone (Ok n) r' E C e = (n, (refl, λ z. let d = (leaves_same (Ok n) r' E C (ap (λ i. accepted i) (sym z))).0 in conflict (cc)))
+  by_13_alone (Err p) r' E C e = absurd (entry_not_13 (Err p) E (sym (as_entry_refused (Err p) r' E C refl) ∙ e))
 
 -- ---- lists of calls
-foretold_so : {n size : ℕ} (q : Reply) → reply_of q ≡ accepted (n, size) → foretold q ≡ some n
+foretold_so : {n size : ℕ} (q : Result Foretold Refusal) → outcome_of q ≡ accepted (n, size) → foretold q ≡ some n
 foretold_so {n} {size} (replying.Number k j) e = let w : ◌≡◌ {A = ℕ × ℕ} (k, j) (n, size) = cc in ap (λ v. some v.0) w
-foretold_so (replying.Refused p) e = conflict (cc)
+foretold_so (Err p) e = conflict (cc)
 
 listing : Listing
 listing = record {

@@ -1,5 +1,8 @@
 -- Request F-10 is met.
 -- Assumes nothing.
+use Rattle.std.specs.Prelude.{Option, Result}
+use Rattle.trees.specs.declared.refusal.Refusal.{Refusal}
+use Rattle.trees.specs.Refusal.{outcome_of, accepted}
 use Prim.Native.Nat.{ℕ, ◌<◌}
 use mathlib.Core.List.{List}
 use mathlib.Core.Path.{◌≡◌, refl, sym, ◌∙◌}
@@ -7,12 +10,10 @@ use lib.ListN.{length}
 use Rattle.theory.specs.Term.{node, none}
 use Rattle.theory.specs.Transducer.{Transducer}
 use Rattle.trees.specs.Alphabets.{inputs, outputs}
-use Rattle.trees.specs.Refusal.{accepted}
 use Rattle.trees.proofs.Judging.{accepted_holds}
 use Rattle.trees.proofs.Stock.{stock_reads, stock_reads_outputs}
-use Rattle.formats.specs.Answers.{file_read, ReadsFile}
+use Rattle.formats.specs.Answers.{ReadsFile}
 use Rattle.formats.specs.Sheet.{file, Sheet}
-use Rattle.formats.specs.declared.file.FileRead.{FileRead}
 use Rattle.canonical.proofs.Laws.{Cleaned, cleaned}
 use Rattle.partial.specs.AsSymbol.{one_more, blank_stock, BlankSheet}
 use Rattle.partial.proofs.AsSymbol.{wider_written}
@@ -32,7 +33,7 @@ as_wider : (stock : List ℕ) {x : List ℕ} {n : ℕ} {W : Transducer ℕ} → 
 as_wider stock S = let ins = one_more (inputs stock) in let outs = one_more (outputs stock) in rw (stock_reads ins outs, stock_reads_outputs ins outs) at S
 
 -- two files that the reader accepts, and the transducers of which agree
-widened : {stock s x : List ℕ} {n : ℕ} (r r' : FileRead) → ReadsFile stock s r → file_read r ≡ accepted n → ReadsFile (blank_stock stock) x r' → file_read r' ≡ accepted n
+widened : {stock s x : List ℕ} {n : ℕ} (r r' : Result ℕ Refusal) → ReadsFile stock s r → outcome_of r ≡ accepted n → ReadsFile (blank_stock stock) x r' → outcome_of r' ≡ accepted n
     → ((M W : Transducer ℕ) → Sheet (inputs stock) (outputs stock) s n M → Sheet (inputs (blank_stock stock)) (outputs (blank_stock stock)) x n W
     → (W.initial ≡ M.initial) × ((q a : ℕ) → q < n → a < length (inputs stock) → W.rhs q a ≡ M.rhs q a) × ((q : ℕ) → q < n → W.rhs q (length (inputs stock)) ≡ node (length (outputs stock)) none))
     → BlankSheet stock s x

@@ -1,5 +1,7 @@
 -- Demand 2 is met: the laws of `trees`, `formats` and `transducer`, put together.
 -- Assumes nothing.
+use Rattle.std.specs.Prelude.{Err, None, Ok, Option, Result, Some}
+use Rattle.trees.specs.Refusal.{outcome_of, Outcome, accepted, refused, done, check, Holds, IsJudged, Judged}
 use Prim.Native.Nat.{ℕ, ◌+◌, ◌*◌, ◌≤◌}
 use native.Mathlib.Decide.{dec_le}
 use mathlib.Core.List.{List}
@@ -10,40 +12,33 @@ use lib.Seq.{sets}
 use Rattle.theory.specs.Transducer.{Transducer, translate}
 use Rattle.theory.proofs.Terms.{conflict}
 use Rattle.trees.specs.Alphabets.{Alphabets, inputs, outputs, alphabet_check}
-use Rattle.formats.specs.Answers.{file_read, ReadsFile, HandsCounts, HandsMarks, file_written, WritesFile}
-use Rattle.trees.specs.Refusal.{Outcome, accepted, refused, done, check, Holds, IsJudged, Judged}
+use Rattle.formats.specs.Answers.{ReadsFile, HandsCounts, HandsMarks, WritesFile}
 use Rattle.trees.specs.declared.refusal.Refusal.{Refusal}
 use Rattle.trees.proofs.Judging.{refuse, pass, accept, accepted_holds, refused_early, must_refuse}
 use Rattle.formats.specs.Sheet.{longest, file, Encodes, Counted, CountedFile, Sheet, sheet_check, parts_check}
-use Rattle.formats.specs.declared.file.FileRead.{FileRead}
-use Rattle.formats.specs.declared.file.FileRead.TheVariants as reading
-use Rattle.formats.specs.declared.file.FileWritten.{FileWritten}
-use Rattle.formats.specs.declared.file.FileWritten.TheVariants as writing
 use Rattle.formats.proofs.Laws.{read_write, write_read}
 use Rattle.formats.proofs.Sheets.{counted_right, encodes_long, parts_at, sheet_unique}
 use Rattle.trees.proofs.Trees.{input_unique}
-use Rattle.transducer.specs.Answers.{translated, Translates}
-use Rattle.transducer.specs.declared.translate.Translation.{Translation}
+use Rattle.transducer.specs.Answers.{Translates}
 use Rattle.transducer.proofs.Laws.{file_output_unique, must_translate, must_refuse_long, must_refuse_deep}
 use Rattle.queries.specs.Answers.{FindsSymbol}
-use Rattle.queries.specs.declared.address.Found.{Found}
 use Rattle.queries.proofs.Laws.{must_find}
 use Rattle.demands.specs.Second.{ReadsParts, Demand2, ReadAndWritten, SewsAndAsks}
 
 -- ---- reader and writer
-undone : (stock s counts bytes before after : List ℕ) (n : ℕ) (r : FileRead) (w : FileWritten) → ReadsFile stock s r → file_read r ≡ accepted n → HandsCounts stock s counts → HandsMarks stock s bytes → longest ≤ length before → WritesFile stock n counts bytes before after w → (file_written w ≡ accepted (length s)) × (after ≡ sets before 0 s)
-undone stock s counts bytes before after n (reading.States m) w R e C B h W =
+undone : (stock s counts bytes before after : List ℕ) (n : ℕ) (r : Result ℕ Refusal) (w : Result ℕ Refusal) → ReadsFile stock s r → outcome_of r ≡ accepted n → HandsCounts stock s counts → HandsMarks stock s bytes → longest ≤ length before → WritesFile stock n counts bytes before after w → (outcome_of w ≡ accepted (length s)) × (after ≡ sets before 0 s)
+undone stock s counts bytes before after n (Ok m) w R e C B h W =
     let x : m ≡ n = cc in
     let u = read_write stock s n counts bytes before after w (rw x at R) C B h W in
-    (ap file_written u.0, u.1)
-undone stock s counts bytes before after n (reading.Refused x) w R e C B h W = conflict (cc)
+    (ap outcome_of u.0, u.1)
+undone stock s counts bytes before after n (Err x) w R e C B h W = conflict (cc)
 
-redone : (stock counts bytes before after : List ℕ) (n k : ℕ) (w : FileWritten) → WritesFile stock n counts bytes before after w → file_written w ≡ accepted k → ReadsParts stock (take k after) n counts bytes
-redone stock counts bytes before after n k (writing.Bytes m) W e =
+redone : (stock counts bytes before after : List ℕ) (n k : ℕ) (w : Result ℕ Refusal) → WritesFile stock n counts bytes before after w → outcome_of w ≡ accepted k → ReadsParts stock (take k after) n counts bytes
+redone stock counts bytes before after n k (Ok m) W e =
     let x : m ≡ k = cc in
     let u = write_read stock n counts bytes before after k (rw x at W) in
-    record { states = λ r R. ap file_read (u.0 r R); counts_are = u.1; marks_are = u.2 }
-redone stock counts bytes before after n k (writing.Refused x) W e = conflict (cc)
+    record { states = λ r R. ap outcome_of (u.0 r R); counts_are = u.1; marks_are = u.2 }
+redone stock counts bytes before after n k (Err x) W e = conflict (cc)
 
 -- ---- what reader and writer refuse
 module _ (ins outs counts bytes : List ℕ) (n : ℕ) (few : length ins ≤ 16) (long : length counts ≡ 2 * (1 + n * length ins)) where
@@ -88,7 +83,7 @@ module _ {A B : Type 0} (Left Left' : Type 0) (Good : A → Type 0) (Good' : B �
   same_number i j l (accepted a) y k (inr (p, inr (w, inr (s, u)))) (inr (p', inr (w', inr (s', v)))) h = conflict (cc)
   same_number i j l (refused m) y k (inr (p, inr (w, inr (s, u)))) (inr (p', inr (w', inr (s', v)))) h = absurd u
 
-refuse_alike : (stock counts bytes before after : List ℕ) (n : ℕ) (r : FileRead) (w : FileWritten) → length counts ≡ 2 * (1 + n * length (inputs stock)) → longest ≤ length before → ReadsFile stock (file n counts bytes) r → WritesFile stock n counts bytes before after w → (k : ℕ) → (file_read r ≡ refused k) ↔ (file_written w ≡ refused k)
+refuse_alike : (stock counts bytes before after : List ℕ) (n : ℕ) (r : Result ℕ Refusal) (w : Result ℕ Refusal) → length counts ≡ 2 * (1 + n * length (inputs stock)) → longest ≤ length before → ReadsFile stock (file n counts bytes) r → WritesFile stock n counts bytes before after w → (k : ℕ) → (outcome_of r ≡ refused k) ↔ (outcome_of w ≡ refused k)
 unfolding IsJudged
 refuse_alike stock counts bytes before after n r w l h R W k = (forth W.verdict, back W.verdict)
   where
@@ -110,22 +105,22 @@ refuse_alike stock counts bytes before after n r w l h R W k = (forth W.verdict,
     sheet : Alphabets stock → ((M : Transducer ℕ) × Encodes ins outs n counts bytes M) → (m : ℕ) × ((M : Transducer ℕ) × Sheet ins outs (file n counts bytes) m M)
     sheet A = encoded_file ins outs counts bytes n A.ins.few l
 
-    forth : IsJudged (after ≡ before) (λ k. (k ≡ length (file n counts bytes)) × (after ≡ sets before 0 (file n counts bytes))) (check 1 (longest ≤ length before) (alphabet_check stock (parts_check stock n counts bytes done))) (file_written w) → file_read r ≡ refused k → file_written w ≡ refused k
+    forth : IsJudged (after ≡ before) (λ k. (k ≡ length (file n counts bytes)) × (after ≡ sets before 0 (file n counts bytes))) (check 1 (longest ≤ length before) (alphabet_check stock (parts_check stock n counts bytes done))) (outcome_of w) → outcome_of r ≡ refused k → outcome_of w ≡ refused k
     forth (inl (f, e, _)) = absurd (f h)
-    forth (inr (_, v)) = same_number _ _ _ _ _ _ _ _ _ parts whole codes sheet 2 4 5 (file_read r) (file_written w) k R.verdict v
+    forth (inr (_, v)) = same_number _ _ _ _ _ _ _ _ _ parts whole codes sheet 2 4 5 (outcome_of r) (outcome_of w) k R.verdict v
 
-    back : IsJudged (after ≡ before) (λ k. (k ≡ length (file n counts bytes)) × (after ≡ sets before 0 (file n counts bytes))) (check 1 (longest ≤ length before) (alphabet_check stock (parts_check stock n counts bytes done))) (file_written w) → file_written w ≡ refused k → file_read r ≡ refused k
+    back : IsJudged (after ≡ before) (λ k. (k ≡ length (file n counts bytes)) × (after ≡ sets before 0 (file n counts bytes))) (check 1 (longest ≤ length before) (alphabet_check stock (parts_check stock n counts bytes done))) (outcome_of w) → outcome_of w ≡ refused k → outcome_of r ≡ refused k
     back (inl (f, e, _)) = absurd (f h)
-    back (inr (_, v)) = same_number _ _ _ _ _ _ _ _ _ whole parts sheet codes 2 4 5 (file_written w) (file_read r) k v R.verdict
+    back (inr (_, v)) = same_number _ _ _ _ _ _ _ _ _ whole parts sheet codes 2 4 5 (outcome_of w) (outcome_of r) k v R.verdict
 
 pub demand_2 : Demand2
 unfolding Holds
 demand_2 = record {
   plan = λ stock sheet design h. let (A, (C, ((n, (M, S)), ((d, I), u)))) = h in (translate M d, record { states = n; machine = M; input = d; is_sheet = S; is_tree = I; given = refl });
   one_plan = λ stock sheet design t t'. file_output_unique;
-  sews = λ stock sheet design before after t r A O J h l. let w = must_translate A O before after r h l J in (ap translated w.0, w.1);
-  too_long = λ stock sheet design before after t r A O J h. let w = must_refuse_long A O before after r h J in (ap translated w.0, w.1);
-  too_deep = λ stock sheet design before after t r A O J h d. let w = must_refuse_deep A O before after r h d J in (ap translated w.0, w.1);
+  sews = λ stock sheet design before after t r A O J h l. let w = must_translate A O before after r h l J in (ap outcome_of w.0, w.1);
+  too_long = λ stock sheet design before after t r A O J h. let w = must_refuse_long A O before after r h J in (ap outcome_of w.0, w.1);
+  too_deep = λ stock sheet design before after t r A O J h d. let w = must_refuse_deep A O before after r h d J in (ap outcome_of w.0, w.1);
   one_design = λ ins s d d'. input_unique;
   one_sheet = λ ins outs s n n' M M' S S'. let u = sheet_unique ins outs s n n' M M' S S' in record { states = u.0; initial = u.3; rhs = u.4 };
   place = λ stock sheet design address t r A O F. must_find A O address r F;
@@ -136,20 +131,20 @@ demand_2 = record {
 
 -- ---- of the functions themselves
 -- a file that is not read is not written
-pub not_read : {stock s before : List ℕ} (r : FileRead) (x : Refusal) → r ≡ reading.Refused x → ReadsFile stock s r → ReadAndWritten stock s before before (writing.Refused x)
+pub not_read : {stock s before : List ℕ} (r : Result ℕ Refusal) (x : Refusal) → r ≡ Err x → ReadsFile stock s r → ReadAndWritten stock s before before (Err x)
 not_read {stock} {s} {before} r x e R = refused_early (alphabet_check stock (sheet_check stock s done)) (check 1 (longest ≤ length before) done) refl (rw e at R)
 
 -- one that is read is
-pub written_again : {stock s counts bytes before after : List ℕ} (r : FileRead) (n : ℕ) → r ≡ reading.States n → ReadsFile stock s r → HandsCounts stock s counts → HandsMarks stock s bytes → (w : FileWritten) → WritesFile stock n counts bytes before after w → ReadAndWritten stock s before after w
+pub written_again : {stock s counts bytes before after : List ℕ} (r : Result ℕ Refusal) (n : ℕ) → r ≡ Ok n → ReadsFile stock s r → HandsCounts stock s counts → HandsMarks stock s bytes → (w : Result ℕ Refusal) → WritesFile stock n counts bytes before after w → ReadAndWritten stock s before after w
 unfolding Holds
 written_again {stock} {s} {counts} {bytes} {before} {after} r n e R C B w W = let h = (accepted_holds (rw e at R)).0 in pass h.0 (pass h.1.0 (pass h.1.1.0 (go (dec_le longest (length before)))))
   where
-    go : Dec (longest ≤ length before) → Judged (after ≡ before) (λ k. (k ≡ length s) × (after ≡ sets before 0 s)) (check 1 (longest ≤ length before) done) (file_written w)
-    go (yes h) = let u = undone stock s counts bytes before after n r w R (ap file_read e) C B h W in rw u.0 (pass h (accept (refl, u.1)))
+    go : Dec (longest ≤ length before) → Judged (after ≡ before) (λ k. (k ≡ length s) × (after ≡ sets before 0 s)) (check 1 (longest ≤ length before) done) (outcome_of w)
+    go (yes h) = let u = undone stock s counts bytes before after n r w R (ap outcome_of e) C B h W in rw u.0 (pass h (accept (refl, u.1)))
     go (no h) = let u = must_refuse done (alphabet_check stock (parts_check stock n counts bytes done)) tt h W in rw u.0 (refuse h u.1)
 
 -- what is sewn, and asked at a place
-pub sewn_and_asked : {stock sheet design address before after : List ℕ} (r : Translation) (q : Found) → Translates stock sheet design before after r → FindsSymbol stock sheet design address q → SewsAndAsks stock sheet design address before after r q
+pub sewn_and_asked : {stock sheet design address before after : List ℕ} (r : Result ℕ Refusal) (q : Result (Option ℕ) Refusal) → Translates stock sheet design before after r → FindsSymbol stock sheet design address q → SewsAndAsks stock sheet design address before after r q
 unfolding Holds
 sewn_and_asked {stock} {sheet} {design} {address} {before} {after} r q J F h =
     let (t, O) = demand_2.plan stock sheet design h in

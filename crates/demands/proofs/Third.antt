@@ -1,5 +1,9 @@
 -- Demand 3 is met: the theorems of `canonical`, `comparison` and `registry`, put together.
 -- Assumes nothing.
+use Rattle.std.specs.Prelude.{Option, Result}
+use Rattle.trees.specs.declared.refusal.Refusal.{Refusal}
+use Rattle.forms.specs.declared.write.Form.{Form}
+use Rattle.witness.specs.declared.witness.Shown.{Shown}
 use Prim.Native.Nat.{ℕ, ◌≤◌}
 use mathlib.Core.List.{List}
 use mathlib.Core.Option.{Option, some}
@@ -9,18 +13,16 @@ use Rattle.theory.proofs.Equivalences.{equivalent_refl}
 use Rattle.trees.specs.Refusal.{Holds}
 use Rattle.formats.specs.Sheet.{longest, file}
 use Rattle.trees.proofs.Judging.{must_accept}
-use Rattle.forms.specs.declared.write.Formed.{Formed}
 use Rattle.canonical.specs.Answers.{NormalFile, Cleans}
 use Rattle.canonical.proofs.Laws.{cleaned, cleaned_exact, clean_accepted, clean_alike, clean_again, sheets_alike}
 use Rattle.witness.specs.Difference.{tree_area, address_area}
 use Rattle.comparison.specs.Answers.{Found, Differ, Compares}
-use Rattle.comparison.specs.declared.compare.Comparison.{Comparison}
 use Rattle.comparison.proofs.Laws.{compare_exact}
 use Rattle.registry.proofs.Questions.{calls_orderly}
 use Rattle.demands.specs.Third.{Accepted, Wrote, SameExactly, AlikeExactly, Judges, Again, Demand3}
 
 -- ---- cleaning
-same : {stock s s' before after before' after' : List ℕ} (r r' : Formed) → Accepted stock s → Accepted stock s' → longest ≤ length before → longest ≤ length before' → Cleans stock s before after r → Cleans stock s' before' after' r' → SameExactly stock s s' after after' r r'
+same : {stock s s' before after before' after' : List ℕ} (r r' : Result Form Refusal) → Accepted stock s → Accepted stock s' → longest ≤ length before → longest ≤ length before' → Cleans stock s before after r → Cleans stock s' before' after' r' → SameExactly stock s s' after after' r r'
 unfolding Holds
 same r r' A A' long long' J J' =
     let w = must_accept (long, A) J in
@@ -37,7 +39,7 @@ same r r' A A' long long' J J' =
 found_differs : {stock s s' tree tree' address address' : List ℕ} (o : Option (ℕ × ℕ × ℕ × ℕ)) → Found stock s s' tree tree' address address' o → (v : ℕ × ℕ × ℕ × ℕ) → o ≡ some v → Differ stock s s' tree tree' address address' v.0 v.1 v.2 v.3
 found_differs {stock} {s} {s'} {tree} {tree'} {address} {address'} o F v e = rw e at F
 
-verdict : {stock s s' tree tree' address address' : List ℕ} (r : Comparison) → Accepted stock s → Accepted stock s' → tree_area ≤ length tree → address_area ≤ length address → Compares stock s s' tree tree' address address' r → AlikeExactly stock s s' tree tree' address address' r
+verdict : {stock s s' tree tree' address address' : List ℕ} (r : Result (Option Shown) Refusal) → Accepted stock s → Accepted stock s' → tree_area ≤ length tree → address_area ≤ length address → Compares stock s s' tree tree' address address' r → AlikeExactly stock s s' tree tree' address address' r
 unfolding Holds
 verdict r A A' h h' J =
     let w = must_accept ((h, h'), (A.0, (A.1.0, (A.1.1.0, (A'.1.0, (A'.1.1.0, (A.1.1.1.0, (A'.1.1.1.0, tt)))))))) J in
@@ -70,7 +72,7 @@ module _ {stock s : List ℕ} {k : ℕ} {counts bytes : List ℕ} (F : NormalFil
     cleans_to_itself = λ r long J. let w = must_accept (long, clean_accepted F) J in let C = cleaned r J w.1.0 in record { values = w.0; answer = w.1.0; bytes = C.begins ∙ clean_again F C.normal };
   }
 
-clean_sheet : {stock s before after x : List ℕ} (r : Formed) → Cleans stock s before after r → Wrote r after x → Again stock s x
+clean_sheet : {stock s before after x : List ℕ} (r : Result Form Refusal) → Cleans stock s before after r → Wrote r after x → Again stock s x
 clean_sheet {stock} {s} r J W = let C = cleaned r J W.answer in rw (sym W.bytes ∙ C.begins) (file_again C.normal)
 
 -- ---- demand 3
@@ -83,5 +85,5 @@ demand_3 = record {
 }
 
 -- ---- of the functions themselves
-pub judges : {stock s s' area area' other other' tree tree' address address' : List ℕ} (r r' : Formed) (v : Comparison) → Cleans stock s area area' r → Cleans stock s' other other' r' → Compares stock s s' tree tree' address address' v → Judges stock s s' (area, area') (other, other') (tree, tree') (address, address') r r' v
+pub judges : {stock s s' area area' other other' tree tree' address address' : List ℕ} (r r' : Result Form Refusal) (v : Result (Option Shown) Refusal) → Cleans stock s area area' r → Cleans stock s' other other' r' → Compares stock s s' tree tree' address address' v → Judges stock s s' (area, area') (other, other') (tree, tree') (address, address') r r' v
 judges r r' v J J' C A A' l l' h h' = (same r r' A A' l l' J J', verdict v A A' h h' C)

@@ -1,5 +1,7 @@
 -- Request F-4 is met.
 -- Assumes nothing.
+use Rattle.std.specs.Prelude.{Err, None, Ok, Option, Result, Some}
+use Rattle.trees.specs.Refusal.{outcome_of, accepted, done, check, Holds, Judged}
 use Prim.Native.Nat.{ℕ, ◌≤◌}
 use native.Mathlib.Decide.{dec_le}
 use native.Mathlib.Omega.{arith}
@@ -10,32 +12,29 @@ use lib.Seq.{sets, length-take-le}
 use Rattle.theory.specs.Term.{Tree}
 use Rattle.trees.specs.Alphabets.{Alphabets, outputs, alphabet_check}
 use Rattle.trees.specs.Code.{code}
-use Rattle.trees.specs.Refusal.{accepted, done, check, Holds, Judged}
 use Rattle.trees.specs.declared.refusal.Refusal.{Refusal}
 use Rattle.trees.proofs.Judging.{refuse, pass, accept, accepted_holds, refused_early, must_refuse}
-use Rattle.xml.specs.Answers.{Form, InForm, forms_check, converted, Converts, WritesXml, ReadsXml}
+use Rattle.xml.specs.Answers.{Form, InForm, forms_check, Converts, WritesXml, ReadsXml}
 use Rattle.xml.specs.Xml.{xml, OutputTree}
-use Rattle.xml.specs.declared.write.Converted.{Converted}
-use Rattle.xml.specs.declared.write.Converted.TheVariants.{Length, Refused}
 use Rattle.xml.proofs.Collecting.{code_size}
 use Rattle.xml.proofs.Laws.{Distinct, code_distinct, xml_distinct, conversion, converted_so, stands_there, was_formed, longest_xml}
 use Rattle.demands.specs.Xml.{Gave, WriterGives, Request4, ReadsBack}
 
 -- ---- any conversion between two forms
 -- the stock of one that is accepted
-was_stock : (from to : Form) (stock s area area' : List ℕ) (r : Converted) (n : ℕ) → Converts from to stock s area area' r → converted r ≡ accepted n → Alphabets stock
+was_stock : (from to : Form) (stock s area area' : List ℕ) (r : Result ℕ Refusal) (n : ℕ) → Converts from to stock s area area' r → outcome_of r ≡ accepted n → Alphabets stock
 unfolding Holds
 was_stock from to stock s area area' r n C e = (accepted_holds (rw e at C)).0.0
 
--- what an output tree is converted to
-gives : (from to : Form) (stock : List ℕ) → Alphabets stock → Distinct from (outputs stock) → (s area area' : List ℕ) (r : Converted) → Converts from to stock s area area' r → (t : Tree) → InForm from stock s t → length (to t) ≤ length area → Gave r area' (to t)
+-- what an output tree is outcome_of to
+gives : (from to : Form) (stock : List ℕ) → Alphabets stock → Distinct from (outputs stock) → (s area area' : List ℕ) (r : Result ℕ Refusal) → Converts from to stock s area area' r → (t : Tree) → InForm from stock s t → length (to t) ≤ length area → Gave r area' (to t)
 gives from to stock A D s area area' r C t F h =
     let w = converted_so from to stock A D s area area' r C t F h in
     record { answer = w.0; bytes = ap (take (length (to t))) w.1 ∙ stands_there area (to t) h }
 
 -- and back
-undone : (from to : Form) (stock : List ℕ) → (Alphabets stock → Distinct from (outputs stock)) → (Alphabets stock → Distinct to (outputs stock)) → (s before after area area' : List ℕ) (n : ℕ) (r r' : Converted)
-    → Converts from to stock s before after r → converted r ≡ accepted n → Converts to from stock (take n after) area area' r' → length s ≤ length area → Gave r' area' s
+undone : (from to : Form) (stock : List ℕ) → (Alphabets stock → Distinct from (outputs stock)) → (Alphabets stock → Distinct to (outputs stock)) → (s before after area area' : List ℕ) (n : ℕ) (r r' : Result ℕ Refusal)
+    → Converts from to stock s before after r → outcome_of r ≡ accepted n → Converts to from stock (take n after) area area' r' → length s ≤ length area → Gave r' area' s
 undone from to stock D E s before after area area' n r r' C e C' h =
     let A = was_stock from to stock s before after r n C e in
     let w = was_formed from to stock (D A) s before after r n C e in
@@ -54,7 +53,7 @@ few_symbols : {outs : List ℕ} {t : Tree} → OutputTree outs t → length (cod
 few_symbols {outs} {t} O = omega (arith, code_size outs t O.ranked, O.small)
 
 -- an accepted writing gives the text that stands at the start of its area
-text_given : {stock s before after : List ℕ} {n : ℕ} (r : Converted) → WritesXml stock s before after r → converted r ≡ accepted n → WriterGives stock (take n after)
+text_given : {stock s before after : List ℕ} {n : ℕ} (r : Result ℕ Refusal) → WritesXml stock s before after r → outcome_of r ≡ accepted n → WriterGives stock (take n after)
 text_given {stock} {s} {before} {after} {n} r C e =
     let A = was_stock code xml stock s before after r n C e in
     let w = was_formed code xml stock (codes_apart A) s before after r n C e in
@@ -71,9 +70,9 @@ module _ {stock text : List ℕ} (A : Alphabets stock) where
         plan = code t;
         before = xml t;
         after = sets (xml t) 0 (xml t);
-        r = Length (length (xml t));
+        r = Ok (length (xml t));
         promise = P;
-        gave = subst (λ x. Gave (Length (length (xml t))) (sets (xml t) 0 (xml t)) x) F.is (gives code xml stock A (codes_apart A) (code t) (xml t) (sets (xml t) 0 (xml t)) (Length (length (xml t))) P t C (omega arith));
+        gave = subst (λ x. Gave (Ok (length (xml t))) (sets (xml t) 0 (xml t)) x) F.is (gives code xml stock A (codes_apart A) (code t) (xml t) (sets (xml t) 0 (xml t)) (Ok (length (xml t))) P t C (omega arith));
       }
 
   reader_takes : WriterGives stock text → (t : Tree) × InForm xml stock text t
@@ -100,37 +99,37 @@ xml_plans = record {
 
 -- ---- of the functions themselves
 -- the promise of an answer that is known
-pub as_written : {stock s text text' : List ℕ} (r : Converted) (n : ℕ) → r ≡ Length n → WritesXml stock s text text' r → WritesXml stock s text text' (Length n)
+pub as_written : {stock s text text' : List ℕ} (r : Result ℕ Refusal) (n : ℕ) → r ≡ Ok n → WritesXml stock s text text' r → WritesXml stock s text text' (Ok n)
 as_written r n e C = rw e at C
 
-pub as_refused : {stock s text text' : List ℕ} (r : Converted) (x : Refusal) → r ≡ Refused x → WritesXml stock s text text' r → WritesXml stock s text text' (Refused x)
+pub as_refused : {stock s text text' : List ℕ} (r : Result ℕ Refusal) (x : Refusal) → r ≡ Err x → WritesXml stock s text text' r → WritesXml stock s text text' (Err x)
 as_refused r x e C = rw e at C
 
 -- a plan that is not written is not read back
-pub not_written : {stock s text text' before : List ℕ} (r : Converted) (x : Refusal) → r ≡ Refused x → WritesXml stock s text text' r → ReadsBack stock s text before before (Refused x)
+pub not_written : {stock s text text' before : List ℕ} (r : Result ℕ Refusal) (x : Refusal) → r ≡ Err x → WritesXml stock s text text' r → ReadsBack stock s text before before (Err x)
 not_written {stock} {s} {text} r x e C = refused_early (alphabet_check stock (forms_check code xml stock s text done)) (check 12 _ done) refl (rw e at C)
 
 -- one that is written stands in its area,
-pub text_inside : {stock s text text' : List ℕ} (r : Converted) (n : ℕ) → r ≡ Length n → WritesXml stock s text text' r → n ≤ length text'
+pub text_inside : {stock s text text' : List ℕ} (r : Result ℕ Refusal) (n : ℕ) → r ≡ Ok n → WritesXml stock s text text' r → n ≤ length text'
 text_inside {stock} {s} {text} {text'} r n e C =
-    let A = was_stock code xml stock s text text' r n C (ap converted e) in
-    let w = was_formed code xml stock (codes_apart A) s text text' r n C (ap converted e) in
+    let A = was_stock code xml stock s text text' r n C (ap outcome_of e) in
+    let w = was_formed code xml stock (codes_apart A) s text text' r n C (ap outcome_of e) in
     omega (arith, w.1.1, ap length w.1.2, length-take n text')
 
-pub text_long : {stock s text text' : List ℕ} (r : Converted) (n : ℕ) → r ≡ Length n → WritesXml stock s text text' r → n ≡ length (take n text')
+pub text_long : {stock s text text' : List ℕ} (r : Result ℕ Refusal) (n : ℕ) → r ≡ Ok n → WritesXml stock s text text' r → n ≡ length (take n text')
 text_long {stock} {s} {text} {text'} r n e C = sym (length-take-le n text' (text_inside r n e C))
 
 -- and is read back
-pub read_back : {stock s text text' before after : List ℕ} (r : Converted) (n : ℕ) → r ≡ Length n → WritesXml stock s text text' r → (r' : Converted) → ReadsXml stock (take n text') before after r' → ReadsBack stock s text before after r'
+pub read_back : {stock s text text' before after : List ℕ} (r : Result ℕ Refusal) (n : ℕ) → r ≡ Ok n → WritesXml stock s text text' r → (r' : Result ℕ Refusal) → ReadsXml stock (take n text') before after r' → ReadsBack stock s text before after r'
 unfolding Holds
 read_back {stock} {s} {text} {text'} {before} {after} r n e C r' R =
     let h = (accepted_holds (rw e at C)).0 in
     let A = h.0 in
-    let w = was_formed code xml stock (codes_apart A) s text text' r n C (ap converted e) in
+    let w = was_formed code xml stock (codes_apart A) s text text' r n C (ap outcome_of e) in
     let F : InForm xml stock (take n text') w.0 = record { output = w.1.0.output; is = sym w.1.2 } in
     pass A (pass h.1.0 (pass h.1.1.0 (go A w.0 w.1.0 F (dec_le (length s) (length before)))))
   where
-    go : Alphabets stock → (t : Tree) → InForm code stock s t → InForm xml stock (take n text') t → Dec (length s ≤ length before) → Judged (after ≡ before) (λ n. (n ≡ length s) × (after ≡ sets before 0 s)) (check 12 (length s ≤ length before) done) (converted r')
+    go : Alphabets stock → (t : Tree) → InForm code stock s t → InForm xml stock (take n text') t → Dec (length s ≤ length before) → Judged (after ≡ before) (λ n. (n ≡ length s) × (after ≡ sets before 0 s)) (check 12 (length s ≤ length before) done) (outcome_of r')
     go A t F G (yes h) =
         let w = converted_so xml code stock A (texts_apart A) (take n text') before after r' R t G (omega (arith, ap length F.is)) in
         rw w.0 (pass h (accept (ap length F.is, w.1 ∙ ap (sets before 0) F.is)))

@@ -1,20 +1,19 @@
 -- Request F-10 of document 02, nothing is earlier than a clean sheet, of whatever keeps the promise of cleaning: each field is a sentence of its text. Blanks are variables, of names of any type A, all different or not.
-use Rattle.std.specs.Prelude.{ℕ, ◌<◌, List, ◌≡◌, length, take}
+use Rattle.std.specs.Prelude.{Option, Result, ℕ, ◌<◌, List, ◌≡◌, length, take}
+use Rattle.trees.specs.declared.refusal.Refusal.{Refusal}
+use Rattle.forms.specs.declared.write.Form.{Form}
+use Rattle.trees.specs.Refusal.{outcome_of, accepted}
 use Rattle.std.proofs.lemmas.List.Edits.{sets}
 use Rattle.theory.specs.Prefix.{Prefix}
 use Rattle.theory.specs.Term.{Term, var, node, none, bind, Tree, mapT}
 use Rattle.theory.specs.Transducer.{Transducer, translate}
 use Rattle.trees.specs.Alphabets.{Alphabets, inputs, outputs}
 use Rattle.trees.specs.Code.{Ranked}
-use Rattle.trees.specs.Refusal.{accepted}
-use Rattle.formats.specs.Answers.{file_read, ReadsFile}
+use Rattle.formats.specs.Answers.{ReadsFile}
 use Rattle.formats.specs.Samples.{S, T, T'}
 use Rattle.formats.specs.Sheet.{Sheet}
-use Rattle.formats.specs.declared.file.FileRead.{FileRead}
-use Rattle.transducer.specs.Answers.{translated, Translates}
-use Rattle.transducer.specs.declared.translate.Translation.{Translation}
-use Rattle.forms.specs.Answers.{form_of}
-use Rattle.forms.specs.declared.write.Formed.{Formed}
+use Rattle.transducer.specs.Answers.{Translates}
+
 use Rattle.canonical.specs.Answers.{Cleans}
 use Rattle.partial.specs.AsSymbol.{blank_stock, BlankSheet}
 use Rattle.partial.specs.Partial.{PartialTree, Lays, NothingEarlier, whole, partial_code}
@@ -25,13 +24,13 @@ pub record CleansTo (stock s x : List ℕ) : Type 0 where
   -- the area before and after the call, and the answer
   pub before : List ℕ
   pub after : List ℕ
-  pub answer : Formed
+  pub answer : Result Form Refusal
   pub promise : Cleans stock s before after answer
   pub wrote : Wrote answer after x
 
 pub record Request10 : Type 1 where
   -- An accepted cleaning is such a call, of what stands at the start of its area.
-  pub cleans : {stock s before after : List ℕ} {v : ℕ × ℕ × ℕ} (r : Formed) → Cleans stock s before after r → form_of r ≡ accepted v → CleansTo stock s (take v.2 after)
+  pub cleans : {stock s before after : List ℕ} {v : ℕ × ℕ × ℕ} (r : Result Form Refusal) → Cleans stock s before after r → outcome_of r ≡ accepted v → CleansTo stock s (take v.2 after)
   -- What a sheet lays is defined for every sheet that 4 and 5 accept and every design with any number of blanks, and is one.
   pub lays : {A : Type 0} {stock s : List ℕ} {n : ℕ} {M : Transducer ℕ} → Sheet (inputs stock) (outputs stock) s n M → (d : Term A) → PartialTree (inputs stock) d → (t : Term (A × ℕ)) × Lays stock s d t
   pub lays_one : {A : Type 0} {stock s : List ℕ} {d : Term A} {t t' : Term (A × ℕ)} → Alphabets stock → Lays stock s d t → Lays stock s d t' → t ≡ t'
@@ -49,10 +48,10 @@ pub record Request10 : Type 1 where
   pub all_sure : {A B : Type 0} {stock s x : List ℕ} {n : ℕ} {M : Transducer ℕ} {d : Term A} {u : Term (A × ℕ)} {h : Term B} → CleansTo stock s x → Sheet (inputs stock) (outputs stock) s n M → Lays stock x d u
       → ((f : A → Tree) → ((y : A) → Ranked (λ z. ⊥) (inputs stock) (f y)) → Prefix h (translate M (bind d f))) → Prefix h u
   -- Two sheets that the reader accepts, of as many passes, the second with a line more for each, are such a pair as is named next.
-  pub blank_sheet : {stock s x : List ℕ} {n : ℕ} (r r' : FileRead) → ReadsFile stock s r → file_read r ≡ accepted n → ReadsFile (blank_stock stock) x r' → file_read r' ≡ accepted n
+  pub blank_sheet : {stock s x : List ℕ} {n : ℕ} (r r' : Result ℕ Refusal) → ReadsFile stock s r → outcome_of r ≡ accepted n → ReadsFile (blank_stock stock) x r' → outcome_of r' ≡ accepted n
       → ((M W : Transducer ℕ) → Sheet (inputs stock) (outputs stock) s n M → Sheet (inputs (blank_stock stock)) (outputs (blank_stock stock)) x n W
       → (W.initial ≡ M.initial) × ((q a : ℕ) → q < n → a < length (inputs stock) → W.rhs q a ≡ M.rhs q a) × ((q : ℕ) → q < n → W.rhs q (length (inputs stock)) ≡ node (length (outputs stock)) none))
       → BlankSheet stock s x
   -- Sewing shows what is laid: with a part kind more for the blanks and a block kind more for the open ends, both without places, and for each pass a line more, the open end on the blank, a sewing that is accepted has written it.
-  pub sewn : {A : Type 0} {stock s x before after : List ℕ} {k : ℕ} {d : Term A} {t : Term (A × ℕ)} (r : Translation) → Alphabets stock → BlankSheet stock s x → Lays stock s d t
-      → Translates (blank_stock stock) x (partial_code (length (inputs stock)) d) before after r → translated r ≡ accepted k → after ≡ sets before 0 (partial_code (length (outputs stock)) t)
+  pub sewn : {A : Type 0} {stock s x before after : List ℕ} {k : ℕ} {d : Term A} {t : Term (A × ℕ)} (r : Result ℕ Refusal) → Alphabets stock → BlankSheet stock s x → Lays stock s d t
+      → Translates (blank_stock stock) x (partial_code (length (inputs stock)) d) before after r → outcome_of r ≡ accepted k → after ≡ sets before 0 (partial_code (length (outputs stock)) t)

@@ -13,37 +13,36 @@ ghost use Rattle.demands.specs.Third.{Judges};
 ghost use Rattle.demands.specs.Joining.{file_in, JoinsThree};
 ghost use Rattle.demands.specs.Xml.{ReadsBack};
 
+use trees::refusal::Refusal;
 use canonical::normal::clean;
-use comparison::compare::{Comparison, compare};
-use formats::file::{
-    FileRead, FileWritten, read_transducer, transducer_counts, transducer_marks, write_transducer,
-};
-use forms::write::Formed;
+use comparison::compare::compare;
+use formats::file::{read_transducer, transducer_counts, transducer_marks, write_transducer};
+use forms::write::Form;
 use join::join::join;
-use queries::address::{Found, symbol_at};
-use transducer::translate::{Translation, translate};
+use queries::address::symbol_at;
+use transducer::translate::translate;
 use xml::read::read_xml;
-use xml::write::{Converted, write_xml};
+use xml::write::write_xml;
 
 // Demand 2: reads a file and writes it again.
-pub fn read_and_write(stock: &[u8], sheet: &[u8], area: &mut [u8]) -> FileWritten
+pub fn read_and_write(stock: &[u8], sheet: &[u8], area: &mut [u8]) -> Result<usize, Refusal>
     ensures { ReadAndWritten stock.now sheet.now area.old area.new result }
 {
     match read_transducer(stock, sheet) {
-        FileRead::States(n) => {
+        Ok(n) => {
             let counts = transducer_counts(stock, sheet);
             let marks = transducer_marks(stock, sheet);
             write_transducer(stock, n, counts, marks, area)
         }
-        FileRead::Refused(r) => FileWritten::Refused(r),
+        Err(r) => Err(r),
     }
 }
 
 // What sewing and the place reader answer.
 #[derive(Drop)]
 pub struct Sewing {
-    pub sewn: Translation,
-    pub asked: Found,
+    pub sewn: Result<usize, Refusal>,
+    pub asked: Result<Option<usize>, Refusal>,
 }
 
 // Demand 2: sews a design, and asks for the block at a place of its plan.
@@ -66,9 +65,9 @@ pub fn sew_and_ask(
 // What the three calls answer.
 #[derive(Drop)]
 pub struct Judgement {
-    pub first: Formed,
-    pub second: Formed,
-    pub verdict: Comparison,
+    pub first: Result<Form, Refusal>,
+    pub second: Result<Form, Refusal>,
+    pub verdict: Result<Option<Shown>, Refusal>,
 }
 
 // Demand 3: cleans two sheets under one stock, each into its area, and compares them.
@@ -99,8 +98,8 @@ pub fn judge(
 // What the writer of XML and the reader answer.
 #[derive(Drop)]
 pub struct ReadBack {
-    pub written: Converted,
-    pub read: Converted,
+    pub written: Result<usize, Refusal>,
+    pub read: Result<usize, Refusal>,
 }
 
 // Request F-4: writes a plan as XML, and reads it back.
@@ -110,22 +109,22 @@ pub fn write_and_read(stock: &[u8], plan: &[u8], text: &mut [u8], area: &mut [u8
 {
     let w = write_xml(stock, plan, text);
     match w {
-        Converted::Length(n) => {
+        Ok(n) => {
             let r = read_xml(stock, &text[..n], area);
             ReadBack {
                 written: w,
                 read: r,
             }
         }
-        Converted::Refused(x) => ReadBack {
+        Err(x) => ReadBack {
             written: w,
-            read: Converted::Refused(x),
+            read: Err(x),
         },
     }
 }
 
 // The file that a call wrote to the start of this area; no byte, where it was refused.
-fn file_in(r: Formed, area: &[u8]) -> &[u8]
+fn file_in(r: Result<Form, Refusal>, area: &[u8]) -> &[u8]
     ensures { result.now ≡ file_in r area.now }
 {
     match r {
@@ -135,7 +134,7 @@ fn file_in(r: Formed, area: &[u8]) -> &[u8]
             }
             &area[..n]
         }
-        Formed::Refused(_) => &area[..0],
+        Err(_) => &area[..0],
     }
 }
 
@@ -143,11 +142,11 @@ fn file_in(r: Formed, area: &[u8]) -> &[u8]
 fn join_after(
     first: &[u8],
     second: &[u8],
-    r: Formed,
+    r: Result<Form, Refusal>,
     area: &[u8],
     sheet: &[u8],
     to: &mut [u8],
-) -> Formed
+) -> Result<Form, Refusal>
     ensures { Joins first.now second.now (file_in r area.now) sheet.now to.old to.new result }
 {
     join(first, second, file_in(r, area), sheet, to)
@@ -158,10 +157,10 @@ fn join_before(
     first: &[u8],
     second: &[u8],
     sheet: &[u8],
-    r: Formed,
+    r: Result<Form, Refusal>,
     area: &[u8],
     to: &mut [u8],
-) -> Formed
+) -> Result<Form, Refusal>
     ensures { Joins first.now second.now sheet.now (file_in r area.now) to.old to.new result }
 {
     join(first, second, sheet, file_in(r, area), to)
@@ -170,10 +169,10 @@ fn join_before(
 // What four joinings of three sheets answer: the first with the second, and that with the third; the second with the third, and the first with that.
 #[derive(Drop)]
 pub struct BothWays {
-    pub first: Formed,
-    pub left: Formed,
-    pub second: Formed,
-    pub right: Formed,
+    pub first: Result<Form, Refusal>,
+    pub left: Result<Form, Refusal>,
+    pub second: Result<Form, Refusal>,
+    pub right: Result<Form, Refusal>,
 }
 
 // Request F-9: joins three sheets, under the stocks a, b and c, both ways; ab and bc are the stocks of the joined sheets between.

@@ -1,5 +1,6 @@
 -- One body more: written behind the others, it leaves what is there.
 -- Assumes nothing.
+use Rattle.std.specs.Prelude.{Err, None, Ok, Option, Result, Some}
 use Prim.Native.Nat.{ℕ, suc, ◌+◌, ◌-◌, ◌*◌, ◌%◌, ◌≤◌, ◌<◌}
 use native.Mathlib.Decide.{ℕ_discrete, dec_lt}
 use native.Mathlib.Omega.{arith}
@@ -19,7 +20,6 @@ use Rattle.formats.proofs.Pairs.{row_less}
 use Rattle.discovery.specs.Inner.Letters.{spelt}
 use Rattle.discovery.specs.Inner.Queue.{marks_by, mark_by}
 use Rattle.discovery.specs.Inner.Bodies.{BodyAt, BodiesBefore, AddsBody}
-use Rattle.forms.specs.declared.write.FormSize.TheVariants.{States}
 use Rattle.discovery.proofs.Queues.{marks_kept}
 
 -- ---- marks written from mark number at on
@@ -76,7 +76,7 @@ module _ {ins starts out list place : List ℕ} {E : Transducer ℕ} {w b met : 
 
 -- ---- a body more
 module _ {ins starts out list place starts' out' list' place' s : List ℕ} {E : Transducer ℕ} {w b met n : ℕ}
-    (G : BodiesBefore ins E w b starts out list place met) (A : AddsBody s b starts out list place met starts' out' list' place' (States n)) (t : Term (ℕ × ℕ)) (spelled : s ≡ spelt t) (some : 1 ≤ length s) (room : b + 1 < 2050) where
+    (G : BodiesBefore ins E w b starts out list place met) (A : AddsBody s b starts out list place met starts' out' list' place' (Some n)) (t : Term (ℕ × ℕ)) (spelled : s ≡ spelt t) (some : 1 ≤ length s) (room : b + 1 < 2050) where
   old_start : (j : ℕ) → j ≤ b → get_or starts' j 0 ≡ get_or starts j 0
   old_start j h = ap (λ l. get_or l j 0) (A.ended n refl) ∙ get_or-set_other starts (b + 1) j (get_or starts b 0 + length s) 0 (λ e. omega arith)
 

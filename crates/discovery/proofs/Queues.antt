@@ -1,5 +1,6 @@
 -- Laws of the states met: entering a state, writing letters as marks, and the letters of a term.
 -- Assumes nothing.
+use Rattle.std.specs.Prelude.{Err, None, Ok, Option, Result, Some}
 use Prim.Native.Nat.{ℕ, suc, ◌+◌, ◌-◌, ◌*◌, ◌/◌, ◌%◌, ◌≤◌, ◌<◌}
 use native.Mathlib.Decide.{ℕ_discrete, dec_lt}
 use native.Mathlib.Numerals.{add-one}
@@ -30,7 +31,6 @@ use Rattle.formats.proofs.Writing.{sets-append}
 use Rattle.discovery.specs.Inner.Letters.{call_letter, spelt}
 use Rattle.discovery.specs.Inner.Queue.{Queue, Entered, met_of, Copied, mark_if, mark_by, marks_by, Letter, Sayable, call_if, letter_calls}
 use Rattle.discovery.specs.Inner.Bodies.{AddsBody}
-use Rattle.forms.specs.declared.write.FormSize.TheVariants.{States, Over}
 
 -- ---- an element of the beginning of a list
 -- each state met stands in the list of them
@@ -273,7 +273,7 @@ module _ {list place out list' place' out' : List ℕ} {met at met' : ℕ} (s : 
 
 -- ---- a body more
 -- it is over the limits
-pub adds_over : {s starts out list place starts' out' list' place' : List ℕ} {b met : ℕ} → (64 < length s) ⊎ (8192 < get_or starts b 0 + length s) ⊎ ((L : List ℕ) × (ReadCalls (letter_calls s) (met_of list met) L × (128 < length L))) → AddsBody s b starts out list place met starts' out' list' place' Over
+pub adds_over : {s starts out list place starts' out' list' place' : List ℕ} {b met : ℕ} → (64 < length s) ⊎ (8192 < get_or starts b 0 + length s) ⊎ ((L : List ℕ) × (ReadCalls (letter_calls s) (met_of list met) L × (128 < length L))) → AddsBody s b starts out list place met starts' out' list' place' None
 adds_over o = record {
   over = λ e. o;
   short = λ n e. conflict (cc);
@@ -292,7 +292,7 @@ module _ {s out list place out' list' place' : List ℕ} {met at n : ℕ} (C : C
   over_states h = (met_of list' n, (C.read, omega (arith, length-take-le n list' (omega (arith, C.queue.few, C.queue.long)))))
 
   -- it is within them
-  pub adds_body : {starts : List ℕ} {b : ℕ} → at ≡ get_or starts b 0 → length s ≤ 64 → at + length s ≤ 8192 → n ≤ 128 → AddsBody s b starts out list place met (set starts (b + 1) (at + length s)) out' list' place' (States n)
+  pub adds_body : {starts : List ℕ} {b : ℕ} → at ≡ get_or starts b 0 → length s ≤ 64 → at + length s ≤ 8192 → n ≤ 128 → AddsBody s b starts out list place met (set starts (b + 1) (at + length s)) out' list' place' (Some n)
   adds_body e h g l = record {
     over = λ r. conflict (cc);
     short = λ m r. let z : n ≡ m = cc in (h, omega arith, omega arith);

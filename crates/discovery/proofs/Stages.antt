@@ -1,5 +1,7 @@
 -- The stages of discovery: the right-hand sides of the states before p, and those of p for the symbols below a, have been read.
 -- Assumes nothing.
+use Rattle.std.specs.Prelude.{Err, None, Ok, Option, Result, Some}
+use Rattle.trees.specs.declared.refusal.Refusal.{Refusal}
 use Prim.Native.Nat.{ℕ, ◌+◌, ◌-◌, ◌*◌, ◌≤◌, ◌<◌}
 use native.Mathlib.Nat.{suc-mul, mul-le-mul}
 use native.Mathlib.Numerals.{add-one}
@@ -29,8 +31,6 @@ use Rattle.discovery.specs.Inner.Letters.{spelt}
 use Rattle.discovery.specs.Inner.Queue.{Sayable, met_of, letter_calls, Queue}
 use Rattle.discovery.specs.Inner.Bodies.{BodiesBefore, AddsBody}
 use Rattle.discovery.specs.Inner.Discovering.{ValidCall, ByNumbers, FindsRhs, Empty, Found}
-use Rattle.forms.specs.declared.write.FormSize.{FormSize}
-use Rattle.forms.specs.declared.write.FormSize.TheVariants.{States}
 use Rattle.discovery.proofs.Adding.{initial_added, rhs_added}
 use Rattle.discovery.proofs.Queues.{calls_spelt, sayable_spelt, spelt_length, get_take, take_get}
 use Rattle.discovery.proofs.Ranks.{ranked_all, ranked_bind}
@@ -116,7 +116,7 @@ module _ {ins outs : List ℕ} {w : ℕ} {E : Transducer ℕ} {Valid : ℕ → T
   }
 
   -- the initial term has been read
-  pub found_initial : {starts' out list place starts'' out'' list'' place'' s : List ℕ} {n : ℕ} → Empty w starts' out list place → AddsBody s 0 starts' out list place 0 starts'' out'' list'' place'' (States n)
+  pub found_initial : {starts' out list place starts'' out'' list'' place'' s : List ℕ} {n : ℕ} → Empty w starts' out list place → AddsBody s 0 starts' out list place 0 starts'' out'' list'' place'' (Some n)
       → s ≡ spelt E.initial → Found ins E w 0 starts'' out'' list'' place'' n
   found_initial {n = n} M A e =
       let t = E.initial in
@@ -163,7 +163,7 @@ module _ {ins outs : List ℕ} {w : ℕ} {E : Transducer ℕ} {Valid : ℕ → T
       stage_read m R = rw (add-one a) (read_rhs (T.read m) (children_of_lem ins a there) (read_one X c a stage_state there R))
 
       -- a right-hand side more
-      pub stage_next : {starts'' out'' list'' place'' s : List ℕ} {r : FormSize} {n : ℕ} → AddsBody s (body_number ins p a) starts' out list place met starts'' out'' list'' place'' r → r ≡ States n
+      pub stage_next : {starts'' out'' list'' place'' s : List ℕ} {r : Option ℕ} {n : ℕ} → AddsBody s (body_number ins p a) starts' out list place met starts'' out'' list'' place'' r → r ≡ Some n
           → s ≡ spelt (E.rhs c a) → Stage ins E w p c (a + 1) L starts'' out'' list'' place'' n
       stage_next {n = n} R x e =
           let A = rw x at R in

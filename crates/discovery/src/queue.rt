@@ -1,9 +1,9 @@
 // A transducer, body by body: its states are numbered as they are met.
 ghost use Rattle.std.specs.Prelude.{◌+◌, ◌*◌, ◌≤◌, ◌<◌, [], ◌∷◌, ◌≡◌, length, get_or};
-ghost use Rattle.discovery.specs.Inner.Queue.{Queue, Entered, Sayable, Copied};
+ghost use Rattle.discovery.specs.Inner.Queue.{Queue, Result<usize, Refusal>, Sayable, Copied};
 ghost use Rattle.discovery.specs.Inner.Bodies.{AddsBody};
 
-use forms::write::FormSize;
+use trees::refusal::Refusal;
 use trees::bytes::number;
 
 // The letters of the calls on a child.
@@ -19,7 +19,7 @@ pub fn letter(x: u32) -> usize
 // Gives state c the next number, unless it has one, and says how many states have one.
 pub fn enter(list: &mut [u16], place: &mut [u8], met: usize, c: usize) -> usize
     requires { Queue list.old place.old met × (met < 192) × (c < length place.old) × (c < 65536) }
-    ensures { Entered list.old place.old met c list.new place.new result }
+    ensures { Result<usize, Refusal> list.old place.old met c list.new place.new result }
 {
     if place[c] > 0 {
         return met;
@@ -83,21 +83,21 @@ pub fn add_body(
     list: &mut [u16],
     place: &mut [u8],
     met: usize,
-) -> FormSize
+) -> Option<usize>
     requires { Queue list.old place.old met × (met ≤ 128) × Sayable (length place.old) s.now × (b + 1 < length starts.old) × (get_or starts.old b 0 ≤ 8192) × (length out.old ≡ 16384) }
     ensures { AddsBody s.now b starts.old out.old list.old place.old met starts.new out.new list.new place.new result }
 {
     let at = number(starts[b]);
     if s.len() > 64 {
-        return FormSize::Over;
+        return None;
     }
     if at + s.len() > 8192 {
-        return FormSize::Over;
+        return None;
     }
     let n = copy_marks(s, list, place, met, out, at);
     if n > 128 {
-        return FormSize::Over;
+        return None;
     }
     starts[b + 1] = (at + s.len()) as u16;
-    FormSize::States(n)
+    Some(n)
 }

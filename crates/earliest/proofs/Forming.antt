@@ -1,5 +1,9 @@
 -- The earliest form from its ends: what is read from the table of the common prefixes is the trimmed form of the transducer; of the parts of a file, and of a file.
 -- Assumes nothing.
+use Rattle.std.specs.Prelude.{Err, None, Ok, Option, Result, Some}
+use Rattle.trees.specs.declared.refusal.Refusal.{Refusal}
+use Rattle.forms.specs.declared.write.Form.{Form}
+use Rattle.trees.specs.Refusal.{outcome_of, done, check, IsJudged, Holds, Judged}
 use Prim.Native.Nat.{ℕ, ◌-◌, ◌≤◌, ◌<◌}
 use native.Mathlib.Omega.{arith}
 use mathlib.Core.List.{List}
@@ -17,7 +21,6 @@ use Rattle.theory.proofs.Identity.{identical_sym, identical_wf}
 use Rattle.theory.proofs.Trimming.{trimmed_by, trimmed_follows_stage, trimmed_follows_states, trimmed_form, trimmed_same}
 use Rattle.trees.specs.Alphabets.{Leaf, inputs, outputs}
 use Rattle.formats.specs.Inner.Layout.{body_count, Starts}
-use Rattle.trees.specs.Refusal.{done, check, IsJudged, Holds, Judged}
 use Rattle.formats.specs.Sheet.{longest, Encodes}
 use Rattle.trees.proofs.Judging.{refuse, pass, accept}
 use Rattle.formats.proofs.Sheets.{sheet_unique}
@@ -28,7 +31,7 @@ use Rattle.forms.specs.Alphabet.{alphabet}
 use Rattle.prefixes.specs.Inner.Heads.{head_of, Prefixable, Prefixes}
 use Rattle.forms.specs.Inner.Tables.{machine, Layout}
 use Rattle.forms.proofs.Files.{machine_wf}
-use Rattle.forms.specs.Answers.{form_of, FileOf}
+use Rattle.forms.specs.Answers.{FileOf}
 use Rattle.discovery.specs.Inner.Discovering.{Discovers}
 use Rattle.discovery.proofs.Stages.{numbers_wf}
 use Rattle.earliest.specs.Answers.{form_check, EarliestFile, MakesForm, MakesEarliest}
@@ -37,10 +40,6 @@ use Rattle.earliest.specs.Inner.Discovering.{Formable, FormOfTable}
 use Rattle.discovery.specs.Inner.Bodies.{AllFollow}
 use Rattle.earliest.specs.Inner.Letters.{earliest, Expanding}
 use Rattle.earliest.specs.Inner.Loaded.{EarliestOf, FormOfParts, FormsFile}
-use Rattle.forms.specs.declared.write.FormSize.{FormSize}
-use Rattle.forms.specs.declared.write.FormSize.TheVariants.{States, Over}
-use Rattle.forms.specs.declared.write.Formed.{Formed}
-use Rattle.forms.specs.declared.write.Formed.TheVariants.{Form, Refused}
 use Rattle.earliest.proofs.Expanding.{pair}
 use Rattle.forms.proofs.Loading.{encoded_layout, encoded_same}
 use Rattle.earliest.proofs.Numbers.{prefixed_by, pair_injective, by_numbers, earliest_maps, pair_sort}
@@ -59,7 +58,7 @@ module _ {ins outs starts bytes heads sizes : List ℕ} (X : Expanding ins outs 
       }
 
   -- and what it finds is the trimmed form
-  makes_form : {starts' out : List ℕ} {r : FormSize} → Discovers ins outs (earliest ins outs starts bytes heads sizes) starts' out r → FormOfTable ins outs starts bytes (length sizes) starts' out r
+  makes_form : {starts' out : List ℕ} {r : Option ℕ} → Discovers ins outs (earliest ins outs starts bytes heads sizes) starts' out r → FormOfTable ins outs starts bytes (length sizes) starts' out r
   makes_form G = record {
     over = λ e l N k counts marks T E. G.over e l N k counts marks (all_follow l T) E;
     layout = G.layout;
@@ -104,7 +103,7 @@ module _ {ins outs starts bytes : List ℕ} {n : ℕ} (F : Formable ins outs sta
     can_discover = rw lent_again here_expand
 
     -- the contract of `form_of_table`
-    pub form_by_table : {starts' out : List ℕ} {r : FormSize} → Discovers ins outs (earliest ins outs starts bytes heads' (take (n - 0) (put_mid 0 (n - 0) no_sizes sizes'))) starts' out r → FormOfTable ins outs starts bytes n starts' out r
+    pub form_by_table : {starts' out : List ℕ} {r : Option ℕ} → Discovers ins outs (earliest ins outs starts bytes heads' (take (n - 0) (put_mid 0 (n - 0) no_sizes sizes'))) starts' out r → FormOfTable ins outs starts bytes n starts' out r
     form_by_table G = rw (P.same ∙ sizes_long) at (makes_form here_expand here_prefs (rw lent_again at G))
 
 -- ---- of the parts of a file
@@ -126,7 +125,7 @@ module _ {stock counts bytes : List ℕ} {n : ℕ} (X : Machine stock n counts b
   parts_wf l = machine_wf l machine_layout.wholes
 
   -- so it has one trimmed form with it
-  form_parts : {starts out : List ℕ} {r : FormSize} → FormOfTable (inputs stock) (outputs stock) from bytes n starts out r → FormOfParts stock n counts bytes starts out r
+  form_parts : {starts out : List ℕ} {r : Option ℕ} → FormOfTable (inputs stock) (outputs stock) from bytes n starts out r → FormOfParts stock n counts bytes starts out r
   form_parts G = record {
     over = λ e k counts' bytes' K.
         let l = K.alphabets.leaf in
@@ -138,26 +137,26 @@ module _ {stock counts bytes : List ℕ} {n : ℕ} (X : Machine stock n counts b
   }
 
   -- the contract of `form_of_parts`
-  pub form_by : {starts out : List ℕ} {r : FormSize} → FormOfTable ins outs from bytes n starts out r → FormOfParts stock n counts bytes starts out r
+  pub form_by : {starts out : List ℕ} {r : Option ℕ} → FormOfTable ins outs from bytes n starts out r → FormOfParts stock n counts bytes starts out r
   form_by G = form_parts (rw (i, o) at G)
 
 -- ---- the file of the form that was found
 -- a form with a property is answered, where no form is over the limits but one whose earliest form is
 module _ (Good : ℕ → List ℕ → List ℕ → Type 0) {stock counts bytes starts out before after : List ℕ} {n : ℕ} where
-  pub found_file : (found : FormSize) {r : Formed} → WritesFound stock found starts out before after r
-      → (found ≡ Over → (k : ℕ) (counts' bytes' : List ℕ) → EarliestOf stock n counts bytes k counts' bytes' → ⊥)
-      → ((k : ℕ) → found ≡ States k → (size : ℕ) (W : WritesForm stock starts out k before after size) → Good k W.counts W.marks × ((k' : ℕ) × ((counts' : List ℕ) × ((bytes' : List ℕ) × EarliestOf stock n counts bytes k' counts' bytes'))))
+  pub found_file : (found : Option ℕ) {r : Result Form Refusal} → WritesFound stock found starts out before after r
+      → (found ≡ None → (k : ℕ) (counts' bytes' : List ℕ) → EarliestOf stock n counts bytes k counts' bytes' → ⊥)
+      → ((k : ℕ) → found ≡ Some k → (size : ℕ) (W : WritesForm stock starts out k before after size) → Good k W.counts W.marks × ((k' : ℕ) × ((counts' : List ℕ) × ((bytes' : List ℕ) × EarliestOf stock n counts bytes k' counts' bytes'))))
       → FormsFile Good stock n counts bytes before after r
-  found_file (States k) W over form =
+  found_file (Some k) W over form =
       let w = W.form k refl in
       let f = w.written in
       let g = form k refl w.size f in
       rw w.answer (pass g.1 (accept (f.counts, (f.marks, (g.0, record { marks = omega (arith, w.many, f.long); size = f.size; wrote = f.wrote })))))
-  found_file Over W over form = let w = W.over refl in rw w.0 (refuse (λ x. over refl x.0 x.1.0 x.1.1.0 x.1.1.1) w.1)
+  found_file None W over form = let w = W.over refl in rw w.0 (refuse (λ x. over refl x.0 x.1.0 x.1.1.0 x.1.1.1) w.1)
 
 -- the trimmed form
-module _ {stock counts bytes starts out : List ℕ} {n : ℕ} {found : FormSize} (B : FormOfParts stock n counts bytes starts out found) (X : Machine stock n counts bytes) where
-  form_of_lem : {k : ℕ} → found ≡ States k → {before after : List ℕ} {size : ℕ} (W : WritesForm stock starts out k before after size) → EarliestOf stock n counts bytes k W.counts W.marks
+module _ {stock counts bytes starts out : List ℕ} {n : ℕ} {found : Option ℕ} (B : FormOfParts stock n counts bytes starts out found) (X : Machine stock n counts bytes) where
+  form_of_lem : {k : ℕ} → found ≡ Some k → {before after : List ℕ} {size : ℕ} (W : WritesForm stock starts out k before after size) → EarliestOf stock n counts bytes k W.counts W.marks
   form_of_lem {k} e W = record {
     alphabets = X.alphabets;
     machine = X.machine;
@@ -168,7 +167,7 @@ module _ {stock counts bytes starts out : List ℕ} {n : ℕ} {found : FormSize}
   }
 
   -- the contract of `form_file`
-  pub form_file : {before after : List ℕ} {r : Formed} → WritesFound stock found starts out before after r → FormsFile (EarliestOf stock n counts bytes) stock n counts bytes before after r
+  pub form_file : {before after : List ℕ} {r : Result Form Refusal} → WritesFound stock found starts out before after r → FormsFile (EarliestOf stock n counts bytes) stock n counts bytes before after r
   form_file W = found_file (EarliestOf stock n counts bytes) found W B.over (λ k e size f. (form_of_lem e f, (k, (f.counts, (f.marks, form_of_lem e f)))))
 
 -- ---- of a file: what is answered of its parts is answered of it
@@ -188,18 +187,18 @@ module _ {stock sheet ins counts bytes : List ℕ} {n : ℕ} (O : Opened stock s
         form_coded = F.encodes;
       }
 
-  pub file_made : {Parts File : ℕ → List ℕ → List ℕ → Type 0} → ((k : ℕ) (counts' bytes' : List ℕ) → Parts k counts' bytes' → File k counts' bytes') → {before after : List ℕ} → longest ≤ length before → (r : Formed) → FormsFile Parts stock n counts bytes before after r → MakesForm File stock sheet before after r
+  pub file_made : {Parts File : ℕ → List ℕ → List ℕ → Type 0} → ((k : ℕ) (counts' bytes' : List ℕ) → Parts k counts' bytes' → File k counts' bytes') → {before after : List ℕ} → longest ≤ length before → (r : Result Form Refusal) → FormsFile Parts stock n counts bytes before after r → MakesForm File stock sheet before after r
   unfolding IsJudged Holds
   file_made {Parts} {File} whole {before} {after} long r J = go r J.verdict
     where
-      start : (r : Formed) → Judged (after ≡ before) (λ v. (counts' : List ℕ) × ((bytes' : List ℕ) × (File v.0 counts' bytes' × FileOf v counts' bytes' before after))) (form_check stock sheet done) (form_of r) → MakesForm File stock sheet before after r
+      start : (r : Result Form Refusal) → Judged (after ≡ before) (λ v. (counts' : List ℕ) × ((bytes' : List ℕ) × (File v.0 counts' bytes' × FileOf v counts' bytes' before after))) (form_check stock sheet done) (outcome_of r) → MakesForm File stock sheet before after r
       start r j = let w = O.holds in pass long (pass w.0 (pass w.1.0 (pass w.1.1.0 j)))
 
-      go : (r : Formed) → IsJudged (after ≡ before) (λ v. (counts' : List ℕ) × ((bytes' : List ℕ) × (Parts v.0 counts' bytes' × FileOf v counts' bytes' before after))) (check 7 ((k : ℕ) × ((counts' : List ℕ) × ((bytes' : List ℕ) × EarliestOf stock n counts bytes k counts' bytes'))) done) (form_of r) → MakesForm File stock sheet before after r
+      go : (r : Result Form Refusal) → IsJudged (after ≡ before) (λ v. (counts' : List ℕ) × ((bytes' : List ℕ) × (Parts v.0 counts' bytes' × FileOf v counts' bytes' before after))) (check 7 ((k : ℕ) × ((counts' : List ℕ) × ((bytes' : List ℕ) × EarliestOf stock n counts bytes k counts' bytes'))) done) (outcome_of r) → MakesForm File stock sheet before after r
       go r (inl (h, q, kept)) = start r (rw q (refuse (λ w. h (w.0, (w.1.0, (w.1.1.0, to_parts w.1.1.1)))) kept))
       go (Form k m s) (inr (R, (counts', (bytes', (P, f))))) = start (Form k m s) (pass (R.0, (R.1.0, (R.1.1.0, from_parts R.1.1.1))) (accept (counts', (bytes', (whole k counts' bytes' P, f)))))
-      go (Refused x) (inr (R, u)) = absurd u
+      go (Err x) (inr (R, u)) = absurd u
 
   -- the contract of `earliest_form`
-  pub file_formed : {before after : List ℕ} → longest ≤ length before → (r : Formed) → FormsFile (EarliestOf stock n counts bytes) stock n counts bytes before after r → MakesEarliest stock sheet before after r
+  pub file_formed : {before after : List ℕ} → longest ≤ length before → (r : Result Form Refusal) → FormsFile (EarliestOf stock n counts bytes) stock n counts bytes before after r → MakesEarliest stock sheet before after r
   file_formed = file_made (λ k counts' bytes' K. from_parts K)

@@ -1,5 +1,9 @@
 -- What making a form promises whatever form it is: the contract determines the answer and the area.
 -- Assumes nothing.
+use Rattle.std.specs.Prelude.{Option, Result}
+use Rattle.trees.specs.declared.refusal.Refusal.{Refusal}
+use Rattle.forms.specs.declared.write.Form.{Form}
+use Rattle.trees.specs.Refusal.{outcome_of, done, check}
 use Prim.Native.Nat.{ℕ, ◌≤◌, ◌<◌}
 use mathlib.Core.List.{List}
 use mathlib.Core.Path.{◌≡◌, sym, ◌∙◌}
@@ -12,20 +16,18 @@ use Rattle.theory.specs.Wf.{Wf}
 use Rattle.theory.proofs.Trimming.{trimmed_same, trimmed_unique}
 use Rattle.trees.specs.Alphabets.{alphabet_check}
 use Rattle.trees.proofs.Judging.{one_answer}
-use Rattle.trees.specs.Refusal.{done, check}
 use Rattle.formats.specs.Sheet.{longest, sheet_check}
 use Rattle.forms.proofs.Files.{encoded_wf, same_file, parts_same, file_one}
 use Rattle.forms.proofs.Leaves.{trimmed_leaf}
 use Rattle.earliest.specs.Answers.{EarliestFile, form_check, MakesForm, MakesEarliest}
-use Rattle.forms.specs.Answers.{form_of, FileOf}
-use Rattle.forms.specs.declared.write.Formed.{Formed}
+use Rattle.forms.specs.Answers.{FileOf}
 
 -- ---- what is answered is determined
 -- Where one file alone is of the form, the answer and the area are determined.
 pub made_one : {Form : ℕ → List ℕ → List ℕ → Type 0} → ((k k' : ℕ) (counts counts' bytes bytes' : List ℕ) → Form k counts bytes → Form k' counts' bytes' → (k ≡ k') × (counts ≡ counts') × (bytes ≡ bytes'))
-    → {stock s before after after' : List ℕ} (r r' : Formed) → MakesForm Form stock s before after r → MakesForm Form stock s before after' r' → (after ≡ after') × (form_of r ≡ form_of r')
+    → {stock s before after after' : List ℕ} (r r' : Result Form Refusal) → MakesForm Form stock s before after r → MakesForm Form stock s before after' r' → (after ≡ after') × (outcome_of r ≡ outcome_of r')
 made_one {Form} one {stock} {s} {before} {after} {after'} r r' J J' =
-    one_answer (λ u u'. u ∙ sym u') (check 1 (longest ≤ length before) (alphabet_check stock (sheet_check stock s (form_check stock s done)))) (form_of r) (form_of r') (λ h. good) J.verdict J'.verdict
+    one_answer (λ u u'. u ∙ sym u') (check 1 (longest ≤ length before) (alphabet_check stock (sheet_check stock s (form_check stock s done)))) (outcome_of r) (outcome_of r') (λ h. good) J.verdict J'.verdict
   where
     good : (v v' : ℕ × ℕ × ℕ) → (counts : List ℕ) × ((bytes : List ℕ) × (Form v.0 counts bytes × FileOf v counts bytes before after))
         → (counts : List ℕ) × ((bytes : List ℕ) × (Form v'.0 counts bytes × FileOf v' counts bytes before after')) → (after ≡ after') × (v ≡ v')
@@ -44,5 +46,5 @@ earliest_one k k' counts counts' bytes bytes' F F' =
     (trimmed_one (encoded_wf few l F.sheet.encodes) (encoded_wf few l F'.sheet.encodes) (same_file l F'.sheet F.sheet) F.trimmed (trimmed_leaf F'.alphabets.leaf l F'.trimmed))
 
 -- The contract of making the earliest form determines the answer and the area.
-pub makes_one : {stock s before after after' : List ℕ} (r r' : Formed) → MakesEarliest stock s before after r → MakesEarliest stock s before after' r' → (after ≡ after') × (form_of r ≡ form_of r')
+pub makes_one : {stock s before after after' : List ℕ} (r r' : Result Form Refusal) → MakesEarliest stock s before after r → MakesEarliest stock s before after' r' → (after ≡ after') × (outcome_of r ≡ outcome_of r')
 makes_one {stock} {s} = made_one {Form = EarliestFile stock s} earliest_one

@@ -1,13 +1,14 @@
 -- What making the earliest form answers.
-use Rattle.std.specs.Prelude.{ℕ, ◌≤◌, ◌<◌, List, ◌≡◌, length}
+use Rattle.std.specs.Prelude.{Option, Result, ℕ, ◌≤◌, ◌<◌, List, ◌≡◌, length}
+use Rattle.trees.specs.declared.refusal.Refusal.{Refusal}
+use Rattle.forms.specs.declared.write.Form.{Form}
+use Rattle.trees.specs.Refusal.{outcome_of, Checks, done, check, Judged}
 use Rattle.theory.specs.Transducer.{Transducer}
 use Rattle.theory.specs.Trimmed.{Trimmed}
 use Rattle.trees.specs.Alphabets.{Alphabets, inputs, outputs, alphabet_check}
-use Rattle.trees.specs.Refusal.{Checks, done, check, Judged}
 use Rattle.formats.specs.Sheet.{longest, Encodes, Sheet, sheet_check}
 use Rattle.forms.specs.Alphabet.{alphabet}
-use Rattle.forms.specs.declared.write.Formed.{Formed}
-use Rattle.forms.specs.Answers.{form_of, FileOf}
+use Rattle.forms.specs.Answers.{FileOf}
 
 -- k, the counts and the marks are those of the earliest form (01: trimmed sheet) of the transducer of the file s; so it is within the limits of a file
 pub record EarliestFile (stock s : List ℕ) (k : ℕ) (counts bytes : List ℕ) : Type 0 where
@@ -24,12 +25,12 @@ abbrev pub form_check : List ℕ → List ℕ → Checks → Checks
 form_check stock s rest = check 7 ((k : ℕ) × ((counts : List ℕ) × ((bytes : List ℕ) × EarliestFile stock s k counts bytes))) rest
 
 -- ---- a form of the transducer of the file s, as a file: Form says which k, counts and marks are the form's; refusal 7 where the earliest form is over the limits of a file
-abbrev pub MakesForm : (ℕ → List ℕ → List ℕ → Type 0) → List ℕ → List ℕ → List ℕ → List ℕ → Formed → Type 0
+abbrev pub MakesForm : (ℕ → List ℕ → List ℕ → Type 0) → List ℕ → List ℕ → List ℕ → List ℕ → Result Form Refusal → Type 0
 MakesForm Form stock s before after r =
     Judged (after ≡ before) (λ v. (counts : List ℕ) × ((bytes : List ℕ) × (Form v.0 counts bytes × FileOf v counts bytes before after)))
     (check 1 (longest ≤ length before) (alphabet_check stock (sheet_check stock s (form_check stock s done))))
-    (form_of r)
+    (outcome_of r)
 
 -- the earliest form, as a file
-abbrev pub MakesEarliest : List ℕ → List ℕ → List ℕ → List ℕ → Formed → Type 0
+abbrev pub MakesEarliest : List ℕ → List ℕ → List ℕ → List ℕ → Result Form Refusal → Type 0
 MakesEarliest stock s before after r = MakesForm (EarliestFile stock s) stock s before after r

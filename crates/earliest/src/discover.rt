@@ -7,7 +7,6 @@ ghost use Rattle.earliest.specs.Inner.Discovering.{Discoverable, Formable, FormO
 
 use crate::expand::{expand, letter_end, locate};
 use discovery::queue::add_body;
-use forms::write::FormSize;
 use prefixes::pattern::SLOT;
 use prefixes::prefix::prefixes;
 use trees::bytes::{Span, number, wide};
@@ -52,7 +51,7 @@ fn add_initial(
     out: &mut [u8],
     list: &mut [u16],
     place: &mut [u8],
-) -> FormSize
+) -> Option<usize>
     requires { Discoverable ins.now outs.now starts.now marks.now heads.now sizes.now letters.old × Empty 8192 starts2.old out.old list.old place.old }
     ensures { Adds ins.now outs.now (earliest ins.now outs.now starts.now marks.now heads.now sizes.now) 8192 0 starts2.new out.new list.new place.new result }
 {
@@ -77,7 +76,7 @@ fn add_state(
     list: &mut [u16],
     place: &mut [u8],
     met: usize,
-) -> FormSize
+) -> Option<usize>
     requires { Discoverable ins.now outs.now starts.now marks.now heads.now sizes.now letters.old × Found ins.now (earliest ins.now outs.now starts.now marks.now heads.now sizes.now) 8192 p starts2.old out.old list.old place.old met × (p < met) }
     ensures { Adds ins.now outs.now (earliest ins.now outs.now starts.now marks.now heads.now sizes.now) 8192 (p + 1) starts2.new out.new list.new place.new result }
 {
@@ -97,16 +96,16 @@ fn add_state(
             place,
             n,
         ) {
-            FormSize::States(m) => {
+            Some(m) => {
                 n = m;
             }
-            FormSize::Over => {
-                return FormSize::Over;
+            None => {
+                return None;
             }
         }
         a += 1;
     }
-    FormSize::States(n)
+    Some(n)
 }
 
 // Adds the right-hand sides of every state that is met.
@@ -123,7 +122,7 @@ fn add_states(
     list: &mut [u16],
     place: &mut [u8],
     met: usize,
-) -> FormSize
+) -> Option<usize>
     requires { Discoverable ins.now outs.now starts.now marks.now heads.now sizes.now letters.old × Found ins.now (earliest ins.now outs.now starts.now marks.now heads.now sizes.now) 8192 0 starts2.old out.old list.old place.old met }
     ensures { AddsAll ins.now outs.now (earliest ins.now outs.now starts.now marks.now heads.now sizes.now) 8192 starts2.new out.new list.new place.new result }
 {
@@ -133,16 +132,16 @@ fn add_states(
         match add_state(
             ins, outs, starts, marks, heads, sizes, letters, p, starts2, out, list, place, n,
         ) {
-            FormSize::States(m) => {
+            Some(m) => {
                 n = m;
             }
-            FormSize::Over => {
-                return FormSize::Over;
+            None => {
+                return None;
             }
         }
         p += 1;
     }
-    FormSize::States(n)
+    Some(n)
 }
 
 // Makes the earliest form by the common prefixes of the states: `starts2` says where its bodies start in `out`.
@@ -155,7 +154,7 @@ fn discover(
     sizes: &[u8],
     starts2: &mut [u16],
     out: &mut [u8],
-) -> FormSize
+) -> Option<usize>
     requires { Expanding ins.now outs.now starts.now marks.now heads.now sizes.now × Leaf ins.now × (2050 ≤ length starts2.old) × (length out.old ≡ 16384) }
     ensures { Discovers ins.now outs.now (earliest ins.now outs.now starts.now marks.now heads.now sizes.now) starts2.new out.new result }
 {
@@ -176,7 +175,7 @@ fn discover(
         &mut list,
         &mut place,
     ) {
-        FormSize::States(met) => add_states(
+        Some(met) => add_states(
             ins,
             outs,
             starts,
@@ -190,7 +189,7 @@ fn discover(
             &mut place,
             met,
         ),
-        FormSize::Over => FormSize::Over,
+        None => None,
     }
 }
 
@@ -203,7 +202,7 @@ pub(crate) fn form_of_table(
     n: usize,
     starts2: &mut [u16],
     out: &mut [u8],
-) -> FormSize
+) -> Option<usize>
     requires { Formable ins.now outs.now starts.now marks.now n × (2050 ≤ length starts2.old) × (length out.old ≡ 16384) }
     ensures { FormOfTable ins.now outs.now starts.now marks.now n starts2.new out.new result }
 {

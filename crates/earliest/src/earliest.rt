@@ -7,8 +7,8 @@ ghost use Rattle.earliest.specs.Inner.Loaded.{EarliestOf, FormOfParts, FormsFile
 
 use crate::discover::form_of_table;
 use formats::bodies::fill_starts;
-use formats::file::{FileRead, counts_end, read_transducer};
-use forms::write::{FormSize, Formed, write_found};
+use formats::file::{counts_end, read_transducer};
+use forms::write::{write_found, Form};
 use trees::alphabet::{input_ranks, output_ranks};
 use trees::refusal::Refusal;
 
@@ -21,7 +21,7 @@ pub fn form_of_parts(
     marks: &[u8],
     starts: &mut [u16],
     out: &mut [u8],
-) -> FormSize
+) -> Option<usize>
     requires { Machine stock.now n counts.now marks.now × (2050 ≤ length starts.old) × (length out.old ≡ 16384) }
     ensures { FormOfParts stock.now n counts.now marks.now starts.new out.new result }
 {
@@ -32,7 +32,7 @@ pub fn form_of_parts(
 }
 
 // The file of the earliest form of the transducer whose n, counts and marks these are.
-fn form_file(stock: &[u8], n: usize, counts: &[u8], marks: &[u8], area: &mut [u8]) -> Formed
+fn form_file(stock: &[u8], n: usize, counts: &[u8], marks: &[u8], area: &mut [u8]) -> Result<Form, Refusal>
     requires { Machine stock.now n counts.now marks.now × (longest ≤ length area.old) }
     ensures { FormsFile (EarliestOf stock.now n counts.now marks.now) stock.now n counts.now marks.now area.old area.new result }
 {
@@ -43,17 +43,17 @@ fn form_file(stock: &[u8], n: usize, counts: &[u8], marks: &[u8], area: &mut [u8
 }
 
 // Writes the file of the earliest form of the transducer of the file `sheet` (01: the trimmed sheet).
-pub fn earliest_form(stock: &[u8], sheet: &[u8], area: &mut [u8]) -> Formed
+pub fn earliest_form(stock: &[u8], sheet: &[u8], area: &mut [u8]) -> Result<Form, Refusal>
     ensures { MakesEarliest stock.now sheet.now area.old area.new result }
 {
     if area.len() < 20483 {
-        return Formed::Refused(Refusal::ShortArea);
+        return Err(Refusal::ShortArea);
     }
     match read_transducer(stock, sheet) {
-        FileRead::States(n) => {
+        Ok(n) => {
             let from = counts_end(stock, n);
             form_file(stock, n, &sheet[1..from], &sheet[from..], area)
         }
-        FileRead::Refused(r) => Formed::Refused(r),
+        Err(r) => Err(r),
     }
 }

@@ -1,5 +1,7 @@
 -- How long the parts of an accepted file are.
 -- Assumes nothing.
+use Rattle.std.specs.Prelude.{Err, None, Ok, Option, Result, Some}
+use Rattle.trees.specs.declared.refusal.Refusal.{Refusal}
 use Prim.Native.Nat.{ℕ, ◌+◌, ◌*◌, ◌-◌, ◌≤◌}
 use native.Mathlib.Omega.{arith}
 use mathlib.Core.List.{List, [], ◌∷◌}
@@ -8,8 +10,6 @@ use lib.ListN.{length, length-append}
 use Rattle.trees.specs.Alphabets.{inputs, outputs}
 use Rattle.formats.specs.Answers.{ReadsFile}
 use Rattle.formats.specs.Inner.Layout.{body_count}
-use Rattle.formats.specs.declared.file.FileRead.{FileRead}
-use Rattle.formats.specs.declared.file.FileRead.TheVariants.{States}
 use Rattle.trees.proofs.Judging.{accepted_holds}
 use Rattle.formats.proofs.Sheets.{encodes_long}
 use Rattle.formats.proofs.Verdicts.{accepted_long}
@@ -25,7 +25,7 @@ abbrev pub counts_size : ℕ → List ℕ → ℕ
 counts_size n ins = 2 + 2 * (n * length ins)
 
 -- a file of n states that was accepted; ins are the ranks of the input symbols
-module _ (stock s : List ℕ) (n : ℕ) (ins : List ℕ) {r : FileRead} (J : ReadsFile stock s r) (e : r ≡ States n) (i : ins ≡ inputs stock) where
+module _ (stock s : List ℕ) (n : ℕ) (ins : List ℕ) {r : Result ℕ Refusal} (J : ReadsFile stock s r) (e : r ≡ Ok n) (i : ins ≡ inputs stock) where
   pub counts_inside : 1 + counts_size n ins ≤ length s
   counts_inside = rw i (omega (arith, accepted_long stock s n J e))
 

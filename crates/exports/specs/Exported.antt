@@ -1,22 +1,22 @@
 -- What the exported functions return and leave: the number and the values of an answer that keeps the library's promise.
+use Rattle.trees.specs.Refusal.{outcome_of, Outcome, accepted, refused}
 use Rattle.std.specs.Prelude.{ℕ, ◌<◌, List, [], ◌⊎◌, ◌≡◌, length, drop}
 use Rattle.std.proofs.Math.Option.{Option, some, none as nothing}
 use Rattle.theory.specs.Transducer.{Transducer}
 use Rattle.trees.specs.Alphabets.{inputs, outputs}
 use Rattle.trees.specs.Answers.{alphabets_read, ReadsAlphabets, tree_read, ReadsTree}
-use Rattle.formats.specs.Answers.{file_read, ReadsFile, file_written, WritesFile, HandsMarks}
-use Rattle.trees.specs.Refusal.{Outcome, accepted, refused}
+use Rattle.formats.specs.Answers.{ReadsFile, WritesFile, HandsMarks}
 use Rattle.formats.specs.Sheet.{Sheet}
-use Rattle.queries.specs.Answers.{linear_test, TestsLinear, found, FindsSymbol}
-use Rattle.transducer.specs.Answers.{translated, Translates}
+use Rattle.queries.specs.Answers.{TestsLinear, FindsSymbol}
+use Rattle.transducer.specs.Answers.{Translates}
 use Rattle.theory.specs.Weight.{one_if}
-use Rattle.forms.specs.Answers.{form_of}
+
 use Rattle.earliest.specs.Answers.{MakesEarliest}
 use Rattle.canonical.specs.Answers.{Cleans}
 use Rattle.join.specs.Answers.{Joins}
-use Rattle.codes.specs.Answers.{codes_written, WritesCodes}
-use Rattle.xml.specs.Answers.{converted, WritesXml, ReadsXml}
-use Rattle.comparison.specs.Answers.{compared_as, Compares, HandsShorter}
+use Rattle.codes.specs.Answers.{WritesCodes}
+use Rattle.xml.specs.Answers.{WritesXml, ReadsXml}
+use Rattle.comparison.specs.Answers.{Compares, HandsShorter}
 
 -- an acceptance is returned as 0, and what is left is told by its values; a refusal as its number, and all is left as before
 unfoldable pub IsTold : {A L : Type 0} → (A → L → Type 0) → Outcome A → L → L → ℕ → Type 0
@@ -46,19 +46,19 @@ pub record FileParts (stock s : List ℕ) (n : ℕ) (after : ℕ × ℕ × ℕ) 
   pub marks : after.2 ≡ length sheet.bytes
 
 abbrev pub ExportsFile : List ℕ → List ℕ → ℕ × ℕ × ℕ → ℕ × ℕ × ℕ → ℕ → Type 0
-ExportsFile stock s before after r = Exported (ReadsFile stock s) file_read (FileParts stock s) before after r
+ExportsFile stock s before after r = Exported (ReadsFile stock s) outcome_of (FileParts stock s) before after r
 
 -- the length of what was written; the promise says what is left in the area, also by a refusal
 abbrev pub ExportsWriting : List ℕ → ℕ → List ℕ → List ℕ → List ℕ → List ℕ → ℕ → ℕ → ℕ → Type 0
-ExportsWriting stock n counts marks area area' before after r = Exported (WritesFile stock n counts marks area area') file_written (λ v after. after ≡ v) before after r
+ExportsWriting stock n counts marks area area' before after r = Exported (WritesFile stock n counts marks area area') outcome_of (λ v after. after ≡ v) before after r
 
 -- 1 for yes and 0 for no
 abbrev pub ExportsLinear : List ℕ → List ℕ → ℕ → ℕ → ℕ → Type 0
-ExportsLinear stock s before after r = Exported (TestsLinear stock s) linear_test (λ v after. after ≡ one_if v) before after r
+ExportsLinear stock s before after r = Exported (TestsLinear stock s) outcome_of (λ v after. after ≡ one_if v) before after r
 
 -- the number of symbols; the promise says what is left in the area, also by a refusal
 abbrev pub ExportsTranslation : List ℕ → List ℕ → List ℕ → List ℕ → List ℕ → ℕ → ℕ → ℕ → Type 0
-ExportsTranslation stock file tree area area' before after r = Exported (Translates stock file tree area area') translated (λ v after. after ≡ v) before after r
+ExportsTranslation stock file tree area area' before after r = Exported (Translates stock file tree area area') outcome_of (λ v after. after ≡ v) before after r
 
 -- 1 and the symbol; 0 where there is none, and what stood for the symbol stays
 abbrev pub symbol_left : ℕ × ℕ → Option ℕ → ℕ × ℕ
@@ -66,17 +66,17 @@ symbol_left before (some b) = (1, b)
 symbol_left before nothing = (0, before.1)
 
 abbrev pub ExportsSymbol : List ℕ → List ℕ → List ℕ → List ℕ → ℕ × ℕ → ℕ × ℕ → ℕ → Type 0
-ExportsSymbol stock file tree address before after r = Exported (FindsSymbol stock file tree address) found (λ v after. after ≡ symbol_left before v) before after r
+ExportsSymbol stock file tree address before after r = Exported (FindsSymbol stock file tree address) outcome_of (λ v after. after ≡ symbol_left before v) before after r
 
 -- the numbers of states and marks, and the length of what was written; the promise says what is left in the area, also by a refusal
 abbrev pub ExportsEarliest : List ℕ → List ℕ → List ℕ → List ℕ → ℕ × ℕ × ℕ → ℕ × ℕ × ℕ → ℕ → Type 0
-ExportsEarliest stock file area area' before after r = Exported (MakesEarliest stock file area area') form_of (λ v after. after ≡ v) before after r
+ExportsEarliest stock file area area' before after r = Exported (MakesEarliest stock file area area') outcome_of (λ v after. after ≡ v) before after r
 
 abbrev pub ExportsClean : List ℕ → List ℕ → List ℕ → List ℕ → ℕ × ℕ × ℕ → ℕ × ℕ × ℕ → ℕ → Type 0
-ExportsClean stock file area area' before after r = Exported (Cleans stock file area area') form_of (λ v after. after ≡ v) before after r
+ExportsClean stock file area area' before after r = Exported (Cleans stock file area area') outcome_of (λ v after. after ≡ v) before after r
 
 abbrev pub ExportsJoin : List ℕ → List ℕ → List ℕ → List ℕ → List ℕ → List ℕ → ℕ × ℕ × ℕ → ℕ × ℕ × ℕ → ℕ → Type 0
-ExportsJoin first second file file' area area' before after r = Exported (Joins first second file file' area area') form_of (λ v after. after ≡ v) before after r
+ExportsJoin first second file file' area area' before after r = Exported (Joins first second file file' area area') outcome_of (λ v after. after ≡ v) before after r
 
 -- 1 if alike, and the other values stay; else 0 and the values
 abbrev pub comparison_left : ℕ × ℕ × ℕ × ℕ × ℕ → Option (ℕ × ℕ × ℕ × ℕ) → ℕ × ℕ × ℕ × ℕ × ℕ
@@ -85,7 +85,7 @@ comparison_left before (some v) = (0, v.0, v.1, v.2, v.3)
 
 -- the numbers of nodes and of address numbers, and the two symbols; the promise says what is left in the areas, also by a refusal
 abbrev pub ExportsComparison : List ℕ → List ℕ → List ℕ → List ℕ → List ℕ → List ℕ → List ℕ → ℕ × ℕ × ℕ × ℕ × ℕ → ℕ × ℕ × ℕ × ℕ × ℕ → ℕ → Type 0
-ExportsComparison stock s s' tree tree' address address' before after r = Exported (Compares stock s s' tree tree' address address') compared_as (λ v after. after ≡ comparison_left before v) before after r
+ExportsComparison stock s s' tree tree' address address' before after r = Exported (Compares stock s s' tree tree' address address') outcome_of (λ v after. after ≡ comparison_left before v) before after r
 
 -- the part is the marks of the file s, which they end: from `start` on, so long
 pub record EndsFile (stock s part : List ℕ) (start size : ℕ) : Type 0 where
@@ -108,11 +108,11 @@ pub record ExportsShorter (stock s s' : List ℕ) (start size which : ℕ) : Typ
 
 -- an acceptance has no value; the promise says what is left in the area, also by a refusal
 abbrev pub ExportsCodes : List ℕ → List ℕ → ℕ → Type 0
-ExportsCodes area area' r = Exported (WritesCodes area area') codes_written (λ v after. after ≡ v) tt tt r
+ExportsCodes area area' r = Exported (WritesCodes area area') outcome_of (λ v after. after ≡ v) tt tt r
 
 -- the length of the text, and the number of symbols; the promise says what is left in the area, also by a refusal
 abbrev pub ExportsXmlWriting : List ℕ → List ℕ → List ℕ → List ℕ → ℕ → ℕ → ℕ → Type 0
-ExportsXmlWriting stock tree text text' before after r = Exported (WritesXml stock tree text text') converted (λ v after. after ≡ v) before after r
+ExportsXmlWriting stock tree text text' before after r = Exported (WritesXml stock tree text text') outcome_of (λ v after. after ≡ v) before after r
 
 abbrev pub ExportsXmlReading : List ℕ → List ℕ → List ℕ → List ℕ → ℕ → ℕ → ℕ → Type 0
-ExportsXmlReading stock text area area' before after r = Exported (ReadsXml stock text area area') converted (λ v after. after ≡ v) before after r
+ExportsXmlReading stock text area area' before after r = Exported (ReadsXml stock text area area') outcome_of (λ v after. after ≡ v) before after r

@@ -1,35 +1,35 @@
 -- What the exported functions of the registry return and leave.
-use Rattle.std.specs.Prelude.{ℕ, zero, suc, ◌<◌, List, [], ◌⊎◌, ◌≡◌, length, take, drop}
-use Rattle.records.specs.Answers.{made_of, Makes, number_of, Enters, reply_of, Questions, Commits, HandsBody}
+use Rattle.std.specs.Prelude.{Option, Result, ℕ, zero, suc, ◌<◌, List, [], ◌⊎◌, ◌≡◌, length, take, drop}
+use Rattle.trees.specs.declared.refusal.Refusal.{Refusal}
+use Rattle.records.specs.declared.book.Foretold.{Foretold}
+use Rattle.trees.specs.Refusal.{outcome_of}
+use Rattle.records.specs.Answers.{Makes, Enters, Questions, Commits, HandsBody}
 use Rattle.records.specs.Book.{record_at}
-use Rattle.records.specs.declared.book.Entered.{Entered}
 use Rattle.records.specs.declared.book.Head.{Head}
-use Rattle.records.specs.declared.book.Made.{Made}
 use Rattle.records.specs.declared.book.Record.{Record}
-use Rattle.records.specs.declared.book.Reply.{Reply}
 use Rattle.exports.specs.Exported.{Exported}
 
 -- what is told of an answer to making, which has no value, of one to entry, whose value is the number of the normal form, and of one to a question, whose values are that number and the length of the clean file
-abbrev pub TellsMade : Made → ℕ → Type 0
-TellsMade a r = Exported (λ e. e ≡ a) made_of (λ v after. after ≡ v) tt tt r
+abbrev pub TellsMade : Result (Unit {0}) Refusal → ℕ → Type 0
+TellsMade a r = Exported (λ e. e ≡ a) outcome_of (λ v after. after ≡ v) tt tt r
 
-abbrev pub TellsEntered : Entered → ℕ → ℕ → ℕ → Type 0
-TellsEntered a before after r = Exported (λ e. e ≡ a) number_of (λ v after. after ≡ v) before after r
+abbrev pub TellsEntered : Result ℕ Refusal → ℕ → ℕ → ℕ → Type 0
+TellsEntered a before after r = Exported (λ e. e ≡ a) outcome_of (λ v after. after ≡ v) before after r
 
-abbrev pub TellsReply : Reply → ℕ × ℕ → ℕ × ℕ → ℕ → Type 0
-TellsReply a before after r = Exported (λ e. e ≡ a) reply_of (λ v after. after ≡ v) before after r
+abbrev pub TellsReply : Result Foretold Refusal → ℕ × ℕ → ℕ × ℕ → ℕ → Type 0
+TellsReply a before after r = Exported (λ e. e ≡ a) outcome_of (λ v after. after ≡ v) before after r
 
 abbrev pub ExportsMaking : List ℕ → Head → List Record → List ℕ → Head → List Record → List ℕ → ℕ → Type 0
-ExportsMaking stock h rs area h' rs' area' r = Exported (Makes stock h rs area h' rs' area') made_of (λ v after. after ≡ v) tt tt r
+ExportsMaking stock h rs area h' rs' area' r = Exported (Makes stock h rs area h' rs' area') outcome_of (λ v after. after ≡ v) tt tt r
 
 abbrev pub ExportsEntry : List ℕ → Head → List Record → List ℕ → Head → List Record → List ℕ → ℕ → ℕ → ℕ → Type 0
-ExportsEntry s h rs area h' rs' area' before after r = Exported (Enters s h rs area h' rs' area') number_of (λ v after. after ≡ v) before after r
+ExportsEntry s h rs area h' rs' area' before after r = Exported (Enters s h rs area h' rs' area') outcome_of (λ v after. after ≡ v) before after r
 
 abbrev pub ExportsQuestion : List ℕ → Head → List Record → List ℕ → List ℕ → List ℕ → ℕ × ℕ → ℕ × ℕ → ℕ → Type 0
-ExportsQuestion s h rs area out out' before after r = Exported (Questions s h rs area out out') reply_of (λ v after. after ≡ v) before after r
+ExportsQuestion s h rs area out out' before after r = Exported (Questions s h rs area out out') outcome_of (λ v after. after ≡ v) before after r
 
 abbrev pub ExportsCommit : List ℕ → ℕ → Head → List Record → List ℕ → Head → List Record → List ℕ → ℕ → ℕ → ℕ → Type 0
-ExportsCommit s m h rs area h' rs' area' before after r = Exported (Commits s m h rs area h' rs' area') number_of (λ v after. after ≡ v) before after r
+ExportsCommit s m h rs area h' rs' area' before after r = Exported (Commits s m h rs area h' rs' area') outcome_of (λ v after. after ≡ v) before after r
 
 -- where a part of this size that a record tells starts: 0 for an empty one
 abbrev pub start_of : Record → ℕ → ℕ

@@ -8,21 +8,21 @@ ghost use Rattle.exports.specs.Exported.{ExportsAlphabets, ExportsTree, ExportsF
 pub mod registered;
 
 use canonical::normal::clean;
-use codes::symbol::{CodesWritten, write_codes};
-use comparison::compare::{Comparison, compare};
+use codes::symbol::write_codes;
+use comparison::compare::compare;
 use comparison::shorter::shorter;
 use earliest::earliest::earliest_form;
-use formats::file::{FileRead, FileWritten, read_transducer, transducer_marks, write_transducer};
-use forms::write::Formed;
+use formats::file::{read_transducer, transducer_marks, write_transducer};
+use forms::write::Form;
 use join::join::join;
-use queries::address::{Found, symbol_at};
-use queries::linear::{LinearTest, is_linear};
-use transducer::translate::{Translation, translate};
+use queries::address::symbol_at;
+use queries::linear::is_linear;
+use transducer::translate::translate;
 use trees::alphabet::{AlphabetsRead, input_ranks, read_alphabets};
 use trees::refusal::number_of;
 use trees::tree::{TreeRead, read_tree};
 use xml::read::read_xml;
-use xml::write::{Converted, write_xml};
+use xml::write::write_xml;
 
 // Reads two alphabets (01: stock): how many input and output symbols there are.
 #[unsafe(no_mangle)]
@@ -76,14 +76,14 @@ pub extern "C" fn caplune_read_transducer(
     ensures { ExportsFile stock.now file.now (states.old, counts.old, marks.old) (states.new, counts.new, marks.new) result }
 {
     match read_transducer(stock, file) {
-        FileRead::States(n) => {
+        Ok(n) => {
             let size = 2 + 2 * (n * input_ranks(stock).len());
             *states = n;
             *counts = size;
             *marks = file.len() - (1 + size);
             0
         }
-        FileRead::Refused(x) => number_of(x),
+        Err(x) => number_of(x),
     }
 }
 
@@ -100,11 +100,11 @@ pub extern "C" fn caplune_write_transducer(
     ensures { ExportsWriting stock.now states counts.now marks.now area.old area.new length.old length.new result }
 {
     match write_transducer(stock, states, counts, marks, area) {
-        FileWritten::Bytes(n) => {
+        Ok(n) => {
             *length = n;
             0
         }
-        FileWritten::Refused(x) => number_of(x),
+        Err(x) => number_of(x),
     }
 }
 
@@ -122,7 +122,7 @@ pub extern "C" fn caplune_is_linear(stock: &[u8], file: &[u8], linear: &mut usiz
             *linear = 0;
             0
         }
-        LinearTest::Refused(x) => number_of(x),
+        Err(x) => number_of(x),
     }
 }
 
@@ -138,11 +138,11 @@ pub extern "C" fn caplune_translate(
     ensures { ExportsTranslation stock.now file.now tree.now area.old area.new length.old length.new result }
 {
     match translate(stock, file, tree, area) {
-        Translation::Symbols(n) => {
+        Ok(n) => {
             *length = n;
             0
         }
-        Translation::Refused(x) => number_of(x),
+        Err(x) => number_of(x),
     }
 }
 
@@ -169,7 +169,7 @@ pub extern "C" fn caplune_symbol_at(
             *there = 0;
             0
         }
-        Found::Refused(x) => number_of(x),
+        Err(x) => number_of(x),
     }
 }
 
@@ -193,7 +193,7 @@ pub extern "C" fn caplune_earliest_form(
             *length = n;
             0
         }
-        Formed::Refused(x) => number_of(x),
+        Err(x) => number_of(x),
     }
 }
 
@@ -217,7 +217,7 @@ pub extern "C" fn caplune_clean(
             *length = n;
             0
         }
-        Formed::Refused(x) => number_of(x),
+        Err(x) => number_of(x),
     }
 }
 
@@ -243,7 +243,7 @@ pub extern "C" fn caplune_join(
             *length = n;
             0
         }
-        Formed::Refused(x) => number_of(x),
+        Err(x) => number_of(x),
     }
 }
 
@@ -278,7 +278,7 @@ pub extern "C" fn caplune_compare(
             *right = c;
             0
         }
-        Comparison::Refused(x) => number_of(x),
+        Err(x) => number_of(x),
     }
 }
 
@@ -315,8 +315,8 @@ pub extern "C" fn caplune_write_codes(area: &mut [u8]) -> u32
     ensures { ExportsCodes area.old area.new result }
 {
     match write_codes(area) {
-        CodesWritten::All => 0,
-        CodesWritten::Refused(x) => number_of(x),
+        Ok(()) => 0,
+        Err(x) => number_of(x),
     }
 }
 
@@ -331,11 +331,11 @@ pub extern "C" fn caplune_write_xml(
     ensures { ExportsXmlWriting stock.now tree.now text.old text.new length.old length.new result }
 {
     match write_xml(stock, tree, text) {
-        Converted::Length(n) => {
+        Ok(n) => {
             *length = n;
             0
         }
-        Converted::Refused(x) => number_of(x),
+        Err(x) => number_of(x),
     }
 }
 
@@ -350,10 +350,10 @@ pub extern "C" fn caplune_read_xml(
     ensures { ExportsXmlReading stock.now text.now area.old area.new length.old length.new result }
 {
     match read_xml(stock, text, area) {
-        Converted::Length(n) => {
+        Ok(n) => {
             *length = n;
             0
         }
-        Converted::Refused(x) => number_of(x),
+        Err(x) => number_of(x),
     }
 }

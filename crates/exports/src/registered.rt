@@ -4,37 +4,37 @@ ghost use Rattle.std.specs.Prelude.{◌≡◌};
 ghost use Rattle.records.specs.Book.{record_at};
 ghost use Rattle.exports.specs.Registered.{TellsMade, TellsEntered, TellsReply, start_of, ExportsMaking, ExportsEntry, ExportsQuestion, ExportsCommit, ExportsBody};
 
-use records::book::{Entered, Head, Made, Record, Reply};
+use records::book::{Head, Record};
 use records::entry::{any_number, this_number};
 use registry::lent::{body, enter, make, question};
 use trees::refusal::number_of;
 
 // The number of an answer to making.
-fn tell_made(answer: Made) -> u32
+fn tell_made(answer: Result<(), Refusal>) -> u32
     ensures { TellsMade answer result }
 {
     match answer {
-        Made::Empty => 0,
-        Made::Refused(x) => number_of(x),
+        Ok(()) => 0,
+        Err(x) => number_of(x),
     }
 }
 
 // The number of an answer to entry; the number that a transducer got is left behind the reference.
-fn tell_entered(answer: Entered, number: &mut usize) -> u32
+fn tell_entered(answer: Result<usize, Refusal>, number: &mut usize) -> u32
     ensures { TellsEntered answer number.old number.new result }
 {
     match answer {
-        Entered::Number(n) => {
+        Ok(n) => {
             *number = n;
             0
         }
-        Entered::Refused(x) => number_of(x),
+        Err(x) => number_of(x),
     }
 }
 
 // The number of an answer to a question; the number that an entry would get and the length of the clean file are left behind
 // the references.
-fn tell_reply(answer: Reply, number: &mut usize, size: &mut usize) -> u32
+fn tell_reply(answer: Result<Foretold, Refusal>, number: &mut usize, size: &mut usize) -> u32
     ensures { TellsReply answer (number.old, size.old) (number.new, size.new) result }
 {
     match answer {
@@ -43,7 +43,7 @@ fn tell_reply(answer: Reply, number: &mut usize, size: &mut usize) -> u32
             *size = bytes;
             0
         }
-        Reply::Refused(x) => number_of(x),
+        Err(x) => number_of(x),
     }
 }
 

@@ -1,5 +1,7 @@
 -- From the answers of the inner readers to the answers about a transducer's file: refusal 4, then 5, then N.
 -- Assumes nothing.
+use Rattle.std.specs.Prelude.{Err, None, Ok, Option, Result, Some}
+use Rattle.trees.specs.Refusal.{outcome_of, done, Holds, IsJudged}
 use Prim.Native.Nat.{ℕ, ◌+◌, ◌-◌, ◌*◌, ◌≤◌, ◌<◌}
 use native.Mathlib.Nat.{mul-le-mul}
 use native.Mathlib.Omega.{arith}
@@ -13,13 +15,8 @@ use Rattle.trees.specs.Alphabets.{Alphabets, inputs, outputs, alphabet_check}
 use Rattle.formats.specs.Inner.Judging.{JudgesParts, JudgesFile, Put}
 use Rattle.formats.specs.Inner.Layout.{offset, body_count, Summed, Right, Wholes}
 use Rattle.trees.specs.Answers.{Nothing}
-use Rattle.formats.specs.Answers.{file_read, ReadsFile, HandsCounts, HandsMarks, WritesFile}
-use Rattle.trees.specs.Refusal.{done, Holds, IsJudged}
+use Rattle.formats.specs.Answers.{ReadsFile, HandsCounts, HandsMarks, WritesFile}
 use Rattle.formats.specs.Sheet.{longest, Counted, Encodes, CountedFile, Sheet, file, sheet_check, parts_check}
-use Rattle.formats.specs.declared.file.FileRead.{FileRead}
-use Rattle.formats.specs.declared.file.FileRead.TheVariants.{States, Refused}
-use Rattle.formats.specs.declared.file.FileWritten.TheVariants as writing
-use Rattle.formats.specs.declared.file.FileWritten.TheVariants.{Bytes}
 use Rattle.trees.specs.declared.refusal.Refusal.{Refusal}
 use Rattle.trees.specs.declared.refusal.Refusal.TheVariants.{BadContents, BadBody}
 use Rattle.trees.proofs.Judging.{refuse, pass, accept, accepted_holds, refused_fails, refused_early}
@@ -39,23 +36,23 @@ module _ {stock : List ℕ} (A : Alphabets stock) {ins : List ℕ} (e : ins ≡ 
     right : Counted (length (inputs stock)) n counts bytes → Right ins n counts bytes
     right C = rw e (counted_right (inputs stock) n counts bytes A.ins.few C)
 
-    pub many_states : 128 < n → JudgesParts stock n counts bytes (Refused BadContents)
+    pub many_states : 128 < n → JudgesParts stock n counts bytes (Err BadContents)
     many_states h = refuse (λ C. omega (arith, (right C).states)) tt
 
-    pub wrong_length : (length counts ≡ 2 * body_count ins n → ⊥) → JudgesParts stock n counts bytes (Refused BadContents)
+    pub wrong_length : (length counts ≡ 2 * body_count ins n → ⊥) → JudgesParts stock n counts bytes (Err BadContents)
     wrong_length h = refuse (λ C. h (right C).long) tt
 
-    pub wrong_sums : (Summed counts bytes (body_count ins n) → ⊥) → JudgesParts stock n counts bytes (Refused BadContents)
+    pub wrong_sums : (Summed counts bytes (body_count ins n) → ⊥) → JudgesParts stock n counts bytes (Err BadContents)
     wrong_sums h = refuse (λ C. h (right C).sums) tt
 
     module _ (R : Right ins n counts bytes) {outs : List ℕ} (f : outs ≡ outputs stock) where
       counted : Counted (length (inputs stock)) n counts bytes
       counted = rw (← e) (right_counted ins n counts bytes R)
 
-      pub wrong_body : (Wholes ins outs n (offset counts) bytes → ⊥) → JudgesParts stock n counts bytes (Refused BadBody)
+      pub wrong_body : (Wholes ins outs n (offset counts) bytes → ⊥) → JudgesParts stock n counts bytes (Err BadBody)
       wrong_body h = pass counted (refuse (λ E. h (rw (e, f) (encodes_wholes (inputs stock) (outputs stock) n counts bytes E.0 E.1))) tt)
 
-      pub all_right : Wholes ins outs n (offset counts) bytes → JudgesParts stock n counts bytes (States n)
+      pub all_right : Wholes ins outs n (offset counts) bytes → JudgesParts stock n counts bytes (Ok n)
       all_right W =
           let E : (M : Transducer ℕ) × Encodes (inputs stock) (outputs stock) n counts bytes M = rw (← e, ← f) (_, wholes_encodes ins outs n counts bytes R W) in
           pass counted (pass E (accept (refl, E)))
@@ -82,7 +79,7 @@ module _ (stock s : List ℕ) (A : Alphabets stock) where
     counts_inside : 1 + 2 * body_count (inputs stock) k ≤ length s
     counts_inside = omega (arith, (counted_right (inputs stock) k counts bytes A.ins.few C).long, ap length whole, length-append counts bytes)
 
-  pub empty_file : length s ≡ 0 → JudgesFile stock s (Refused BadContents)
+  pub empty_file : length s ≡ 0 → JudgesFile stock s (Err BadContents)
   empty_file h = refuse (λ F. omega (arith, counts_inside F.states F.counts F.bytes F.coded F.counted)) tt
 
   module _ (n from : ℕ) (e : n ≡ get_or s 0 0) (f : from ≡ 1 + 2 * body_count (inputs stock) n) where
@@ -94,7 +91,7 @@ module _ (stock s : List ℕ) (A : Alphabets stock) where
           let z : k ≡ n = w.0 ∙ sym e in
           (z, rw z at w.1 ∙ sym (counts_lent s from (2 * body_count (inputs stock) n) f), rw z at w.2 ∙ sym (marks_lent s from (2 * body_count (inputs stock) n) f))
 
-    pub short_file : length s < from → JudgesFile stock s (Refused BadContents)
+    pub short_file : length s < from → JudgesFile stock s (Err BadContents)
     short_file h = refuse (λ F. let z = (lent F.states F.counts F.bytes F.coded F.counted).0 in omega (arith, rw z at (counts_inside F.states F.counts F.bytes F.coded F.counted))) tt
 
     parts_counted : CountedFile (length (inputs stock)) s → Counted (length (inputs stock)) n (take (from - 1) (drop 1 s)) (take (length s - from) (drop from s))
@@ -116,19 +113,19 @@ module _ (stock s : List ℕ) (A : Alphabets stock) where
       file_encodes M E = record { counts = take (from - 1) (drop 1 s); bytes = take (length s - from) (drop from s); coded = coded; encodes = E }
 
       -- what is judged of the parts is judged of the file
-      pub file_verdict : (r : FileRead) → JudgesParts stock n (take (from - 1) (drop 1 s)) (take (length s - from) (drop from s)) r → JudgesFile stock s r
+      pub file_verdict : (r : Result ℕ Refusal) → JudgesParts stock n (take (from - 1) (drop 1 s)) (take (length s - from) (drop from s)) r → JudgesFile stock s r
       unfolding IsJudged
       file_verdict r J = go r J.verdict
         where
-          go : (r : FileRead) → IsJudged Nothing (λ k. (k ≡ n) × ((M : Transducer ℕ) × Encodes (inputs stock) (outputs stock) n (take (from - 1) (drop 1 s)) (take (length s - from) (drop from s)) M)) (parts_check stock n (take (from - 1) (drop 1 s)) (take (length s - from) (drop from s)) done) (file_read r) → JudgesFile stock s r
+          go : (r : Result ℕ Refusal) → IsJudged Nothing (λ k. (k ≡ n) × ((M : Transducer ℕ) × Encodes (inputs stock) (outputs stock) n (take (from - 1) (drop 1 s)) (take (length s - from) (drop from s)) M)) (parts_check stock n (take (from - 1) (drop 1 s)) (take (length s - from) (drop from s)) done) (outcome_of r) → JudgesFile stock s r
           go r (inl (h, q, u)) = rw q (refuse (λ F. h (parts_counted F)) tt)
           go r (inr (C, inl (h, q, u))) = rw q (pass (file_counted C) (refuse (λ S. h (S.1.0, parts_encode S.0 S.1.0 S.1.1)) tt))
-          go (States k) (inr (C, inr (E, (q, G)))) = pass (file_counted C) (pass (n, (E.0, file_encodes E.0 E.1)) (accept (rw q (G.0, file_encodes G.0 G.1))))
-          go (Refused x) (inr (C, inr (E, u))) = absurd u
+          go (Ok k) (inr (C, inr (E, (q, G)))) = pass (file_counted C) (pass (n, (E.0, file_encodes E.0 E.1)) (accept (rw q (G.0, file_encodes G.0 G.1))))
+          go (Err x) (inr (C, inr (E, u))) = absurd u
 
 -- ---- the parts that are handed out
 -- an accepted file
-module _ (stock s : List ℕ) (n : ℕ) {r : FileRead} (J : ReadsFile stock s r) (e : r ≡ States n) where
+module _ (stock s : List ℕ) (n : ℕ) {r : Result ℕ Refusal} (J : ReadsFile stock s r) (e : r ≡ Ok n) where
   verdict : Holds (alphabet_check stock (sheet_check stock s done)) × ((M : Transducer ℕ) × Sheet (inputs stock) (outputs stock) s n M)
   verdict = accepted_holds (rw e at J)
 
@@ -159,12 +156,12 @@ module _ (stock s : List ℕ) (n : ℕ) {r : FileRead} (J : ReadsFile stock s r)
     marks_handed = inl (verdict.0, (n, (verdict.1.0, (verdict.1.1, sym parts_lent.2))))
 
 -- a refused one
-pub none_handed : (stock s : List ℕ) (x : Refusal) {r : FileRead} → ReadsFile stock s r → r ≡ Refused x → Holds (alphabet_check stock (sheet_check stock s done)) → ⊥
+pub none_handed : (stock s : List ℕ) (x : Refusal) {r : Result ℕ Refusal} → ReadsFile stock s r → r ≡ Err x → Holds (alphabet_check stock (sheet_check stock s done)) → ⊥
 none_handed stock s x J e = (refused_fails (rw e at J)).0
 
 -- ---- writing
-module _ (stock : List ℕ) (n : ℕ) (counts bytes : List ℕ) (A : Alphabets stock) {r : FileRead} (J : JudgesParts stock n counts bytes r) where
-  module _ (m : ℕ) (e : r ≡ States m) where
+module _ (stock : List ℕ) (n : ℕ) (counts bytes : List ℕ) (A : Alphabets stock) {r : Result ℕ Refusal} (J : JudgesParts stock n counts bytes r) where
+  module _ (m : ℕ) (e : r ≡ Ok m) where
     judged_parts : Holds (parts_check stock n counts bytes done) × ((m ≡ n) × ((M : Transducer ℕ) × Encodes (inputs stock) (outputs stock) n counts bytes M))
     judged_parts = accepted_holds (rw e at J)
 
@@ -175,11 +172,11 @@ module _ (stock : List ℕ) (n : ℕ) (counts bytes : List ℕ) (A : Alphabets s
         let C = encodes_counted (inputs stock) (outputs stock) n counts bytes w.1.0 w.1.1 in
         (omega (arith, w.0, C.contents.states), omega (arith, file_short (inputs stock) n counts bytes A.ins.few C, length-append counts bytes))
 
-    pub file_written_lem : {before after : List ℕ} {k : ℕ} → longest ≤ length before → Put (file m counts bytes) before after k → WritesFile stock n counts bytes before after (Bytes k)
+    pub file_written_lem : {before after : List ℕ} {k : ℕ} → longest ≤ length before → Put (file m counts bytes) before after k → WritesFile stock n counts bytes before after (Ok k)
     unfolding Holds
     file_written_lem {before} h P =
         let w = judged_parts in
         pass h (pass A (pass w.0.0 (pass w.0.1.0 (accept (P.size, P.wrote ∙ ap (λ k. sets before 0 (file k counts bytes)) w.1.0)))))
 
-  pub not_written : {before : List ℕ} (x : Refusal) → r ≡ Refused x → longest ≤ length before → WritesFile stock n counts bytes before before (writing.Refused x)
+  pub not_written : {before : List ℕ} (x : Refusal) → r ≡ Err x → longest ≤ length before → WritesFile stock n counts bytes before before (Err x)
   not_written x e h = pass h (pass A (refused_early (parts_check stock n counts bytes done) done refl (rw e at J)))

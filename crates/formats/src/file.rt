@@ -13,20 +13,6 @@ use trees::alphabet::{alphabets_right, input_ranks, output_ranks};
 use trees::bytes::wide;
 use trees::refusal::Refusal;
 
-// How many states the transducer has, or the refusal.
-#[derive(Drop)]
-pub enum FileRead {
-    States(usize),
-    Refused(Refusal),
-}
-
-// How many bytes the file has, or the refusal.
-#[derive(Drop)]
-pub enum FileWritten {
-    Bytes(usize),
-    Refused(Refusal),
-}
-
 // Where the counts end in a file with n states.
 pub fn counts_end(stock: &[u8], n: usize) -> usize
     requires { Alphabets stock.now × (n ≤ 255) }
@@ -37,51 +23,51 @@ pub fn counts_end(stock: &[u8], n: usize) -> usize
 }
 
 // Whether N, the counts and the marks are those of a transducer; else the refusal, 4 before 5.
-pub(crate) fn judge_parts(stock: &[u8], n: usize, counts: &[u8], marks: &[u8]) -> FileRead
+pub(crate) fn judge_parts(stock: &[u8], n: usize, counts: &[u8], marks: &[u8]) -> Result<usize, Refusal>
     requires { Alphabets stock.now }
     ensures { JudgesParts stock.now n counts.now marks.now result }
 {
     let ins = input_ranks(stock);
     if n > 128 {
-        return FileRead::Refused(Refusal::BadContents);
+        return Err(Refusal::BadContents);
     }
     let bodies = 1 + n * ins.len();
     if counts.len() != 2 * bodies {
-        return FileRead::Refused(Refusal::BadContents);
+        return Err(Refusal::BadContents);
     }
     if !counts_right(counts, bodies, marks) {
-        return FileRead::Refused(Refusal::BadContents);
+        return Err(Refusal::BadContents);
     }
     let mut starts = [0u16; 2050];
     fill_starts(counts, bodies, &mut starts);
     if !bodies_whole(ins, output_ranks(stock), n, &starts, marks) {
-        return FileRead::Refused(Refusal::BadBody);
+        return Err(Refusal::BadBody);
     }
-    FileRead::States(n)
+    Ok(n)
 }
 
 // The same of a file.
-fn judge_file(stock: &[u8], sheet: &[u8]) -> FileRead
+fn judge_file(stock: &[u8], sheet: &[u8]) -> Result<usize, Refusal>
     requires { Alphabets stock.now }
     ensures { JudgesFile stock.now sheet.now result }
 {
     if sheet.len() == 0 {
-        return FileRead::Refused(Refusal::BadContents);
+        return Err(Refusal::BadContents);
     }
     let n = wide(sheet[0]);
     let from = counts_end(stock, n);
     if sheet.len() < from {
-        return FileRead::Refused(Refusal::BadContents);
+        return Err(Refusal::BadContents);
     }
     judge_parts(stock, n, &sheet[1..from], &sheet[from..])
 }
 
 // Reads the file of a transducer.
-pub fn read_transducer(stock: &[u8], sheet: &[u8]) -> FileRead
+pub fn read_transducer(stock: &[u8], sheet: &[u8]) -> Result<usize, Refusal>
     ensures { ReadsFile stock.now sheet.now result }
 {
     if !alphabets_right(stock) {
-        return FileRead::Refused(Refusal::BadAlphabets);
+        return Err(Refusal::BadAlphabets);
     }
     judge_file(stock, sheet)
 }
@@ -91,11 +77,11 @@ pub fn transducer_counts<'a>(stock: &[u8], sheet: &'a [u8]) -> &'a [u8]
     ensures { HandsCounts stock.now sheet.now result.now }
 {
     match read_transducer(stock, sheet) {
-        FileRead::States(n) => {
+        Ok(n) => {
             let to = counts_end(stock, n);
             &sheet[1..to]
         }
-        FileRead::Refused(_) => &sheet[0..0],
+        Err(_) => &sheet[0..0],
     }
 }
 
@@ -104,11 +90,11 @@ pub fn transducer_marks<'a>(stock: &[u8], sheet: &'a [u8]) -> &'a [u8]
     ensures { HandsMarks stock.now sheet.now result.now }
 {
     match read_transducer(stock, sheet) {
-        FileRead::States(n) => {
+        Ok(n) => {
             let from = counts_end(stock, n);
             &sheet[from..]
         }
-        FileRead::Refused(_) => &sheet[0..0],
+        Err(_) => &sheet[0..0],
     }
 }
 
@@ -152,20 +138,20 @@ pub fn write_transducer(
     counts: &[u8],
     marks: &[u8],
     area: &mut [u8],
-) -> FileWritten
+) -> Result<usize, Refusal>
     ensures { WritesFile stock.now n counts.now marks.now area.old area.new result }
 {
     if area.len() < 20483 {
-        return FileWritten::Refused(Refusal::ShortArea);
+        return Err(Refusal::ShortArea);
     }
     if !alphabets_right(stock) {
-        return FileWritten::Refused(Refusal::BadAlphabets);
+        return Err(Refusal::BadAlphabets);
     }
     match judge_parts(stock, n, counts, marks) {
-        FileRead::States(m) => {
+        Ok(m) => {
             let size = put_file(m, counts, marks, area);
-            FileWritten::Bytes(size)
+            Ok(size)
         }
-        FileRead::Refused(r) => FileWritten::Refused(r),
+        Err(r) => Err(r),
     }
 }

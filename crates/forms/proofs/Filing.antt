@@ -1,5 +1,7 @@
 -- A form written as a file: the counts that the table of starts gives, and that the file is the one of the form.
 -- Assumes nothing.
+use Rattle.std.specs.Prelude.{Err, None, Ok, Option, Result, Some}
+use Rattle.trees.specs.Refusal.{outcome_of, accepted, Holds}
 use Prim.Native.Nat.{ℕ, suc, ◌+◌, ◌-◌, ◌*◌, ◌/◌, ◌%◌, ◌≤◌, ◌<◌}
 use native.Mathlib.Nat.{div-add-mod, mul-le-mul, sub-zero}
 use native.Mathlib.Numerals.{add-one}
@@ -13,13 +15,10 @@ use Rattle.theory.specs.NormalForm.{Identical}
 use Rattle.theory.specs.Transducer.{Transducer}
 use Rattle.theory.proofs.Terms.{conflict}
 use Rattle.trees.specs.Alphabets.{Leaf, Alphabets, inputs, outputs}
-use Rattle.formats.specs.Answers.{file_written, WritesFile}
+use Rattle.formats.specs.Answers.{WritesFile}
 use Rattle.trees.specs.Inner.Decode.{forest, first}
 use Rattle.formats.specs.Inner.Layout.{pairs, offset, mark_of, body, body_number, body_count, count_at, transducer, Right, Starts, Wholes}
-use Rattle.trees.specs.Refusal.{accepted, Holds}
 use Rattle.formats.specs.Sheet.{longest, file, Encodes}
-use Rattle.formats.specs.declared.file.FileWritten.{FileWritten}
-use Rattle.formats.specs.declared.file.FileWritten.TheVariants as writing
 use Rattle.trees.specs.declared.refusal.Refusal.{Refusal}
 use Rattle.trees.specs.declared.refusal.Refusal.TheVariants.{OverLimits}
 use Rattle.trees.proofs.Judging.{must_accept}
@@ -29,9 +28,6 @@ use Rattle.formats.proofs.Sheets.{right_counted, wholes_encodes}
 use Rattle.forms.specs.Alphabet.{alphabet, children_inside}
 use Rattle.forms.specs.Inner.Tables.{machine, Layout, Packed}
 use Rattle.forms.specs.Inner.Writing.{FillsCounts, Writable, WritesForm, FoundWritable, WritesFound}
-use Rattle.forms.specs.declared.write.FormSize.{FormSize}
-use Rattle.forms.specs.declared.write.FormSize.TheVariants.{States, Over}
-use Rattle.forms.specs.declared.write.Formed.TheVariants.{Form, Refused}
 
 -- ---- the counts
 -- the counts after count j was written as two bytes
@@ -161,7 +157,7 @@ module _ {stock starts bytes area ins : List ℕ} {k : ℕ} (A : Writable stock 
   form_bounds = (form_few form_layout form_packed, form_layout.bounds.long, form_packed.all, form_layout.bounds.inside (body_count ins k) (omega arith))
 
   -- the counts and the marks as they are lent
-  module _ (counts : List ℕ) (long : length counts ≡ 4098) (F : FillsCounts starts (body_count ins k) counts) {total : ℕ} (t : total ≡ get_or starts (body_count ins k) 0) {after : List ℕ} (r : FileWritten)
+  module _ (counts : List ℕ) (long : length counts ≡ 4098) (F : FillsCounts starts (body_count ins k) counts) {total : ℕ} (t : total ≡ get_or starts (body_count ins k) 0) {after : List ℕ} (r : Result ℕ Refusal)
       (J : WritesFile stock k (take (2 * body_count ins k - 0) counts) (take (2 * total - 0) bytes) area after r) where
     abbrev counted : List ℕ
     counted = take (2 * body_count (inputs stock) k) counts
@@ -182,12 +178,12 @@ module _ {stock starts bytes area ins : List ℕ} {k : ℕ} (A : Writable stock 
     encoded = form_encodes A.layout A.packed counted long_counted filled
 
     -- every check holds
-    form_accepted : (a : ℕ) × ((file_written r ≡ accepted a) × ((a ≡ length (file k counted marked)) × (after ≡ sets area 0 (file k counted marked))))
+    form_accepted : (a : ℕ) × ((outcome_of r ≡ accepted a) × ((a ≡ length (file k counted marked)) × (after ≡ sets area 0 (file k counted marked))))
     unfolding Holds
     form_accepted = must_accept (A.room, (A.alphabets, (right_counted (inputs stock) k counted marked (form_right A.layout A.packed counted long_counted filled), ((_, encoded), tt)))) judged_form
 
     -- so what was written is the file of the form
-    pub form_written : (n : ℕ) → r ≡ writing.Bytes n → WritesForm stock starts bytes k area after n
+    pub form_written : (n : ℕ) → r ≡ Ok n → WritesForm stock starts bytes k area after n
     form_written n e =
         let w = form_accepted in
         let z : n ≡ w.0 = cc in
@@ -203,7 +199,7 @@ module _ {stock starts bytes area ins : List ℕ} {k : ℕ} (A : Writable stock 
         }
 
     -- and there was no refusal
-    pub form_refused : (x : Refusal) → r ≡ writing.Refused x → ⊥
+    pub form_refused : (x : Refusal) → r ≡ Err x → ⊥
     form_refused x e = let w = form_accepted in conflict (cc)
 
 -- ---- the file that a table can be written as
@@ -224,14 +220,14 @@ packed_encoded {stock} {starts} {bytes} {k} A L P =
     (F.0, take (2 * get_or starts m 0) bytes, _, form_encodes L P F.0 F.1.0 F.1.1, form_same L P F.0 F.1.0 F.1.1)
 
 -- ---- the file of the form that was found
-module _ {stock starts bytes area : List ℕ} {found : FormSize} where
+module _ {stock starts bytes area : List ℕ} {found : Option ℕ} where
   -- it stands in the table, and there is room
-  pub found_writable : Alphabets stock → ((k : ℕ) → found ≡ States k → Layout (inputs stock) (outputs stock) starts bytes k) → ((k : ℕ) → found ≡ States k → Packed (inputs stock) starts k) → longest ≤ length area → FoundWritable stock found starts bytes area
+  pub found_writable : Alphabets stock → ((k : ℕ) → found ≡ Some k → Layout (inputs stock) (outputs stock) starts bytes k) → ((k : ℕ) → found ≡ Some k → Packed (inputs stock) starts k) → longest ≤ length area → FoundWritable stock found starts bytes area
   found_writable A L P h = record { each = λ k e. record { alphabets = A; layout = L k e; packed = P k e; room = h } }
 
   -- the contract of `write_found`: it is over the limits, or it is written
-  pub writes_over : found ≡ Over → WritesFound stock found starts bytes area area (Refused OverLimits)
+  pub writes_over : found ≡ None → WritesFound stock found starts bytes area area (Err OverLimits)
   writes_over e = record { over = λ z. (refl, refl); form = λ k z. conflict (cc) }
 
-  pub writes_form : {k : ℕ} → found ≡ States k → {ins after : List ℕ} {m size : ℕ} → ins ≡ inputs stock → m ≡ get_or starts (body_count ins k) 0 → WritesForm stock starts bytes k area after size → WritesFound stock found starts bytes area after (Form k m size)
+  pub writes_form : {k : ℕ} → found ≡ Some k → {ins after : List ℕ} {m size : ℕ} → ins ≡ inputs stock → m ≡ get_or starts (body_count ins k) 0 → WritesForm stock starts bytes k area after size → WritesFound stock found starts bytes area after (Form k m size)
   writes_form {k} e i t W = record { over = λ z. conflict (cc); form = λ k' z. let h : k ≡ k' = cc in rw (← h) (record { marks = _; size = _; answer = refl; many = rw i at t; written = W }) }

@@ -2,24 +2,10 @@
 ghost use Rattle.std.specs.Prelude.{ℕ, ◌+◌, ◌*◌, ◌≤◌, ◌<◌, length, get_or};
 ghost use Rattle.forms.specs.Inner.Writing.{FillsCounts, Writable, WritesForm, FoundWritable, WritesFound};
 
-use formats::file::{FileWritten, write_transducer};
+use formats::file::write_transducer;
 use trees::alphabet::input_ranks;
 use trees::bytes::number;
 use trees::refusal::Refusal;
-
-// How many states a form has, or that the form is over the limits of a file.
-#[derive(Drop)]
-pub enum FormSize {
-    States(usize),
-    Over,
-}
-
-// How many states and marks a form has, and how long its file is; or the refusal.
-#[derive(Clone, Copy)]
-pub enum Formed {
-    Form(usize, usize, usize),
-    Refused(Refusal),
-}
 
 // Writes the counts of m bodies, two bytes each, the high byte first.
 fn fill_counts(starts: &[u16], m: usize, counts: &mut [u8])
@@ -45,28 +31,28 @@ fn write_form(stock: &[u8], starts: &[u16], marks: &[u8], k: usize, area: &mut [
     fill_counts(starts, m, &mut counts);
     let end = 2 * number(starts[m]);
     match write_transducer(stock, k, &counts[0..2 * m], &marks[0..end], area) {
-        FileWritten::Bytes(size) => size,
-        FileWritten::Refused(_) => 0,
+        Ok(size) => size,
+        Err(_) => 0,
     }
 }
 
 // Writes the file of the form that was found, whose bodies start in `marks` where `starts` says; refusal 7 where it is over the limits.
 pub fn write_found(
     stock: &[u8],
-    found: FormSize,
+    found: Option<usize>,
     starts: &[u16],
     marks: &[u8],
     area: &mut [u8],
-) -> Formed
+) -> Result<Form, Refusal>
     requires { FoundWritable stock.now found starts.now marks.now area.old }
     ensures { WritesFound stock.now found starts.now marks.now area.old area.new result }
 {
     match found {
-        FormSize::States(k) => {
+        Some(k) => {
             let bytes = write_form(stock, starts, marks, k, area);
             let bodies = 1 + k * input_ranks(stock).len();
             Formed::Form(k, number(starts[bodies]), bytes)
         }
-        FormSize::Over => Formed::Refused(Refusal::OverLimits),
+        None => Err(Refusal::OverLimits),
     }
 }

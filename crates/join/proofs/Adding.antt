@@ -1,5 +1,7 @@
 -- A right-hand side whose letters were written to an area of 64 letters: all of them stand there and can be added as a body, or there are more, which is over the limits of a file.
 -- Assumes nothing.
+use Rattle.std.specs.Prelude.{Err, None, Ok, Option, Result, Some}
+use Rattle.trees.specs.declared.refusal.Refusal.{Refusal}
 use Prim.Native.Nat.{ℕ, ◌+◌, ◌-◌, ◌*◌, ◌≤◌, ◌<◌}
 use native.Mathlib.Omega.{arith}
 use mathlib.Core.List.{List}
@@ -15,8 +17,6 @@ use Rattle.discovery.specs.Inner.Bodies.{AddsBody}
 use Rattle.discovery.specs.Inner.Discovering.{Empty, Found, Adds}
 use Rattle.discovery.specs.Inner.Letters.{spelt}
 use Rattle.discovery.specs.Inner.Queue.{Queue, Sayable, met_of}
-use Rattle.forms.specs.declared.write.FormSize.{FormSize}
-use Rattle.forms.specs.declared.write.FormSize.TheVariants.{States, Over}
 use Rattle.discovery.proofs.Queues.{adds_over}
 use Rattle.discovery.proofs.Loops.{adds_none, adds_some, adds_initial}
 use Rattle.discovery.proofs.Stages.{Stage, initial_sayable, rhs_sayable, stage_none, stage_state, stage_room, stage_next, stage_all}
@@ -33,11 +33,11 @@ module _ {w before after : List ℕ} {r : ℕ} (W : Wrote w 0 64 before after r)
   letters_inside l h = omega (arith, W.end, ap length (W.wrote (omega (arith, W.end))), length-sets before 0 w)
 
   -- or there are more than 64
-  pub cut_adds : {b met : ℕ} {starts out list place : List ℕ} → 64 < r → AddsBody w b starts out list place met starts out list place Over
+  pub cut_adds : {b met : ℕ} {starts out list place : List ℕ} → 64 < r → AddsBody w b starts out list place met starts out list place None
   cut_adds h = adds_over (inl (omega (arith, W.end)))
 
 -- what was added is the letters that stand there
-pub adds_as : {w s : List ℕ} {b met : ℕ} {starts out list place starts' out' list' place' : List ℕ} {r : FormSize} → s ≡ w → AddsBody s b starts out list place met starts' out' list' place' r → AddsBody w b starts out list place met starts' out' list' place' r
+pub adds_as : {w s : List ℕ} {b met : ℕ} {starts out list place starts' out' list' place' : List ℕ} {r : Option ℕ} → s ≡ w → AddsBody s b starts out list place met starts' out' list' place' r → AddsBody w b starts out list place met starts' out' list' place' r
 adds_as e A = rw e at A
 
 -- each letter of a right-hand side is a symbol or a call of a number below 16,384
@@ -49,7 +49,7 @@ module _ {stock stock' starts bytes starts' bytes' : List ℕ} where
   initial_said T f e = rw (e, f) (initial_sayable (by_numbers T))
 
   -- the initial term was added, or is over the limits
-  pub initial_adds : {starts₀ out list place starts'' out'' list'' place'' : List ℕ} {r : FormSize} → Tables stock stock' starts bytes starts' bytes' → Empty 16384 starts₀ out list place
+  pub initial_adds : {starts₀ out list place starts'' out'' list'' place'' : List ℕ} {r : Option ℕ} → Tables stock stock' starts bytes starts' bytes' → Empty 16384 starts₀ out list place
       → AddsBody (spelt (product stock stock' starts bytes starts' bytes').initial) 0 starts₀ out list place 0 starts'' out'' list'' place'' r
       → Adds (inputs stock) (outputs stock') (product stock stock' starts bytes starts' bytes') 16384 0 starts'' out'' list'' place'' r
   initial_adds T M A = adds_initial (by_numbers T) T.alphabets.leaf M A refl
@@ -78,15 +78,15 @@ module _ {stock stock' starts bytes starts' bytes' : List ℕ} (T : Tables stock
       pub rhs_ready : IsPair stock stock' starts bytes starts' bytes' c × (a < length (inputs stock)) × Queue list place met × (met ≤ 128) × (length place ≡ 16384) × (1 + p * symbols + a + 1 < length starts₀) × (get_or starts₀ (1 + p * symbols + a) 0 ≤ 8192) × (length out ≡ 16384)
       rhs_ready = (record { tables = T; pair = stage_state (by_numbers T) T.alphabets.leaf S }, inside, S.bodies.queue, S.bodies.few, S.bodies.wide, omega (arith, rhs_room, S.bodies.long), rw number_of_lem S.bodies.all, S.bodies.room)
 
-      module _ {starts'' out'' list'' place'' : List ℕ} {r : FormSize} (A : AddsBody (spelt ((product stock stock' starts bytes starts' bytes').rhs c a)) (1 + p * symbols + a) starts₀ out list place met starts'' out'' list'' place'' r) where
+      module _ {starts'' out'' list'' place'' : List ℕ} {r : Option ℕ} (A : AddsBody (spelt ((product stock stock' starts bytes starts' bytes').rhs c a)) (1 + p * symbols + a) starts₀ out list place met starts'' out'' list'' place'' r) where
         -- a right-hand side more
-        pub rhs_next : {n : ℕ} → r ≡ States n → Stage (inputs stock) (product stock stock' starts bytes starts' bytes') 16384 p c (a + 1) L starts'' out'' list'' place'' n
+        pub rhs_next : {n : ℕ} → r ≡ Some n → Stage (inputs stock) (product stock stock' starts bytes starts' bytes') 16384 p c (a + 1) L starts'' out'' list'' place'' n
         rhs_next x = stage_next (by_numbers T) T.alphabets.leaf S inside (rw number_of_lem at A) x refl
 
         -- or it is over the limits
-        pub rhs_over : {q : ℕ} {starts''' out''' list''' place''' : List ℕ} → r ≡ Over → Adds (inputs stock) (outputs stock') (product stock stock' starts bytes starts' bytes') 16384 q starts''' out''' list''' place''' Over
+        pub rhs_over : {q : ℕ} {starts''' out''' list''' place''' : List ℕ} → r ≡ None → Adds (inputs stock) (outputs stock') (product stock stock' starts bytes starts' bytes') 16384 q starts''' out''' list''' place''' None
         rhs_over x = adds_none (stage_over (by_numbers T) S inside refl (rw number_of_lem at (A.over x)))
 
     -- all have been read
-    pub pair_done : a ≡ symbols → Adds (inputs stock) (outputs stock') (product stock stock' starts bytes starts' bytes') 16384 (p + 1) starts₀ out list place (States met)
+    pub pair_done : a ≡ symbols → Adds (inputs stock) (outputs stock') (product stock stock' starts bytes starts' bytes') 16384 (p + 1) starts₀ out list place (Some met)
     pair_done f = adds_some (stage_all (by_numbers T) T.alphabets.leaf S (f ∙ e))

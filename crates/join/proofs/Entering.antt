@@ -1,5 +1,7 @@
 -- What the functions that lead to the joined file ask of each other, and what the entry point answers where a check fails.
 -- Assumes nothing.
+use Rattle.std.specs.Prelude.{Err, None, Ok, Option, Result, Some}
+use Rattle.forms.specs.declared.write.Form.{Form}
 use Prim.Native.Nat.{ℕ, ◌-◌, ◌≤◌}
 use mathlib.Core.Bool.{Bool}
 use mathlib.Core.List.{List}
@@ -13,15 +15,9 @@ use Rattle.trees.proofs.Judging.{pass, accepted_holds}
 use Rattle.formats.specs.Answers.{ReadsFile}
 use Rattle.formats.specs.Inner.Layout.{body_count, Starts}
 use Rattle.formats.specs.Sheet.{longest, sheet_check}
-use Rattle.formats.specs.declared.file.FileRead.{FileRead}
-use Rattle.formats.specs.declared.file.FileRead.TheVariants as read
 use Rattle.transducer.proofs.Opening.{Opened, opened_machine, not_opened}
 use Rattle.discovery.specs.Inner.Discovering.{Discovers}
 use Rattle.forms.specs.Inner.Writing.{FoundWritable, WritesFound}
-use Rattle.forms.specs.declared.write.FormSize.{FormSize}
-use Rattle.forms.specs.declared.write.FormSize.TheVariants.{States}
-use Rattle.forms.specs.declared.write.Formed.{Formed}
-use Rattle.forms.specs.declared.write.Formed.TheVariants.{Refused}
 use Rattle.join.specs.Answers.{join_check}
 use Rattle.join.specs.Inner.Pairs.{product, Tables}
 use Rattle.join.specs.Inner.Parts.{StockJoined, Joinable, JoinsParts, JoinsFile, JoinsSheets}
@@ -33,18 +29,18 @@ module _ {stock stock' counts bytes counts' bytes' ins ins' : List ℕ} {n m : �
   pub tables_read : Tables stock stock' starts bytes starts' bytes'
   tables_read = tables_of_lem J starts starts' (rw i at S) (rw i' at S') long long'
 
-  pub parts_joined : {starts'' out : List ℕ} {r : FormSize} → Discovers (inputs stock) (outputs stock') (product stock stock' starts bytes starts' bytes') starts'' out r → JoinsParts stock stock' n counts bytes m counts' bytes' starts'' out r
+  pub parts_joined : {starts'' out : List ℕ} {r : Option ℕ} → Discovers (inputs stock) (outputs stock') (product stock stock' starts bytes starts' bytes') starts'' out r → JoinsParts stock stock' n counts bytes m counts' bytes' starts'' out r
   parts_joined = joins_parts J starts starts' (rw i at S) (rw i' at S') long long'
 
 -- ---- the file of what was found, under the alphabets that were written
-module _ {stock stock' counts bytes counts' bytes' starts out area : List ℕ} {n m size k : ℕ} {found : FormSize} (J : Joinable stock stock' n counts bytes m counts' bytes') (S : StockJoined stock stock' area size)
-    (P : JoinsParts stock stock' n counts bytes m counts' bytes' starts out found) (e : found ≡ States k) where
+module _ {stock stock' counts bytes counts' bytes' starts out area : List ℕ} {n m size k : ℕ} {found : Option ℕ} (J : Joinable stock stock' n counts bytes m counts' bytes') (S : StockJoined stock stock' area size)
+    (P : JoinsParts stock stock' n counts bytes m counts' bytes' starts out found) (e : found ≡ Some k) where
   -- it can be written
-  pub found_writes : {before : List ℕ} → longest ≤ length before → FoundWritable (take (size - 0) area) (States k) starts out before
+  pub found_writes : {before : List ℕ} → longest ≤ length before → FoundWritable (take (size - 0) area) (Some k) starts out before
   found_writes room = file_writable P J e (stock_lent S) room
 
   -- and was
-  pub found_joined : {before after : List ℕ} {r : Formed} → WritesFound (take (size - 0) area) (States k) starts out before after r → JoinsFile stock stock' n counts bytes m counts' bytes' before after r
+  pub found_joined : {before after : List ℕ} {r : Result Form Refusal} → WritesFound (take (size - 0) area) (Some k) starts out before after r → JoinsFile stock stock' n counts bytes m counts' bytes' before after r
   found_joined W = file_joined P J e (stock_lent S) W
 
 -- ---- two files
@@ -62,10 +58,10 @@ pub both_opened : {stock stock' s s' ins ins' counts bytes counts' bytes' : List
 both_opened O O' f = record { first = opened_machine O; second = opened_machine O'; fits = f }
 
 -- the first file was refused, or the second after the first was read
-pub first_refused : (stock stock' s s' before : List ℕ) {x : Refusal} {r : FileRead} → Alphabets stock → ReadsFile stock s r → r ≡ read.Refused x → JoinsSheets stock stock' s s' before before (Refused x)
+pub first_refused : (stock stock' s s' before : List ℕ) {x : Refusal} {r : Result ℕ Refusal} → Alphabets stock → ReadsFile stock s r → r ≡ Err x → JoinsSheets stock stock' s s' before before (Err x)
 first_refused stock stock' s s' before A J e = passed A (not_opened stock s (sheet_check stock' s' (join_check stock stock' s s' done)) refl J e)
 
-pub second_refused : (stock stock' s s' before : List ℕ) {n : ℕ} {x : Refusal} {q r : FileRead} → ReadsFile stock s q → q ≡ read.States n → Alphabets stock' → ReadsFile stock' s' r → r ≡ read.Refused x → JoinsSheets stock stock' s s' before before (Refused x)
+pub second_refused : (stock stock' s s' before : List ℕ) {n : ℕ} {x : Refusal} {q r : Result ℕ Refusal} → ReadsFile stock s q → q ≡ Ok n → Alphabets stock' → ReadsFile stock' s' r → r ≡ Err x → JoinsSheets stock stock' s s' before before (Err x)
 unfolding Holds
 second_refused stock stock' s s' before J e A' J' e' = let w = (accepted_holds (rw e at J)).0 in pass w.1.0 (pass w.1.1.0 (passed A' (not_opened stock' s' (join_check stock stock' s s' done) refl J' e')))
 

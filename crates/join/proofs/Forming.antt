@@ -1,5 +1,9 @@
 -- The joined transducer from its ends: what is read from the tables of two transducers is the second after the first; of the parts of two files, and of two files.
 -- Assumes nothing.
+use Rattle.std.specs.Prelude.{Err, None, Ok, Option, Result, Some}
+use Rattle.trees.specs.declared.refusal.Refusal.{Refusal}
+use Rattle.forms.specs.declared.write.Form.{Form}
+use Rattle.trees.specs.Refusal.{outcome_of, done, check, IsJudged, Holds, Judged}
 use Prim.Native.Nat.{ℕ, ◌-◌, ◌≤◌}
 use native.Mathlib.Omega.{arith}
 use mathlib.Core.List.{List}
@@ -12,7 +16,6 @@ use Rattle.theory.specs.Transducer.{Transducer}
 use Rattle.theory.proofs.Identity.{identical_sym, identical_trans, identical_wf}
 use Rattle.theory.proofs.Joining.{joined_by, joined_follows_stage, joined_follows_states, joined_same}
 use Rattle.trees.specs.Alphabets.{Leaf, Alphabets, inputs, outputs, stock as stockFile}
-use Rattle.trees.specs.Refusal.{done, check, IsJudged, Holds, Judged}
 use Rattle.trees.specs.declared.refusal.Refusal.TheVariants.{JoinOverLimits}
 use Rattle.trees.proofs.Judging.{refuse, pass, accept}
 use Rattle.trees.proofs.Stock.{stock_reads, stock_reads_outputs, stock_right}
@@ -22,15 +25,11 @@ use Rattle.formats.proofs.Sheets.{sheet_unique}
 use Rattle.transducer.proofs.Opening.{Opened, opened_sheet}
 use Rattle.transducer.proofs.Translating.{starts_fit}
 use Rattle.forms.specs.Alphabet.{alphabet}
-use Rattle.forms.specs.Answers.{form_of, FileOf}
+use Rattle.forms.specs.Answers.{FileOf}
 use Rattle.forms.specs.Inner.Tables.{machine, Layout}
 use Rattle.forms.specs.Inner.Writing.{FoundWritable, WritesForm, WritesFound}
 use Rattle.forms.proofs.Filing.{found_writable}
 use Rattle.forms.proofs.Loading.{encoded_layout, encoded_same}
-use Rattle.forms.specs.declared.write.FormSize.{FormSize}
-use Rattle.forms.specs.declared.write.FormSize.TheVariants.{States, Over}
-use Rattle.forms.specs.declared.write.Formed.{Formed}
-use Rattle.forms.specs.declared.write.Formed.TheVariants.{Form, Refused}
 use Rattle.discovery.specs.Inner.Bodies.{AllFollow}
 use Rattle.discovery.specs.Inner.Discovering.{Discovers}
 use Rattle.join.specs.Answers.{JoinedFile, join_check}
@@ -53,7 +52,7 @@ module _ {stock stock' starts bytes starts' bytes' : List ℕ} (T : Tables stock
       }
 
   -- and what it finds is the joined transducer
-  tables_joined : {starts'' out : List ℕ} {r : FormSize} → Discovers (inputs stock) (outputs stock') (product stock stock' starts bytes starts' bytes') starts'' out r → (k : ℕ) → r ≡ States k
+  tables_joined : {starts'' out : List ℕ} {r : Option ℕ} → Discovers (inputs stock) (outputs stock') (product stock stock' starts bytes starts' bytes') starts'' out r → (k : ℕ) → r ≡ Some k
       → Joined (alphabet (inputs stock) l) (tabled (inputs stock) (inputs stock') starts bytes) (tabled (inputs stock') (outputs stock') starts' bytes') (machine (inputs stock) (outputs stock') starts'' out k) k
   unfolding product
   tables_joined G k e =
@@ -90,7 +89,7 @@ module _ {stock stock' : List ℕ} {n : ℕ} {counts bytes : List ℕ} {m : ℕ}
   second_same E l' = identical_trans (encoded_same E X.second.alphabets.ins.few starts' S' l') (tabled_same second_layout l')
 
   -- so they have one joined transducer with them
-  pub joins_parts : {starts'' out : List ℕ} {r : FormSize} → Discovers (inputs stock) (outputs stock') (product stock stock' starts bytes starts' bytes') starts'' out r → JoinsParts stock stock' n counts bytes m counts' bytes' starts'' out r
+  pub joins_parts : {starts'' out : List ℕ} {r : Option ℕ} → Discovers (inputs stock) (outputs stock') (product stock stock' starts bytes starts' bytes') starts'' out r → JoinsParts stock stock' n counts bytes m counts' bytes' starts'' out r
   unfolding tables_of_lem
   joins_parts G = let l' = X.second.alphabets.leaf in record {
     over = λ e k counts'' bytes'' K.
@@ -115,17 +114,17 @@ stock_lent {area = area} {r = r} K = let z : r - 0 ≡ r = omega arith in ap (λ
 stock_alphabets : {stock stock' : List ℕ} → Alphabets stock → Alphabets stock' → Alphabets (stockFile (inputs stock) (outputs stock'))
 stock_alphabets A A' = stock_right A.ins A'.outs A.leaf
 
-module _ {stock stock' : List ℕ} {n : ℕ} {counts bytes : List ℕ} {m : ℕ} {counts' bytes' starts out : List ℕ} {found : FormSize}
+module _ {stock stock' : List ℕ} {n : ℕ} {counts bytes : List ℕ} {m : ℕ} {counts' bytes' starts out : List ℕ} {found : Option ℕ}
     (B : JoinsParts stock stock' n counts bytes m counts' bytes' starts out found) (X : Joinable stock stock' n counts bytes m counts' bytes') where
   -- what writing it asks
-  pub file_writable : {k : ℕ} → found ≡ States k → {s : List ℕ} → s ≡ stockFile (inputs stock) (outputs stock') → {area : List ℕ} → longest ≤ length area → FoundWritable s (States k) starts out area
+  pub file_writable : {k : ℕ} → found ≡ Some k → {s : List ℕ} → s ≡ stockFile (inputs stock) (outputs stock') → {area : List ℕ} → longest ≤ length area → FoundWritable s (Some k) starts out area
   file_writable e c h =
       rw c (found_writable (stock_alphabets X.first.alphabets X.second.alphabets)
       (λ k z. rw (stock_reads (inputs stock) (outputs stock'), stock_reads_outputs (inputs stock) (outputs stock')) (B.layout k (e ∙ z)))
       (λ k z. rw (stock_reads (inputs stock) (outputs stock')) (B.packed k (e ∙ z))) h)
 
   -- it is the joined transducer
-  joined_of : {k : ℕ} → found ≡ States k → {before after : List ℕ} {size : ℕ} (W : WritesForm (stockFile (inputs stock) (outputs stock')) starts out k before after size) → JoinedOf stock stock' n counts bytes m counts' bytes' k W.counts W.marks
+  joined_of : {k : ℕ} → found ≡ Some k → {before after : List ℕ} {size : ℕ} (W : WritesForm (stockFile (inputs stock) (outputs stock')) starts out k before after size) → JoinedOf stock stock' n counts bytes m counts' bytes' k W.counts W.marks
   joined_of {k} e W =
       let l = X.first.alphabets.leaf in
       let A = B.joined k e X.first.machine X.second.machine X.first.encodes X.second.encodes l in
@@ -142,14 +141,14 @@ module _ {stock stock' : List ℕ} {n : ℕ} {counts bytes : List ℕ} {m : ℕ}
       }
 
   -- the contract of `join_file`: it is written, or it is over the limits
-  pub file_joined : {k : ℕ} → found ≡ States k → {s : List ℕ} → s ≡ stockFile (inputs stock) (outputs stock') → {before after : List ℕ} {r : Formed} → WritesFound s (States k) starts out before after r → JoinsFile stock stock' n counts bytes m counts' bytes' before after r
+  pub file_joined : {k : ℕ} → found ≡ Some k → {s : List ℕ} → s ≡ stockFile (inputs stock) (outputs stock') → {before after : List ℕ} {r : Result Form Refusal} → WritesFound s (Some k) starts out before after r → JoinsFile stock stock' n counts bytes m counts' bytes' before after r
   file_joined {k} e c W =
       let w = (rw c at W).form k refl in
       let f = w.written in
       let g = joined_of e f in
       rw w.answer (pass (k, (f.counts, (f.marks, g))) (accept (f.counts, (f.marks, (g, record { marks = omega (arith, w.many, f.long); size = f.size; wrote = f.wrote })))))
 
-  pub file_over : found ≡ Over → {area : List ℕ} → JoinsFile stock stock' n counts bytes m counts' bytes' area area (Refused JoinOverLimits)
+  pub file_over : found ≡ None → {area : List ℕ} → JoinsFile stock stock' n counts bytes m counts' bytes' area area (Err JoinOverLimits)
   file_over e = refuse (λ x. B.over e x.0 x.1.0 x.1.1.0 x.1.1.1) refl
 
 -- ---- of two files: what is answered of their parts is answered of them
@@ -184,14 +183,14 @@ module _ {stock s ins counts bytes : List ℕ} {n : ℕ} (O : Opened stock s n i
       }
 
   -- the contract of `join_sheets`, where both files are read
-  pub sheets_joined : {before after : List ℕ} (r : Formed) → JoinsFile stock stock' n counts bytes m counts' bytes' before after r → JoinsSheets stock stock' s s' before after r
+  pub sheets_joined : {before after : List ℕ} (r : Result Form Refusal) → JoinsFile stock stock' n counts bytes m counts' bytes' before after r → JoinsSheets stock stock' s s' before after r
   unfolding IsJudged Holds
   sheets_joined {before} {after} r J = go r J.verdict
     where
-      start : (r : Formed) → Judged (after ≡ before) (λ v. (counts'' : List ℕ) × ((bytes'' : List ℕ) × (JoinedFile stock stock' s s' v.0 counts'' bytes'' × FileOf v counts'' bytes'' before after))) (join_check stock stock' s s' done) (form_of r) → JoinsSheets stock stock' s s' before after r
+      start : (r : Result Form Refusal) → Judged (after ≡ before) (λ v. (counts'' : List ℕ) × ((bytes'' : List ℕ) × (JoinedFile stock stock' s s' v.0 counts'' bytes'' × FileOf v counts'' bytes'' before after))) (join_check stock stock' s s' done) (outcome_of r) → JoinsSheets stock stock' s s' before after r
       start r j = let w = O.holds.1 in let w' = O'.holds.1 in pass w.0 (pass w.1.0 (pass w'.0 (pass w'.1.0 j)))
 
-      go : (r : Formed) → IsJudged (after ≡ before) (λ v. (counts'' : List ℕ) × ((bytes'' : List ℕ) × (JoinedOf stock stock' n counts bytes m counts' bytes' v.0 counts'' bytes'' × FileOf v counts'' bytes'' before after))) (check 17 ((k : ℕ) × ((counts'' : List ℕ) × ((bytes'' : List ℕ) × JoinedOf stock stock' n counts bytes m counts' bytes' k counts'' bytes''))) done) (form_of r) → JoinsSheets stock stock' s s' before after r
+      go : (r : Result Form Refusal) → IsJudged (after ≡ before) (λ v. (counts'' : List ℕ) × ((bytes'' : List ℕ) × (JoinedOf stock stock' n counts bytes m counts' bytes' v.0 counts'' bytes'' × FileOf v counts'' bytes'' before after))) (check 17 ((k : ℕ) × ((counts'' : List ℕ) × ((bytes'' : List ℕ) × JoinedOf stock stock' n counts bytes m counts' bytes' k counts'' bytes''))) done) (outcome_of r) → JoinsSheets stock stock' s s' before after r
       go r (inl (h, q, kept)) = start r (rw q (refuse (λ w. h (w.0, (w.1.0, (w.1.1.0, to_parts w.1.1.1)))) kept))
       go (Form k m s) (inr (R, (counts'', (bytes'', (P, f))))) = start (Form k m s) (pass (R.0, (R.1.0, (R.1.1.0, from_parts R.1.1.1))) (accept (counts'', (bytes'', (from_parts P, f)))))
-      go (Refused x) (inr (R, u)) = absurd u
+      go (Err x) (inr (R, u)) = absurd u

@@ -1,5 +1,9 @@
 -- What joining promises whatever transducers the two files have: the joined file translates as the second after the first, also in the terms of output trees; it is accepted under the joined stock; the contract determines the answer and the area; files that translate alike have joined files that do; joining three files either way gives one file.
 -- Assumes nothing.
+use Rattle.std.specs.Prelude.{Option, Result}
+use Rattle.trees.specs.declared.refusal.Refusal.{Refusal}
+use Rattle.forms.specs.declared.write.Form.{Form}
+use Rattle.trees.specs.Refusal.{outcome_of, accepted, done, check, Holds}
 use Prim.Native.Nat.{ℕ, ◌≤◌}
 use native.Mathlib.Omega.{arith}
 use mathlib.Core.List.{List, [], ◌∷◌}
@@ -18,7 +22,6 @@ use Rattle.theory.proofs.Terms.{bind_var}
 use Rattle.trees.specs.Alphabets.{Leaf, Alphabets, inputs, outputs, alphabet_check}
 use Rattle.trees.specs.Code.{Ranked, preorder, code}
 use Rattle.trees.specs.Inner.Symbols.{symbol_of}
-use Rattle.trees.specs.Refusal.{accepted, done, check, Holds}
 use Rattle.trees.proofs.Codes.{unique}
 use Rattle.trees.proofs.Judging.{accepted_holds, one_answer}
 use Rattle.trees.proofs.Letters.{over_tree}
@@ -29,8 +32,7 @@ use Rattle.formats.proofs.Sheets.{sheet_unique, encodes_counted, file_short}
 use Rattle.transducer.specs.Output.{Output}
 use Rattle.transducer.proofs.Outputs.{encodes_translate}
 use Rattle.forms.specs.Alphabet.{alphabet}
-use Rattle.forms.specs.Answers.{form_of, FileOf}
-use Rattle.forms.specs.declared.write.Formed.{Formed}
+use Rattle.forms.specs.Answers.{FileOf}
 use Rattle.forms.proofs.Files.{encoded_wf, same_file, parts_same, file_one}
 use Rattle.forms.proofs.Leaves.{accessible_leaf}
 use Rattle.discovery.proofs.Ranks.{ranked_open, translate_ranked}
@@ -114,7 +116,7 @@ pub record JoinWritten (stock stock' s s' after : List ℕ) (v : ℕ × ℕ × �
   pub joined : JoinedFile stock stock' s s' v.0 counts bytes
   pub begins : take v.2 after ≡ file v.0 counts bytes
 
-pub join_written : {stock stock' s s' before after : List ℕ} (r : Formed) {v : ℕ × ℕ × ℕ} → Joins stock stock' s s' before after r → form_of r ≡ accepted v → JoinWritten stock stock' s s' after v
+pub join_written : {stock stock' s s' before after : List ℕ} (r : Result Form Refusal) {v : ℕ × ℕ × ℕ} → Joins stock stock' s s' before after r → outcome_of r ≡ accepted v → JoinWritten stock stock' s s' after v
 unfolding Holds
 join_written {stock} {stock'} {s} {s'} {before} {after} r {v} J e =
     let w = accepted_holds (rw e at J) in
@@ -157,10 +159,10 @@ join_unique A' fits F F' =
     parts_same l F.encodes F'.encodes (accessible_unique U F.joined (joined_any A' fits F' F.sheet F.sheet' l))
 
 -- The contract of joining determines the answer and the area.
-pub joins_determined : {stock stock' s s' before after after' : List ℕ} (r r' : Formed) → Joins stock stock' s s' before after r → Joins stock stock' s s' before after' r' → (after ≡ after') × (form_of r ≡ form_of r')
+pub joins_determined : {stock stock' s s' before after after' : List ℕ} (r r' : Result Form Refusal) → Joins stock stock' s s' before after r → Joins stock stock' s s' before after' r' → (after ≡ after') × (outcome_of r ≡ outcome_of r')
 unfolding Holds
 joins_determined {stock} {stock'} {s} {s'} {before} {after} {after'} r r' J J' =
-    one_answer (λ u u'. u ∙ sym u') (check 1 (longest ≤ length before) (joinable stock stock' s s')) (form_of r) (form_of r') (λ h. good h.1.1.0 h.1.1.1.0) J.verdict J'.verdict
+    one_answer (λ u u'. u ∙ sym u') (check 1 (longest ≤ length before) (joinable stock stock' s s')) (outcome_of r) (outcome_of r') (λ h. good h.1.1.0 h.1.1.1.0) J.verdict J'.verdict
   where
     good : Alphabets stock' → outputs stock ≡ inputs stock' → (v v' : ℕ × ℕ × ℕ) → (counts : List ℕ) × ((bytes : List ℕ) × (JoinedFile stock stock' s s' v.0 counts bytes × FileOf v counts bytes before after))
         → (counts : List ℕ) × ((bytes : List ℕ) × (JoinedFile stock stock' s s' v'.0 counts bytes × FileOf v' counts bytes before after')) → (after ≡ after') × (v ≡ v')

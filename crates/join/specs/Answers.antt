@@ -1,13 +1,14 @@
 -- What joining two transducers answers: the second after the first, as one transducer.
-use Rattle.std.specs.Prelude.{ℕ, ◌≤◌, List, ◌≡◌, length}
+use Rattle.std.specs.Prelude.{Option, Result, ℕ, ◌≤◌, List, ◌≡◌, length}
+use Rattle.trees.specs.declared.refusal.Refusal.{Refusal}
+use Rattle.forms.specs.declared.write.Form.{Form}
+use Rattle.trees.specs.Refusal.{outcome_of, Checks, done, check, Judged}
 use Rattle.theory.specs.Joined.{Joined}
 use Rattle.theory.specs.Transducer.{Transducer}
 use Rattle.trees.specs.Alphabets.{Alphabets, inputs, outputs, stock as stockFile, alphabet_check}
-use Rattle.trees.specs.Refusal.{Checks, done, check, Judged}
 use Rattle.formats.specs.Sheet.{longest, Encodes, Sheet, sheet_check}
 use Rattle.forms.specs.Alphabet.{alphabet}
-use Rattle.forms.specs.declared.write.Formed.{Formed}
-use Rattle.forms.specs.Answers.{form_of, FileOf}
+use Rattle.forms.specs.Answers.{FileOf}
 
 -- refusal 16: the output symbols of the first (02: its block kinds) are the input symbols of the second (its part kinds), as many and of the same ranks
 abbrev pub fit_check : List ℕ → List ℕ → Checks → Checks
@@ -39,8 +40,8 @@ abbrev pub joinable : List ℕ → List ℕ → List ℕ → List ℕ → Checks
 joinable stock stock' s s' = alphabet_check stock (alphabet_check stock' (fit_check stock stock' (sheet_check stock s (sheet_check stock' s' (join_check stock stock' s s' done)))))
 
 -- the joined transducer, as a file
-abbrev pub Joins : List ℕ → List ℕ → List ℕ → List ℕ → List ℕ → List ℕ → Formed → Type 0
+abbrev pub Joins : List ℕ → List ℕ → List ℕ → List ℕ → List ℕ → List ℕ → Result Form Refusal → Type 0
 Joins stock stock' s s' before after r =
     Judged (after ≡ before) (λ v. (counts : List ℕ) × ((bytes : List ℕ) × (JoinedFile stock stock' s s' v.0 counts bytes × FileOf v counts bytes before after)))
     (check 1 (longest ≤ length before) (joinable stock stock' s s'))
-    (form_of r)
+    (outcome_of r)

@@ -9,7 +9,6 @@ ghost use Rattle.discovery.specs.Inner.Queue.{Queue};
 ghost use Rattle.join.specs.Inner.Pairs.{product, IsPair, Tables};
 
 use discovery::queue::add_body;
-use forms::write::FormSize;
 use runs::walk::{PAIR, apply, body_of, note_ends, walk};
 use trees::alphabet::input_ranks;
 use trees::bytes::number;
@@ -86,7 +85,7 @@ fn add_rhs(
     list: &mut [u16],
     place: &mut [u8],
     met: usize,
-) -> FormSize
+) -> Option<usize>
     requires { IsPair first.now second.now starts1.now marks1.now starts2.now marks2.now c × (a < length (inputs first.now)) × Queue list.old place.old met × (met ≤ 128) × (length place.old ≡ 16384) × (b + 1 < length starts.old) × (get_or starts.old b 0 ≤ 8192) × (length out.old ≡ 16384) }
     ensures { AddsBody (spelt ((product first.now second.now starts1.now marks1.now starts2.now marks2.now).rhs c a)) b starts.old out.old list.old place.old met starts.new out.new list.new place.new result }
 {
@@ -103,7 +102,7 @@ fn add_rhs(
         &mut letters,
     );
     if len > 64 {
-        return FormSize::Over;
+        return None;
     }
     add_body(&letters[0..len], b, starts, out, list, place, met)
 }
@@ -120,7 +119,7 @@ fn add_initial(
     out: &mut [u8],
     list: &mut [u16],
     place: &mut [u8],
-) -> FormSize
+) -> Option<usize>
     requires { Tables first.now second.now starts1.now marks1.now starts2.now marks2.now × Empty 16384 starts.old out.old list.old place.old }
     ensures { Adds (inputs first.now) (outputs second.now) (product first.now second.now starts1.now marks1.now starts2.now marks2.now) 16384 0 starts.new out.new list.new place.new result }
 {
@@ -135,7 +134,7 @@ fn add_initial(
         &mut letters,
     );
     if len > 64 {
-        return FormSize::Over;
+        return None;
     }
     add_body(&letters[0..len], 0, starts, out, list, place, 0)
 }
@@ -154,7 +153,7 @@ fn add_state(
     list: &mut [u16],
     place: &mut [u8],
     met: usize,
-) -> FormSize
+) -> Option<usize>
     requires { Tables first.now second.now starts1.now marks1.now starts2.now marks2.now × Found (inputs first.now) (product first.now second.now starts1.now marks1.now starts2.now marks2.now) 16384 p starts.old out.old list.old place.old met × (p < met) }
     ensures { Adds (inputs first.now) (outputs second.now) (product first.now second.now starts1.now marks1.now starts2.now marks2.now) 16384 (p + 1) starts.new out.new list.new place.new result }
 {
@@ -179,16 +178,16 @@ fn add_state(
             place,
             n,
         ) {
-            FormSize::States(m) => {
+            Some(m) => {
                 n = m;
             }
-            FormSize::Over => {
-                return FormSize::Over;
+            None => {
+                return None;
             }
         }
         a += 1;
     }
-    FormSize::States(n)
+    Some(n)
 }
 
 // Adds the right-hand sides of every pair that is met.
@@ -204,7 +203,7 @@ fn add_states(
     list: &mut [u16],
     place: &mut [u8],
     met: usize,
-) -> FormSize
+) -> Option<usize>
     requires { Tables first.now second.now starts1.now marks1.now starts2.now marks2.now × Found (inputs first.now) (product first.now second.now starts1.now marks1.now starts2.now marks2.now) 16384 0 starts.old out.old list.old place.old met }
     ensures { AddsAll (inputs first.now) (outputs second.now) (product first.now second.now starts1.now marks1.now starts2.now marks2.now) 16384 starts.new out.new list.new place.new result }
 {
@@ -214,16 +213,16 @@ fn add_states(
         match add_state(
             first, second, starts1, marks1, starts2, marks2, p, starts, out, list, place, n,
         ) {
-            FormSize::States(m) => {
+            Some(m) => {
                 n = m;
             }
-            FormSize::Over => {
-                return FormSize::Over;
+            None => {
+                return None;
             }
         }
         p += 1;
     }
-    FormSize::States(n)
+    Some(n)
 }
 
 // Makes the joined transducer: `starts` says where its bodies start in `out`.
@@ -236,7 +235,7 @@ pub(crate) fn discover(
     marks2: &[u8],
     starts: &mut [u16],
     out: &mut [u8],
-) -> FormSize
+) -> Option<usize>
     requires { Tables first.now second.now starts1.now marks1.now starts2.now marks2.now × (2050 ≤ length starts.old) × (length out.old ≡ 16384) }
     ensures { Discovers (inputs first.now) (outputs second.now) (product first.now second.now starts1.now marks1.now starts2.now marks2.now) starts.new out.new result }
 {
@@ -246,10 +245,10 @@ pub(crate) fn discover(
     match add_initial(
         first, second, starts1, marks1, starts2, marks2, starts, out, &mut list, &mut place,
     ) {
-        FormSize::States(met) => add_states(
+        Some(met) => add_states(
             first, second, starts1, marks1, starts2, marks2, starts, out, &mut list, &mut place,
             met,
         ),
-        FormSize::Over => FormSize::Over,
+        None => None,
     }
 }

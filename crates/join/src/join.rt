@@ -8,8 +8,8 @@ ghost use Rattle.join.specs.Inner.Parts.{Joinable, JoinsParts, JoinsFile, JoinsS
 use crate::discover::discover;
 use crate::stock::join_stocks;
 use formats::bodies::fill_starts;
-use formats::file::{FileRead, counts_end, read_transducer};
-use forms::write::{FormSize, Formed, write_found};
+use formats::file::{counts_end, read_transducer};
+use forms::write::{write_found, Form};
 use trees::alphabet::{alphabets_right, input_ranks, output_ranks};
 use trees::bytes::same_bytes;
 use trees::refusal::Refusal;
@@ -26,7 +26,7 @@ fn join_parts(
     marks2: &[u8],
     starts: &mut [u16],
     out: &mut [u8],
-) -> FormSize
+) -> Option<usize>
     requires { Joinable first.now second.now n1 counts1.now marks1.now n2 counts2.now marks2.now × (2050 ≤ length starts.old) × (length out.old ≡ 16384) }
     ensures { JoinsParts first.now second.now n1 counts1.now marks1.now n2 counts2.now marks2.now starts.new out.new result }
 {
@@ -50,7 +50,7 @@ fn join_file(
     counts2: &[u8],
     marks2: &[u8],
     area: &mut [u8],
-) -> Formed
+) -> Result<Form, Refusal>
     requires { Joinable first.now second.now n1 counts1.now marks1.now n2 counts2.now marks2.now × (longest ≤ length area.old) }
     ensures { JoinsFile first.now second.now n1 counts1.now marks1.now n2 counts2.now marks2.now area.old area.new result }
 {
@@ -70,21 +70,21 @@ fn join_file(
         &mut starts,
         &mut out,
     ) {
-        FormSize::States(k) => {
-            write_found(&stock[0..size], FormSize::States(k), &starts, &out, area)
+        Some(k) => {
+            write_found(&stock[0..size], Some(k), &starts, &out, area)
         }
-        FormSize::Over => Formed::Refused(Refusal::JoinOverLimits),
+        None => Err(Refusal::JoinOverLimits),
     }
 }
 
 // Joins the transducers of two files whose alphabets are right and fit.
-fn join_sheets(first: &[u8], second: &[u8], sheet1: &[u8], sheet2: &[u8], area: &mut [u8]) -> Formed
+fn join_sheets(first: &[u8], second: &[u8], sheet1: &[u8], sheet2: &[u8], area: &mut [u8]) -> Result<Form, Refusal>
     requires { Alphabets first.now × Alphabets second.now × (outputs first.now ≡ inputs second.now) × (longest ≤ length area.old) }
     ensures { JoinsSheets first.now second.now sheet1.now sheet2.now area.old area.new result }
 {
     match read_transducer(first, sheet1) {
-        FileRead::States(n1) => match read_transducer(second, sheet2) {
-            FileRead::States(n2) => {
+        Ok(n1) => match read_transducer(second, sheet2) {
+            Ok(n2) => {
                 let from1 = counts_end(first, n1);
                 let from2 = counts_end(second, n2);
                 join_file(
@@ -99,27 +99,27 @@ fn join_sheets(first: &[u8], second: &[u8], sheet1: &[u8], sheet2: &[u8], area: 
                     area,
                 )
             }
-            FileRead::Refused(r) => Formed::Refused(r),
+            Err(r) => Err(r),
         },
-        FileRead::Refused(r) => Formed::Refused(r),
+        Err(r) => Err(r),
     }
 }
 
 // Writes the file of the transducer of the file `sheet2` after that of the file `sheet1` (02: the joined sheet).
-pub fn join(first: &[u8], second: &[u8], sheet1: &[u8], sheet2: &[u8], area: &mut [u8]) -> Formed
+pub fn join(first: &[u8], second: &[u8], sheet1: &[u8], sheet2: &[u8], area: &mut [u8]) -> Result<Form, Refusal>
     ensures { Joins first.now second.now sheet1.now sheet2.now area.old area.new result }
 {
     if area.len() < 20483 {
-        return Formed::Refused(Refusal::ShortArea);
+        return Err(Refusal::ShortArea);
     }
     if !alphabets_right(first) {
-        return Formed::Refused(Refusal::BadAlphabets);
+        return Err(Refusal::BadAlphabets);
     }
     if !alphabets_right(second) {
-        return Formed::Refused(Refusal::BadAlphabets);
+        return Err(Refusal::BadAlphabets);
     }
     if !same_bytes(output_ranks(first), input_ranks(second)) {
-        return Formed::Refused(Refusal::OtherAlphabet);
+        return Err(Refusal::OtherAlphabet);
     }
     join_sheets(first, second, sheet1, sheet2, area)
 }

@@ -1,5 +1,8 @@
 -- With one more symbol in each alphabet, translation gives what is laid for a partial input tree.
 -- Assumes nothing.
+use Rattle.std.specs.Prelude.{Option, Result}
+use Rattle.trees.specs.declared.refusal.Refusal.{Refusal}
+use Rattle.trees.specs.Refusal.{outcome_of, accepted, Holds}
 use Prim.Native.Nat.{ℕ, ◌<◌}
 use native.Mathlib.Omega.{arith}
 use mathlib.Core.List.{List, [], ◌∷◌}
@@ -17,16 +20,14 @@ use Rattle.theory.proofs.Terms.{count_binds}
 use Rattle.theory.proofs.Vars.{bind_ext, all_map}
 use Rattle.trees.specs.Alphabets.{Alphabets, inputs, outputs}
 use Rattle.trees.specs.Code.{Ranked, AllRanked, code, preorder}
-use Rattle.trees.specs.Refusal.{accepted, Holds}
 use Rattle.trees.specs.Tree.{InputTree}
 use Rattle.trees.proofs.Codes.{preorder_bind}
 use Rattle.trees.proofs.Judging.{accepted_holds}
 use Rattle.trees.proofs.Letters.{over_tree}
 use Rattle.trees.proofs.Stock.{stock_reads, stock_reads_outputs}
 use Rattle.trees.proofs.Trees.{coded_whole}
-use Rattle.transducer.specs.Answers.{translated, Translates}
+use Rattle.transducer.specs.Answers.{Translates}
 use Rattle.transducer.specs.Output.{Output}
-use Rattle.transducer.specs.declared.translate.Translation.{Translation}
 use Rattle.transducer.proofs.Laws.{file_output_unique}
 use Rattle.forms.specs.Alphabet.{alphabet, children_inside}
 use Rattle.forms.proofs.Files.{encoded_wf}
@@ -112,7 +113,7 @@ module _ {alphabets s x : List ℕ} (A : Alphabets alphabets) (B : BlankSheet al
         }
 
     -- A translation that is accepted has written what is laid, with the name of the new output symbol for each call.
-    pub wider_written : {before after : List ℕ} {k : ℕ} (r : Translation) → Translates (blank_stock alphabets) x (partial_code blank_name d) before after r → translated r ≡ accepted k → after ≡ sets before 0 (partial_code end_name t)
+    pub wider_written : {before after : List ℕ} {k : ℕ} (r : Result ℕ Refusal) → Translates (blank_stock alphabets) x (partial_code blank_name d) before after r → outcome_of r ≡ accepted k → after ≡ sets before 0 (partial_code end_name t)
     unfolding Holds
     wider_written {before} r J e =
         let w = accepted_holds (rw e at J) in

@@ -1,5 +1,8 @@
 -- Laws of following an address through the output, which is never built.
 -- Assumes nothing.
+use Rattle.std.specs.Prelude.{Err, None, Ok, Option, Result, Some}
+use Rattle.trees.specs.declared.refusal.Refusal.{Refusal}
+use Rattle.trees.specs.Refusal.{outcome_of, accepted, Holds}
 use Prim.Native.Nat.{ℕ, suc, ◌+◌, ◌-◌, ◌*◌, ◌≤◌, ◌<◌}
 use native.Mathlib.Numerals.{add-one}
 use native.Mathlib.Omega.{arith}
@@ -25,7 +28,6 @@ use Rattle.formats.specs.Inner.Layout.{mark_of, pairs, offset, body, body_number
 use Rattle.trees.specs.Inner.Symbols.{trees, tree}
 use Rattle.formats.specs.Inner.Marked.{part}
 use Rattle.trees.specs.Inner.Measured.{measured, MeasuredAll}
-use Rattle.trees.specs.Refusal.{accepted, Holds}
 use Rattle.trees.specs.declared.refusal.Refusal.TheVariants.{BadTree}
 use Rattle.trees.specs.declared.tree.Extent.{Extent}
 use Rattle.trees.specs.declared.tree.Extent.TheVariants as extent
@@ -45,11 +47,9 @@ use Rattle.transducer.proofs.Opening.{Opened, opened_sheet}
 use Rattle.transducer.proofs.Outputs.{ranked_vars, same_translate, from_parts}
 use Rattle.transducer.proofs.Translating.{machine_right, output_read, read_whole}
 use Rattle.transducer.proofs.Walks.{node_at, place, place_in}
-use Rattle.queries.specs.Answers.{found, named, FindsSymbol}
+use Rattle.queries.specs.Answers.{named, FindsSymbol}
 use Rattle.queries.specs.Inner.Machine.{FindsBy}
 use Rattle.queries.specs.Inner.Placed.{placed, Followed}
-use Rattle.queries.specs.declared.address.Found.{Found}
-use Rattle.queries.specs.declared.address.Found.TheVariants as finding
 
 -- ---- names
 -- the transducer that is read by the table of starts
@@ -347,7 +347,7 @@ same_sheet {ins} {outs} counts {bytes} starts {n} S W d o =
 
 -- ---- the parts of a file
 -- the answer is the name of the symbol
-placed_named : (o : Option Symbol) → found (placed o) ≡ accepted (named o)
+placed_named : (o : Option Symbol) → outcome_of (placed o) ≡ accepted (named o)
 unfolding placed
 placed_named nothing = refl
 placed_named (some b) = refl
@@ -355,7 +355,7 @@ placed_named (some b) = refl
 -- ins and outs are the ranks in the stock
 module _ {stock : List ℕ} {n : ℕ} {counts bytes : List ℕ} (X : Machine stock n counts bytes) {ins : List ℕ} (e : ins ≡ inputs stock) {s : List ℕ} {r : Extent} (M : MeasuredAll ins s r) where
   -- what is no input tree is refused
-  pub no_tree : (v : List ℕ) → r ≡ extent.Bad → FindsBy stock n counts bytes s v (finding.Refused BadTree)
+  pub no_tree : (v : List ℕ) → r ≡ extent.Bad → FindsBy stock n counts bytes s v (Err BadTree)
   no_tree v q = refuse (measured_none (rw e at M) q) tt
 
   module _ {d l : ℕ} (q : r ≡ extent.Tree d l) {outs : List ℕ} (f : outs ≡ outputs stock) (starts : List ℕ) (S : Starts counts starts (body_count ins n)) (long : length starts ≡ 2050) where
@@ -367,18 +367,18 @@ module _ {stock : List ℕ} {n : ℕ} {counts bytes : List ℕ} (X : Machine sto
     pub can_follow : {ends : List ℕ} → Input ins s ends → Followed ins outs n starts bytes s ends
     can_follow I = rw (e, f) (record { bounds = in_bounds starts (machine_right X) (rw e at S) long; wholes = by_starts; one = (read_whole X e M q).one; input = rw e at I })
 
-    -- and what is found is what the file's parts promise
-    pub symbol_found : (v : List ℕ) {x : Found} → x ≡ placed (sought ins outs n starts bytes s v) → FindsBy stock n counts bytes s v x
+    -- and what is outcome_of is what the file's parts promise
+    pub symbol_found : (v : List ℕ) {x : Result (Option ℕ) Refusal} → x ≡ placed (sought ins outs n starts bytes s v) → FindsBy stock n counts bytes s v x
     symbol_found v {x} p =
         let T = read_whole X e M q in
         let i = whole_input T in
         let g = rw (e, f) at p in
-        let c = ap found (g ∙ ap (λ t. placed (symbol_at t v)) (same_sheet counts starts (rw e at S) by_starts (tree (inputs stock) s) i.ranked)) ∙ placed_named _ in
+        let c = ap outcome_of (g ∙ ap (λ t. placed (symbol_at t v)) (same_sheet counts starts (rw e at S) by_starts (tree (inputs stock) s) i.ranked)) ∙ placed_named _ in
         rw c (pass (tree (inputs stock) s, i) (accept (_, (output_read X s T, refl))))
 
 -- ---- the file
 -- what is answered of the parts of a file is answered of it
-pub file_finds : {stock sheet ins counts bytes design : List ℕ} {n : ℕ} → Opened stock sheet n ins counts bytes → (v : List ℕ) (x : Found) → FindsBy stock n counts bytes design v x → FindsSymbol stock sheet design v x
+pub file_finds : {stock sheet ins counts bytes design : List ℕ} {n : ℕ} → Opened stock sheet n ins counts bytes → (v : List ℕ) (x : Result (Option ℕ) Refusal) → FindsBy stock n counts bytes design v x → FindsSymbol stock sheet design v x
 unfolding Holds
 file_finds {stock} {design = design} O v x D =
     let h = O.holds in

@@ -1,5 +1,8 @@
 -- Reading the table of a transducer reads its states in the order of first meeting: so those that are met are those that are reached, and it is linear exactly if no body that is read calls a child twice.
 -- Assumes nothing.
+use Rattle.std.specs.Prelude.{Option, Result}
+use Rattle.trees.specs.declared.refusal.Refusal.{Refusal}
+use Rattle.trees.specs.Refusal.{outcome_of, accepted, Holds, Decides}
 use Prim.Native.Nat.{ℕ, suc, ◌+◌, ◌-◌, ◌*◌, ◌≤◌, ◌<◌}
 use native.Mathlib.Decide.{ℕ_discrete}
 use native.Mathlib.Nat.{sub-zero}
@@ -20,7 +23,6 @@ use Rattle.theory.proofs.Lists.{Extends, extends_refl, extends_trans, get_lt}
 use Rattle.theory.proofs.Reach.{reached_valid, reached_wf, reached_listed, identical_linear}
 use Rattle.trees.specs.Alphabets.{Alphabets, Leaf, inputs, outputs}
 use Rattle.trees.specs.Code.{Ranked, Call, marks}
-use Rattle.trees.specs.Refusal.{accepted, Holds, Decides}
 use Rattle.formats.specs.Inner.Layout.{body, body_count, Starts}
 use Rattle.formats.specs.Sheet.{Encodes, Sheet}
 use Rattle.trees.proofs.Deciding.{decides_yes, decides_no, decides_same}
@@ -31,9 +33,8 @@ use Rattle.forms.proofs.Files.{encoded_wf, same_file}
 use Rattle.forms.proofs.Leaves.{linear_leaf}
 use Rattle.discovery.specs.Inner.Queue.{Queue}
 use Rattle.discovery.proofs.Queues.{queue_none}
-use Rattle.queries.specs.Answers.{linear_test, TestsLinear}
+use Rattle.queries.specs.Answers.{TestsLinear}
 use Rattle.queries.specs.Linear.{LinearFile}
-use Rattle.queries.specs.declared.linear.LinearTest.{LinearTest}
 use Rattle.queries.specs.Inner.Uses.{Once, LowBodies}
 use Rattle.queries.specs.Inner.Reading.{ReadMarks, ReadBodies, no_body, one_body, ReadTable, read_initial as table-initial, read_state as table-state, NotOnce, Stopped, ReadsTable}
 use Rattle.queries.proofs.Calls.{calls_marks, once_calls, calls_once, initial_body, rhs_body, low_bodies}
@@ -137,7 +138,7 @@ module _ {stock s : List ℕ} {n : ℕ} {ins counts bytes : List ℕ} (O : Opene
       let z : take (n - 0) (replicate {A = ℕ} 128 0) ≡ replicate n 0 = zeros (n - 0) 128 (omega (arith, B.few)) ∙ ap (λ m. replicate m 0) (sub-zero n) in
       rw (z, length-replicate {A = ℕ} n 0) (B, queue_none w n e)
 
-  pub tested : (b : Bool) (r : LinearTest) → linear_test r ≡ accepted b → ReadsTable (length ins) (λ j. get_or starts j 0) bytes b → TestsLinear stock s r
+  pub tested : (b : Bool) (r : Result Bool Refusal) → outcome_of r ≡ accepted b → ReadsTable (length ins) (λ j. get_or starts j 0) bytes b → TestsLinear stock s r
   unfolding Holds
   tested b r e R =
       let w = O.holds in

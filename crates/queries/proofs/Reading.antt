@@ -1,5 +1,7 @@
 -- Reading one body after the other, and the states met one after the other.
 -- Assumes nothing.
+use Rattle.std.specs.Prelude.{Err, None, Ok, Option, Result, Some}
+use Rattle.trees.specs.declared.refusal.Refusal.{Refusal}
 use Prim.Native.Nat.{ℕ, ◌+◌, ◌*◌, ◌≤◌, ◌<◌}
 use native.Mathlib.Nat.{mul-le-mul}
 use native.Mathlib.Numerals.{add-one}
@@ -20,8 +22,6 @@ use Rattle.discovery.proofs.Queues.{get_take}
 use Rattle.discovery.proofs.Stages.{met_length}
 use Rattle.queries.specs.Inner.Uses.{Once, Low, LowBodies}
 use Rattle.queries.specs.Inner.Reading.{ReadMarks, ReadBodies, no_body, one_body, ReadTable, read_initial, read_state, NotOnce, Reads, ReadsTable}
-use Rattle.queries.specs.declared.linear.CallsRead.{CallsRead}
-use Rattle.queries.specs.declared.linear.CallsRead.TheVariants.{Met, Twice}
 use Rattle.queries.proofs.Uses.{reads_twice, reads_met}
 
 -- ---- some bodies, one after the other
@@ -53,14 +53,14 @@ module _ {start : ℕ → ℕ} {bytes : List ℕ} {b : ℕ} where
 
   module _ {L list place : List ℕ} {n j : ℕ} (T : BodiesPassed start bytes b L n j list place) where
     -- the next one, whose marks are ms
-    module _ {ms : List (ℕ × ℕ)} (e : ms ≡ body start bytes (b + j)) {list' place' : List ℕ} {r : CallsRead} (R : Reads (Once ms → ⊥) (ReadMarks ms (met_of list n)) list' place' r) where
-      pub bodies_next : {m : ℕ} → r ≡ Met m → BodiesPassed start bytes b L m (j + 1) list' place'
+    module _ {ms : List (ℕ × ℕ)} (e : ms ≡ body start bytes (b + j)) {list' place' : List ℕ} {r : Option ℕ} (R : Reads (Once ms → ⊥) (ReadMarks ms (met_of list n)) list' place' r) where
+      pub bodies_next : {m : ℕ} → r ≡ Some m → BodiesPassed start bytes b L m (j + 1) list' place'
       bodies_next {m} x = record { read = rw (add-one j) (one_body {L'' = met_of list' m} T.read (rw (← e) (R.read m x))); queue = R.queue m x }
 
-      pub bodies_stop : {k : ℕ} → j < k → r ≡ Twice → Reads (NotOnce start bytes b k) (ReadBodies start bytes b L k) list' place' Twice
+      pub bodies_stop : {k : ℕ} → j < k → r ≡ None → Reads (NotOnce start bytes b k) (ReadBodies start bytes b L k) list' place' None
       bodies_stop h x = reads_twice (λ O. R.stop x (rw e (O j h)))
 
-    pub bodies_all : {k : ℕ} → j ≤ k → k ≤ j → Reads (NotOnce start bytes b k) (ReadBodies start bytes b L k) list place (Met n)
+    pub bodies_all : {k : ℕ} → j ≤ k → k ≤ j → Reads (NotOnce start bytes b k) (ReadBodies start bytes b L k) list place (Some n)
     bodies_all {k} h g = let z : j ≡ k = omega arith in reads_met (rw z at T.read) T.queue
 
 -- ---- the list grows
@@ -85,11 +85,11 @@ pub record StatesPassed (P : ℕ) (start : ℕ → ℕ) (bytes : List ℕ) (n p 
 
 module _ {P : ℕ} {start : ℕ → ℕ} {bytes : List ℕ} where
   -- body 0
-  module _ {list place : List ℕ} {r : CallsRead} (R : Reads (NotOnce start bytes 0 1) (ReadBodies start bytes 0 [] 1) list place r) where
-    pub initial_read : {n : ℕ} → r ≡ Met n → StatesPassed P start bytes n 0 list place
+  module _ {list place : List ℕ} {r : Option ℕ} (R : Reads (NotOnce start bytes 0 1) (ReadBodies start bytes 0 [] 1) list place r) where
+    pub initial_read : {n : ℕ} → r ≡ Some n → StatesPassed P start bytes n 0 list place
     initial_read {n} x = record { read = read_initial (R.read n x); queue = R.queue n x }
 
-    pub initial_stop : r ≡ Twice → ReadsTable P start bytes false
+    pub initial_stop : r ≡ None → ReadsTable P start bytes false
     initial_stop x = record { yes = λ e. conflict (cc); no = λ e. inl (R.stop x) }
 
   module _ {list place : List ℕ} {n p : ℕ} (T : StatesPassed P start bytes n p list place) where
@@ -104,11 +104,11 @@ module _ {P : ℕ} {start : ℕ → ℕ} {bytes : List ℕ} where
           let m : (q + 1) * P ≤ w * P = mul-le-mul (omega arith) (omega arith) in
           (l, omega arith)
 
-      module _ {list' place' : List ℕ} {r : CallsRead} (R : Reads (NotOnce start bytes (1 + q * P) P) (ReadBodies start bytes (1 + q * P) (met_of list n) P) list' place' r) where
-        pub state_read : {m : ℕ} → r ≡ Met m → StatesPassed P start bytes m (p + 1) list' place'
+      module _ {list' place' : List ℕ} {r : Option ℕ} (R : Reads (NotOnce start bytes (1 + q * P) P) (ReadBodies start bytes (1 + q * P) (met_of list n) P) list' place' r) where
+        pub state_read : {m : ℕ} → r ≡ Some m → StatesPassed P start bytes m (p + 1) list' place'
         state_read {m} x = record { read = rw (add-one p) (read_state T.read state_there (R.read m x)); queue = R.queue m x }
 
-        pub state_stop : r ≡ Twice → ReadsTable P start bytes false
+        pub state_stop : r ≡ None → ReadsTable P start bytes false
         state_stop x = record { yes = λ e. conflict (cc); no = λ e. inr (record { number = p; state = q; list = met_of list n; read = T.read; there = state_there; twice = R.stop x }) }
 
     -- no state is left

@@ -1,5 +1,6 @@
 -- Reading one body, mark by mark: which children it calls, that it calls none twice, and the states that are entered.
 -- Assumes nothing.
+use Rattle.std.specs.Prelude.{Err, None, Ok, Option, Result, Some}
 use Prim.Native.Nat.{ℕ, suc, ◌+◌, ◌*◌, ◌≤◌, ◌<◌}
 use native.Mathlib.Omega.{arith}
 use native.Mathlib.Decide.{ℕ_discrete}
@@ -21,14 +22,13 @@ use Rattle.discovery.specs.Inner.Queue.{Queue, Entered, met_of}
 use Rattle.discovery.proofs.Queues.{queue_few}
 use Rattle.queries.specs.Inner.Uses.{uses, Once, Low}
 use Rattle.queries.specs.Inner.Reading.{mark_calls, ReadMarks, Reads}
-use Rattle.queries.specs.declared.linear.CallsRead.TheVariants.{Met, Twice}
 
 -- ---- what a reading answers
 module _ {Stop : Type 0} {Read : List ℕ → Type 0} {list place : List ℕ} where
-  pub reads_twice : Stop → Reads Stop Read list place Twice
+  pub reads_twice : Stop → Reads Stop Read list place None
   reads_twice s = record { stop = λ e. s; read = λ n e. conflict (cc); queue = λ n e. conflict (cc) }
 
-  pub reads_met : {n : ℕ} → Read (met_of list n) → Queue list place n → Reads Stop Read list place (Met n)
+  pub reads_met : {n : ℕ} → Read (met_of list n) → Queue list place n → Reads Stop Read list place (Some n)
   reads_met {n} R Q = record {
     stop = λ e. conflict (cc);
     read = λ m e. let z : n ≡ m = cc in rw (← z) R;
@@ -76,7 +76,7 @@ module _ {bytes list place L : List ℕ} {from to n j : ℕ} {seen : List Bool} 
   few_met = omega (arith, queue_few W.queue, W.few)
 
   -- all marks are passed
-  pub pass_all : to ≤ j → 2 * to ≤ length bytes → Reads (Once (part bytes from to) → ⊥) (ReadMarks (part bytes from to) L) list place (Met n)
+  pub pass_all : to ≤ j → 2 * to ≤ length bytes → Reads (Once (part bytes from to) → ⊥) (ReadMarks (part bytes from to) L) list place (Some n)
   unfolding uses mark_calls
   pass_all h g =
       let e : part bytes j to ≡ [] = drop_of_length-le (take to (pairs bytes)) {i = j} (omega (arith, length-take-le to (pairs bytes) (pairs_length bytes to g))) in
@@ -103,7 +103,7 @@ module _ {bytes list place L : List ℕ} {from to n j : ℕ} {seen : List Bool} 
     next_flags k h = W.flags k h ∙ ap (λ ms. one_if (get_or seen k false) + uses k ms) next
 
     -- a child that was called is called again
-    pub again : 0 < i → get_or seen i false ≡ true → Reads (Once (part bytes from to) → ⊥) (ReadMarks (part bytes from to) L) list place Twice
+    pub again : 0 < i → get_or seen i false ≡ true → Reads (Once (part bytes from to) → ⊥) (ReadMarks (part bytes from to) L) list place None
     again p t = reads_twice (λ O. omega (arith, O i p, next_flags i p, ap one_if t, ap one_if (eq-eqb i i refl)))
 
     pub pass_symbol : i ≡ 0 → Passed bytes from to L seen n (j + 1) list place

@@ -12,20 +12,12 @@ ghost use Rattle.queries.specs.Inner.Machine.{FindsBy};
 ghost use Rattle.queries.specs.Inner.Placed.{placed, Followed};
 
 use formats::bodies::{fill_starts, measure_marks};
-use formats::file::{FileRead, counts_end, read_transducer};
+use formats::file::{counts_end, read_transducer};
 use transducer::children::{fill_ends, skip};
 use trees::alphabet::{input_ranks, output_ranks};
 use trees::bytes::{number, wide};
 use trees::refusal::Refusal;
 use trees::tree::{Extent, measure_all};
-
-// The symbol at the address, or that the output has no such address, or the refusal.
-#[derive(Drop)]
-pub enum Found {
-    Symbol(usize),
-    Nowhere,
-    Refused(Refusal),
-}
 
 // The mark at which the term begins that stands `c` terms behind the one at mark number `at`.
 fn skip_marks(
@@ -66,7 +58,7 @@ fn follow(
     s: &[u8],
     ends: &[u16],
     v: &[u8],
-) -> Found
+) -> Result<Option<usize>, Refusal>
     requires { Followed ins.now outs.now n starts.now marks.now s.now ends.now }
     ensures { result ≡ placed (symbol_at (translate (transducer ins.now outs.now n (λ j. get_or starts.now j 0) marks.now) (tree ins.now s.now)) v.now) }
 {
@@ -104,7 +96,7 @@ fn follow(
 }
 
 // Follows the address through the output of the transducer whose n, counts and marks these are.
-fn symbol_by(stock: &[u8], n: usize, counts: &[u8], marks: &[u8], s: &[u8], address: &[u8]) -> Found
+fn symbol_by(stock: &[u8], n: usize, counts: &[u8], marks: &[u8], s: &[u8], address: &[u8]) -> Result<Option<usize>, Refusal>
     requires { Machine stock.now n counts.now marks.now }
     ensures { FindsBy stock.now n counts.now marks.now s.now address.now result }
 {
@@ -126,19 +118,19 @@ fn symbol_by(stock: &[u8], n: usize, counts: &[u8], marks: &[u8], s: &[u8], addr
                 address,
             )
         }
-        Extent::Bad => Found::Refused(Refusal::BadTree),
+        Extent::Bad => Err(Refusal::BadTree),
     }
 }
 
 // The symbol at `address` in what the transducer of the file `sheet` gives on the tree of the file `design`.
-pub fn symbol_at(stock: &[u8], sheet: &[u8], design: &[u8], address: &[u8]) -> Found
+pub fn symbol_at(stock: &[u8], sheet: &[u8], design: &[u8], address: &[u8]) -> Result<Option<usize>, Refusal>
     ensures { FindsSymbol stock.now sheet.now design.now address.now result }
 {
     match read_transducer(stock, sheet) {
-        FileRead::States(n) => {
+        Ok(n) => {
             let from = counts_end(stock, n);
             symbol_by(stock, n, &sheet[1..from], &sheet[from..], design, address)
         }
-        FileRead::Refused(r) => Found::Refused(r),
+        Err(r) => Err(r),
     }
 }

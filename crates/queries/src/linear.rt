@@ -8,25 +8,10 @@ ghost use Rattle.queries.specs.Inner.Reading.{ReadMarks, ReadBodies, NotOnce, Re
 
 use discovery::queue::enter;
 use formats::bodies::fill_starts;
-use formats::file::{FileRead, counts_end, read_transducer};
+use formats::file::{counts_end, read_transducer};
 use trees::alphabet::input_ranks;
 use trees::bytes::{number, wide};
 use trees::refusal::Refusal;
-
-// Whether the transducer is linear, or the refusal.
-#[derive(Drop)]
-pub enum LinearTest {
-    Linear,
-    NotLinear,
-    Refused(Refusal),
-}
-
-// How many states have been met, or that a child is called twice.
-#[derive(Drop)]
-enum CallsRead {
-    Met(usize),
-    Twice,
-}
 
 // Reads the marks number `from` up to `to`: enters the states that they call, unless they call a child twice.
 fn read_marks(
@@ -36,7 +21,7 @@ fn read_marks(
     list: &mut [u16],
     place: &mut [u8],
     met: usize,
-) -> CallsRead
+) -> Option<usize>
     requires { Queue list.old place.old met × (length place.old ≤ 128) × (2 * to ≤ length marks.now) × Low (length place.old) (part marks.now from to) }
     ensures { Reads (Once (part marks.now from to) → ⊥) (ReadMarks (part marks.now from to) (met_of list.old met)) list.new place.new result }
 {
@@ -47,14 +32,14 @@ fn read_marks(
         let i = wide(marks[2 * j]);
         if i > 0 {
             if seen[i] {
-                return CallsRead::Twice;
+                return None;
             }
             seen[i] = true;
             n = enter(list, place, n, wide(marks[2 * j + 1]));
         }
         j += 1;
     }
-    CallsRead::Met(n)
+    Some(n)
 }
 
 // Reads k bodies from number b on.
@@ -66,7 +51,7 @@ fn read_bodies(
     list: &mut [u16],
     place: &mut [u8],
     met: usize,
-) -> CallsRead
+) -> Option<usize>
     requires { Queue list.old place.old met × LowBodies (b + k) (length place.old) starts.now marks.now }
     ensures { Reads (NotOnce (λ j. get_or starts.now j 0) marks.now b k) (ReadBodies (λ j. get_or starts.now j 0) marks.now b (met_of list.old met) k) list.new place.new result }
 {
@@ -76,16 +61,16 @@ fn read_bodies(
         let from = number(starts[b + j]);
         let to = number(starts[b + j + 1]);
         match read_marks(marks, from, to, list, place, n) {
-            CallsRead::Met(m) => {
+            Some(m) => {
                 n = m;
             }
-            CallsRead::Twice => {
-                return CallsRead::Twice;
+            None => {
+                return None;
             }
         }
         j += 1;
     }
-    CallsRead::Met(n)
+    Some(n)
 }
 
 // Reads the initial term, and the right-hand sides of every state that is met, and says whether none of them calls a child twice.
@@ -101,10 +86,10 @@ fn read_reached(
 {
     let mut met = 0;
     match read_bodies(0, 1, starts, marks, list, place, 0) {
-        CallsRead::Met(first) => {
+        Some(first) => {
             met = first;
         }
-        CallsRead::Twice => {
+        None => {
             return false;
         }
     }
@@ -112,10 +97,10 @@ fn read_reached(
     while p < met {
         let q = number(list[p]);
         match read_bodies(1 + q * inputs, inputs, starts, marks, list, place, met) {
-            CallsRead::Met(m) => {
+            Some(m) => {
                 met = m;
             }
-            CallsRead::Twice => {
+            None => {
                 return false;
             }
         }
@@ -125,11 +110,11 @@ fn read_reached(
 }
 
 // Tests the transducer of the file, as it is read: the initial term and the right-hand sides of the states that are reached from it count.
-pub fn is_linear(stock: &[u8], sheet: &[u8]) -> LinearTest
+pub fn is_linear(stock: &[u8], sheet: &[u8]) -> Result<bool, Refusal>
     ensures { TestsLinear stock.now sheet.now result }
 {
     match read_transducer(stock, sheet) {
-        FileRead::States(n) => {
+        Ok(n) => {
             let from = counts_end(stock, n);
             let inputs = input_ranks(stock).len();
             let mut starts = [0u16; 2050];
@@ -142,6 +127,6 @@ pub fn is_linear(stock: &[u8], sheet: &[u8]) -> LinearTest
                 LinearTest::NotLinear
             }
         }
-        FileRead::Refused(r) => LinearTest::Refused(r),
+        Err(r) => Err(r),
     }
 }

@@ -1,5 +1,9 @@
 -- The answers of an entry: from the search and the commit to the number of some bytes, and from cleaning to the number of a transducer.
 -- Assumes nothing.
+use Rattle.std.specs.Prelude.{Err, None, Ok, Option, Result, Some}
+use Rattle.forms.specs.declared.write.Form.{Form}
+use Rattle.records.specs.declared.book.Foretold.{Foretold}
+use Rattle.trees.specs.Refusal.{outcome_of, Outcome, Checks, done, check, Holds, IsJudged, Judged}
 use Prim.Native.Nat.{ℕ, zero, suc, ◌+◌, ◌-◌, ◌≤◌, ◌<◌}
 use native.Mathlib.Decide.{dec_lt}
 use native.Mathlib.Omega.{arith, by_contra}
@@ -13,16 +17,13 @@ use lib.Seq.{length-sets}
 use borrow.Author.Tests.{eqb-true, eq-eqb, ne_eqb}
 use Rattle.theory.proofs.Terms.{conflict}
 use Rattle.trees.specs.Alphabets.{inputs, outputs}
-use Rattle.trees.specs.Refusal.{Outcome, Checks, done, check, Holds, IsJudged, Judged}
 use Rattle.formats.specs.Sheet.{longest, file, sheet_check}
 use Rattle.trees.specs.declared.refusal.Refusal.{Refusal}
 use Rattle.trees.specs.declared.refusal.Refusal.TheVariants.{FullRegistry, BadRegistry, OtherNumber}
 use Rattle.trees.proofs.Judging.{refuse, pass, accept, accepted_holds, refused_early}
 use Rattle.formats.proofs.Sheets.{encodes_counted, file_short}
 use Rattle.earliest.specs.Answers.{form_check}
-use Rattle.forms.specs.Answers.{form_of, FileOf}
-use Rattle.forms.specs.declared.write.Formed.{Formed}
-use Rattle.forms.specs.declared.write.Formed.TheVariants as formed
+use Rattle.forms.specs.Answers.{FileOf}
 use Rattle.canonical.specs.Answers.{NormalFile, Cleans}
 use Rattle.canonical.proofs.Laws.{clean_exact, sheets_alike, cleaned, all_alike}
 use Rattle.records.specs.Answers.{CleanFile, Lowest, NotHeld, Room, HasPlace, Gets, Gives, entry_check, Enters, Would, Questions, Commits, Registers}
@@ -32,16 +33,11 @@ use Rattle.records.specs.Inner.Writes.{added}
 use Rattle.records.specs.declared.book.Asked.{Asked}
 use Rattle.records.specs.declared.book.Claim.{Claim}
 use Rattle.records.specs.declared.book.Claim.TheVariants as claiming
-use Rattle.records.specs.declared.book.Entered.{Entered}
-use Rattle.records.specs.declared.book.Entered.TheVariants.{Number, Refused}
 use Rattle.records.specs.declared.book.Entry.{Entry}
 use Rattle.records.specs.declared.book.Head.{Head}
 use Rattle.records.specs.declared.book.Located.{Located}
 use Rattle.records.specs.declared.book.Record.{Record}
-use Rattle.records.specs.declared.book.Reply.{Reply}
 use Rattle.records.specs.declared.book.Submission.{Submission}
-use Rattle.records.specs.declared.book.Verdict.{Verdict}
-use Rattle.records.specs.declared.book.Verdict.TheVariants as deciding
 use Rattle.records.proofs.Chains.{body_end}
 
 -- the bodies of a registry lie within the area, and a number can be given
@@ -134,13 +130,13 @@ module _ {s : List ℕ} {h : Head} {rs : List Record} {area : List ℕ} where
   pub no_registry : {x : List ℕ} (a : Asked) → (Chained h rs area → ⊥) → a ≡ refused_ask BadRegistry → Asks s h rs area x a
   no_registry a f e = inr (record { refusal = BadRegistry; ask = e; enters = refuse f (refl, refl, refl) })
 
-  module _ (C : Chained h rs area) {stock before after : List ℕ} (same : stock ≡ body rs area 0) (long : longest ≤ length before) (a : Formed) (J : Cleans stock s before after a) where
+  module _ (C : Chained h rs area) {stock before after : List ℕ} (same : stock ≡ body rs area 0) (long : longest ≤ length before) (a : Result Form Refusal) (J : Cleans stock s before after a) where
     -- what cleaning asks beyond the room and the alphabets
-    asked : Judged (after ≡ before) (λ v. (counts : List ℕ) × ((bytes : List ℕ) × (NormalFile (body rs area 0) s v.0 counts bytes × FileOf v counts bytes before after))) (sheet_check (body rs area 0) s (form_check (body rs area 0) s done)) (form_of a)
+    asked : Judged (after ≡ before) (λ v. (counts : List ℕ) × ((bytes : List ℕ) × (NormalFile (body rs area 0) s v.0 counts bytes × FileOf v counts bytes before after))) (sheet_check (body rs area 0) s (form_check (body rs area 0) s done)) (outcome_of a)
     asked = passed C.lies.stock (passed long (rw same at J))
 
     -- cleaning refuses
-    pub not_clean : {x : List ℕ} (r : Asked) (q : Refusal) → a ≡ formed.Refused q → r ≡ refused_ask q → Asks s h rs area x r
+    pub not_clean : {x : List ℕ} (r : Asked) (q : Refusal) → a ≡ Err q → r ≡ refused_ask q → Asks s h rs area x r
     not_clean r q e f = inr (record {
       refusal = q;
       ask = f;
@@ -148,10 +144,10 @@ module _ {s : List ℕ} {h : Head} {rs : List Record} {area : List ℕ} where
     })
 
     -- cleaning gives a form
-    pub is_clean : (k m size : ℕ) → a ≡ formed.Form k m size → Asks s h rs area (take size after) (record { verdict = deciding.Clean; held = h.held; size = size })
+    pub is_clean : (k m size : ℕ) → a ≡ formed.Form k m size → Asks s h rs area (take size after) (record { verdict = (Ok tt); held = h.held; size = size })
     unfolding Holds
     is_clean k m size e =
-        let c = cleaned a (rw same at J) (ap form_of e) in
+        let c = cleaned a (rw same at J) (ap outcome_of e) in
         let w = accepted_holds (rw e at asked) in
         inl (record { verdict = refl; held = refl; chained = C; checks = w.0; file = record { states = k; counts = c.counts; bytes = c.bytes; normal = c.normal; coded = c.begins } })
 
@@ -161,7 +157,7 @@ module _ {s : List ℕ} {h : Head} {rs : List Record} {area x : List ℕ} {a : A
   asked_placed = ⊎_elim (λ c. rw c.held (chained_placed c.chained)) (λ t. let z : a.held ≡ 0 = ap (λ b. b.held) t.ask in record { few = omega arith; there = λ i g k. absurd (omega arith); ends = λ i g k. absurd (omega arith) }) A
 
   pub asked_ready : a.verdict ≡ clean → Ready h (length area)
-  asked_ready v = ⊎_elim (λ c. chained_ready c.chained) (λ t. let e : ◌≡◌ {A = Verdict} (deciding.Refused t.refusal) deciding.Clean = sym (ap (λ b. b.verdict) t.ask) ∙ v in conflict (cc)) A
+  asked_ready v = ⊎_elim (λ c. chained_ready c.chained) (λ t. let e : ◌≡◌ {A = Result (Unit {0}) Refusal} (Err t.refusal) (Ok tt) = sym (ap (λ b. b.verdict) t.ask) ∙ v in conflict (cc)) A
 
 -- ---- after the search: the question
 module _ {s : List ℕ} {h : Head} {rs : List Record} {area x : List ℕ} where
@@ -171,29 +167,29 @@ module _ {s : List ℕ} {h : Head} {rs : List Record} {area x : List ℕ} where
     unfolding Holds
     no_place g = pass C (pass w.0 (pass w.1.0 (pass w.1.1.0 (refuse (λ u. g (rw (clean_unique u.1.0 f) at u.1.1)) (refl, refl, refl)))))
 
-    has_number : {n : ℕ} {h' : Head} {rs' : List Record} {area' : List ℕ} → HasPlace h rs area x → Gives h rs area x n h' rs' area' → Enters s h rs area h' rs' area' (Number n)
+    has_number : {n : ℕ} {h' : Head} {rs' : List Record} {area' : List ℕ} → HasPlace h rs area x → Gives h rs area x n h' rs' area' → Enters s h rs area h' rs' area' (Ok n)
     unfolding Holds
     has_number p g = pass C (pass w.0 (pass w.1.0 (pass w.1.1.0 (pass (x, (f, p)) (accept (x, (f, g)))))))
 
-    numbers_decided : {l : Located} (e : Entered) → Finds h.held rs area x l → Numbers h rs area x e → Decided s h rs area x l.its e
-    numbers_decided (Number n) F G = record { chained = C; checks = w; file = f; gets = G; its = λ g. ⊎_elim (λ L. found_record F L) (λ N. absurd (omega (arith, N.next))) G }
-    numbers_decided (Refused q) F N = rw N.0 (no_place N.1)
+    numbers_decided : {l : Located} (e : Result ℕ Refusal) → Finds h.held rs area x l → Numbers h rs area x e → Decided s h rs area x l.its e
+    numbers_decided (Ok n) F G = record { chained = C; checks = w; file = f; gets = G; its = λ g. ⊎_elim (λ L. found_record F L) (λ N. absurd (omega (arith, N.next))) G }
+    numbers_decided (Err q) F N = rw N.0 (no_place N.1)
 
   -- the clean file got a number or did not
-  pub numbered : {a : Asked} {f : Located} (e : Entered) → a.verdict ≡ clean → (Finds h.held rs area x f → Numbers h rs area x e) → Asks s h rs area x a → Finds a.held rs area x f → Decided s h rs area x f.its e
+  pub numbered : {a : Asked} {f : Located} (e : Result ℕ Refusal) → a.verdict ≡ clean → (Finds h.held rs area x f → Numbers h rs area x e) → Asks s h rs area x a → Finds a.held rs area x f → Decided s h rs area x f.its e
   numbered e v K A F =
       ⊎_elim
       (λ c. let F' = rw c.held at F in numbers_decided c.chained c.checks c.file e F' (K F'))
-      (λ t. let e : ◌≡◌ {A = Verdict} (deciding.Refused t.refusal) deciding.Clean = sym (ap (λ b. b.verdict) t.ask) ∙ v in conflict (cc))
+      (λ t. let e : ◌≡◌ {A = Result (Unit {0}) Refusal} (Err t.refusal) (Ok tt) = sym (ap (λ b. b.verdict) t.ask) ∙ v in conflict (cc))
       A
 
   -- the refusal from before the search
-  pub turned_down : {a : Asked} (r : Record) (q : Refusal) → a.verdict ≡ deciding.Refused q → Asks s h rs area x a → Decided s h rs area x r (Refused q)
+  pub turned_down : {a : Asked} (r : Record) (q : Refusal) → a.verdict ≡ Err q → Asks s h rs area x a → Decided s h rs area x r (Err q)
   turned_down r q v A =
       ⊎_elim
-      (λ c. let f : ◌≡◌ {A = Verdict} (deciding.Refused q) deciding.Clean = sym v ∙ c.verdict in conflict (cc))
+      (λ c. let f : ◌≡◌ {A = Result (Unit {0}) Refusal} (Err q) (Ok tt) = sym v ∙ c.verdict in conflict (cc))
       (λ t.
-      let f : ◌≡◌ {A = Verdict} (deciding.Refused t.refusal) (deciding.Refused q) = sym (ap (λ b. b.verdict) t.ask) ∙ v in
+      let f : ◌≡◌ {A = Result (Unit {0}) Refusal} (Err t.refusal) (Err q) = sym (ap (λ b. b.verdict) t.ask) ∙ v in
       let z : t.refusal ≡ q = cc in
       rw z at t.enters)
       A
@@ -215,12 +211,12 @@ module _ {s : List ℕ} {h : Head} {rs : List Record} {area x : List ℕ} {r : R
         room = λ l. ⊎_elim (λ L. absurd (omega (arith, L.high))) (λ N. N.room) G.gets;
       }
 
-pub decided_fit : (s : List ℕ) (h : Head) (rs : List Record) (area x : List ℕ) (r : Record) (e : Entered) → Decided s h rs area x r e → Fit h e r area x
-decided_fit s h rs area x r (Number n) D = granted_fits D
-decided_fit s h rs area x r (Refused q) D = tt
+pub decided_fit : (s : List ℕ) (h : Head) (rs : List Record) (area x : List ℕ) (r : Record) (e : Result ℕ Refusal) → Decided s h rs area x r e → Fit h e r area x
+decided_fit s h rs area x r (Ok n) D = granted_fits D
+decided_fit s h rs area x r (Err q) D = tt
 
 module _ {h : Head} {rs : List Record} {area x : List ℕ} {o : Record} {r : Entry} {area' : List ℕ} where
-  put_gives : {n : ℕ} → (n ≤ h.held → o ≡ record_at rs n) → Gets h rs area x n → Puts h n o area x r area' → (r.answer ≡ Number n) × Gives h rs area x n r.head (added rs r.number r.new) area'
+  put_gives : {n : ℕ} → (n ≤ h.held → o ≡ record_at rs n) → Gets h rs area x n → Puts h n o area x r area' → (r.answer ≡ Ok n) × Gives h rs area x n r.head (added rs r.number r.new) area'
   put_gives {n} q G P =
       ⊎_elim
       (λ k. ⊎_elim
@@ -234,7 +230,7 @@ module _ {h : Head} {rs : List Record} {area x : List ℕ} {o : Record} {r : Ent
       (λ N.
       let A = k.1 in
       let e : added rs r.number r.new ≡ set rs n (body_record h.used (length x)) = ap₂ (added rs) A.number A.new ∙ added_some rs (body_record h.used (length x)) h.held ∙ ap (λ i. set rs i (body_record h.used (length x))) (sym N.next) in
-      (A.answer ∙ ap (λ i. Number i) (sym N.next), inr (record { new = N.new; room = N.room; next = N.next; head = A.head; records = e; bodies = A.bodies })))
+      (A.answer ∙ ap (λ i. Ok i) (sym N.next), inr (record { new = N.new; room = N.room; next = N.next; head = A.head; records = e; bodies = A.bodies })))
       G)
       P
 
@@ -250,27 +246,27 @@ gets_unique {m = m} {n = n} G G' =
     G
 
 -- ---- the claim: it is the number, or it is not
-pub only_same : {m n : ℕ} → n ≡ m → Number n ≡ only_number m (Number n)
+pub only_same : {m n : ℕ} → n ≡ m → Ok n ≡ only_number m (Ok n)
 only_same {m} {n} e = rw (eq-eqb n m e) refl
 
-pub only_other : {m n : ℕ} → (n ≡ m → ⊥) → refused_by OtherNumber ≡ only_number m (Number n)
+pub only_other : {m n : ℕ} → (n ≡ m → ⊥) → refused_by OtherNumber ≡ only_number m (Ok n)
 only_other {m} {n} f = rw (ne_eqb n m f) refl
 
 -- what is left of a refusal
-left_alone : {s : List ℕ} {h : Head} {rs : List Record} {area : List ℕ} {r : Entry} {area' : List ℕ} (u : Submission) (q : Refusal) → Registers s u h rs area h rs area (Refused q) → (r ≡ unchanged h (refused_by q)) × (area' ≡ area) → Places s u h rs area r area'
+left_alone : {s : List ℕ} {h : Head} {rs : List Record} {area : List ℕ} {r : Entry} {area' : List ℕ} (u : Submission) (q : Refusal) → Registers s u h rs area h rs area (Err q) → (r ≡ unchanged h (refused_by q)) × (area' ≡ area) → Places s u h rs area r area'
 unfolding added
 left_alone {s} {h} {rs} {area} {r} {area'} u q E P = subst (λ (v : Entry). Places s u h rs area v area') (sym P.0) (subst (λ l. Places s u h rs area (unchanged h (refused_by q)) l) (sym P.1) (record { enters = E; inside = λ g. absurd (omega arith) }))
 
 module _ (s : List ℕ) (h : Head) (rs : List Record) (area x : List ℕ) (o : Record) (r : Entry) (area' : List ℕ) where
   -- question and commit make an entry
-  settled_any : (e : Entered) → Decided s h rs area x o e → Settled h e o area x r area' → Places s any_number h rs area r area'
-  settled_any (Number n) G P =
+  settled_any : (e : Result ℕ Refusal) → Decided s h rs area x o e → Settled h e o area x r area' → Places s any_number h rs area r area'
+  settled_any (Ok n) G P =
       let w = put_gives G.its G.gets P in
       record {
-        enters = subst (λ (v : Entered). Enters s h rs area r.head (added rs r.number r.new) area' v) (sym w.0) (has_number G.chained G.checks G.file (gets_place G.gets) w.1);
+        enters = subst (λ (v : Result ℕ Refusal). Enters s h rs area r.head (added rs r.number r.new) area' v) (sym w.0) (has_number G.chained G.checks G.file (gets_place G.gets) w.1);
         inside = λ _. put_inside G.chained G.gets P;
       }
-  settled_any (Refused q) E P = left_alone any_number q E P
+  settled_any (Err q) E P = left_alone any_number q E P
 
   -- and a commit, where the number is claimed
   settled_same : {m n : ℕ} → n ≡ m → Granted s h rs area x o n → Puts h n o area x r area' → Places s (this_number m) h rs area r area'
@@ -278,9 +274,9 @@ module _ (s : List ℕ) (h : Head) (rs : List Record) (area x : List ℕ) (o : R
   settled_same {m} {n} z G P =
       let w = put_gives G.its G.gets P in
       let c = G.checks in
-      let d : Commits s m h rs area r.head (added rs r.number r.new) area' (Number n) =
+      let d : Commits s m h rs area r.head (added rs r.number r.new) area' (Ok n) =
       pass G.chained (pass c.0 (pass c.1.0 (pass c.1.1.0 (pass (x, (G.file, gets_place G.gets)) (pass (x, (G.file, subst (λ k. Gets h rs area x k) z G.gets)) (accept (x, (G.file, w.1)))))))) in
-      record { enters = subst (λ (v : Entered). Commits s m h rs area r.head (added rs r.number r.new) area' v) (sym w.0) d; inside = λ _. put_inside G.chained G.gets P }
+      record { enters = subst (λ (v : Result ℕ Refusal). Commits s m h rs area r.head (added rs r.number r.new) area' v) (sym w.0) d; inside = λ _. put_inside G.chained G.gets P }
 
   settled_other : {m n : ℕ} → (n ≡ m → ⊥) → Granted s h rs area x o n → (r ≡ unchanged h (refused_by OtherNumber)) × (area' ≡ area) → Places s (this_number m) h rs area r area'
   unfolding Holds
@@ -289,50 +285,50 @@ module _ (s : List ℕ) (h : Head) (rs : List Record) (area x : List ℕ) (o : R
       left_alone (this_number m) OtherNumber
       (pass G.chained (pass c.0 (pass c.1.0 (pass c.1.1.0 (pass (x, (G.file, gets_place G.gets)) (refuse (λ u. f (gets_unique G.gets (subst (λ y. Gets h rs area y m) (clean_unique u.1.0 G.file) u.1.1))) (refl, refl, refl))))))) P
 
-  settled_number : (m n : ℕ) (b : Bool) → eqb n m ≡ b → Granted s h rs area x o n → Settled h (chosen b (Number n) (Refused OtherNumber)) o area x r area' → Places s (this_number m) h rs area r area'
+  settled_number : (m n : ℕ) (b : Bool) → eqb n m ≡ b → Granted s h rs area x o n → Settled h (chosen b (Ok n) (Err OtherNumber)) o area x r area' → Places s (this_number m) h rs area r area'
   settled_number m n true e G P = settled_same (eqb-true n m e) G P
   settled_number m n false e G P = settled_other (λ z. conflict (let u : eqb n m ≡ true = eq-eqb n m z in cc)) G P
 
-  settled_claim : (m : ℕ) (e : Entered) → Decided s h rs area x o e → Settled h (only_number m e) o area x r area' → Places s (this_number m) h rs area r area'
-  settled_claim m (Number n) G P = settled_number m n (eqb n m) refl G P
-  settled_claim m (Refused q) E P = left_alone (this_number m) q (refused_early (entry_check s h rs area done) (check 13 (Would s h rs area m) done) (refl, refl, refl) E) P
+  settled_claim : (m : ℕ) (e : Result ℕ Refusal) → Decided s h rs area x o e → Settled h (only_number m e) o area x r area' → Places s (this_number m) h rs area r area'
+  settled_claim m (Ok n) G P = settled_number m n (eqb n m) refl G P
+  settled_claim m (Err q) E P = left_alone (this_number m) q (refused_early (entry_check s h rs area done) (check 13 (Would s h rs area m) done) (refl, refl, refl) E) P
 
-  settled_by : (claim : Claim) (e : Entered) → Decided s h rs area x o e → Settled h (claimed_by claim e) o area x r area' → Places s (record { claim = claim }) h rs area r area'
+  settled_by : (claim : Claim) (e : Result ℕ Refusal) → Decided s h rs area x o e → Settled h (claimed_by claim e) o area x r area' → Places s (record { claim = claim }) h rs area r area'
   settled_by claiming.Any e D P = settled_any e D P
   settled_by (claiming.Number m) e D P = settled_claim m e D P
 
-  pub settled : (u : Submission) (e : Entered) → Decided s h rs area x o e → Settled h (claimed_by u.claim e) o area x r area' → Places s u h rs area r area'
+  pub settled : (u : Submission) (e : Result ℕ Refusal) → Decided s h rs area x o e → Settled h (claimed_by u.claim e) o area x r area' → Places s u h rs area r area'
   settled u e D P = settled_by u.claim e D P
 
 -- ---- a question
 module _ (s : List ℕ) (h : Head) (rs : List Record) (area x : List ℕ) (o : Record) (before after : List ℕ) where
-  gave_questions : longest ≤ length before → (e : Entered) (r : Reply) → Decided s h rs area x o e → Gave e x before after r → Questions s h rs area before after r
+  gave_questions : longest ≤ length before → (e : Result ℕ Refusal) (r : Result Foretold Refusal) → Decided s h rs area x o e → Gave e x before after r → Questions s h rs area before after r
   unfolding Holds
-  gave_questions l (Number n) r G P =
+  gave_questions l (Ok n) r G P =
       let c = G.checks in
-      subst (λ (v : Reply). Questions s h rs area before after v) (sym P.0)
+      subst (λ (v : Result Foretold Refusal). Questions s h rs area before after v) (sym P.0)
       (pass l (pass G.chained (pass c.0 (pass c.1.0 (pass c.1.1.0 (pass (x, (G.file, gets_place G.gets)) (accept (record { clean = x; file = G.file; gets = G.gets; long = refl; wrote = P.1 }))))))))
-  gave_questions l (Refused q) r E P = subst (λ (v : Reply). Questions s h rs area before after v) (sym P.0) (pass l (refused_early (entry_check s h rs area done) done P.1 E))
+  gave_questions l (Err q) r E P = subst (λ (v : Result Foretold Refusal). Questions s h rs area before after v) (sym P.0) (pass l (refused_early (entry_check s h rs area done) done P.1 E))
 
   -- what is decided and handed over is a question's answer
-  pub delivered : (e : Entered) (r : Reply) → Decided s h rs area x o e → Delivered e x before after r → Questions s h rs area before after r
-  delivered e r D P = ⊎_elim (λ w. subst (λ (v : Reply). Questions s h rs area before after v) (sym w.1) (refuse (λ l. omega (arith, w.0)) w.2)) (λ w. gave_questions w.0 e r D w.1) P
+  pub delivered : (e : Result ℕ Refusal) (r : Result Foretold Refusal) → Decided s h rs area x o e → Delivered e x before after r → Questions s h rs area before after r
+  delivered e r D P = ⊎_elim (λ w. subst (λ (v : Result Foretold Refusal). Questions s h rs area before after v) (sym w.1) (refuse (λ l. omega (arith, w.0)) w.2)) (λ w. gave_questions w.0 e r D w.1) P
 
 -- what the commit asks, under a claim
-only_fit : (h : Head) (area x : List ℕ) (r : Record) (m : ℕ) (e : Entered) → Fit h e r area x → Fit h (only_number m e) r area x
-only_fit h area x r m (Number n) F = go (eqb n m)
+only_fit : (h : Head) (area x : List ℕ) (r : Record) (m : ℕ) (e : Result ℕ Refusal) → Fit h e r area x → Fit h (only_number m e) r area x
+only_fit h area x r m (Ok n) F = go (eqb n m)
   where
-    go : (b : Bool) → Fit h (chosen b (Number n) (Refused OtherNumber)) r area x
+    go : (b : Bool) → Fit h (chosen b (Ok n) (Err OtherNumber)) r area x
     go true = F
     go false = tt
-only_fit h area x r m (Refused q) F = tt
+only_fit h area x r m (Err q) F = tt
 
-pub claimed_fit : (h : Head) (area x : List ℕ) (r : Record) (claim : Claim) (e : Entered) → Fit h e r area x → Fit h (claimed_by claim e) r area x
+pub claimed_fit : (h : Head) (area x : List ℕ) (r : Record) (claim : Claim) (e : Result ℕ Refusal) → Fit h e r area x → Fit h (claimed_by claim e) r area x
 claimed_fit h area x r claiming.Any e F = F
 claimed_fit h area x r (claiming.Number m) e F = only_fit h area x r m e F
 
 -- the file of a normal form fits the area that it is cleaned into
-pub clean_fits : {stock s before after : List ℕ} (a : Formed) (k m size : ℕ) → Cleans stock s before after a → a ≡ formed.Form k m size → size ≤ length after
+pub clean_fits : {stock s before after : List ℕ} (a : Result Form Refusal) (k m size : ℕ) → Cleans stock s before after a → a ≡ formed.Form k m size → size ≤ length after
 unfolding Holds
 clean_fits {stock} {s} {before} {after} a k m size J e =
     let w = accepted_holds (rw e at J) in

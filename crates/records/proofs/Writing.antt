@@ -1,5 +1,6 @@
 -- The records of a new registry, and the answers of making.
 -- Assumes nothing.
+use Rattle.std.specs.Prelude.{Err, None, Ok, Option, Result, Some}
 use Prim.Native.Nat.{ℕ, zero, suc, ◌≤◌, ◌<◌}
 use native.Mathlib.Omega.{arith}
 use mathlib.Core.List.{List, [], ◌∷◌, ◌++◌, append_assoc}
@@ -14,7 +15,6 @@ use Rattle.records.specs.Book.{no_record, stock_record, new_head, record_at}
 use Rattle.records.specs.Inner.Steps.{refused_made, not_started}
 use Rattle.records.specs.Inner.Writes.{fresh_records, written}
 use Rattle.records.specs.declared.book.Head.{Head}
-use Rattle.records.specs.declared.book.Made.TheVariants as making
 use Rattle.records.specs.declared.book.Record.{Record}
 use Rattle.records.specs.declared.book.Started.{Started}
 
@@ -58,5 +58,5 @@ module _ {stock : List ℕ} {h : Head} {rs : List Record} {area : List ℕ} wher
     no_room g A f e = subst (λ (r : Started). Makes stock h rs area r.head (written rs (fresh_records (length stock)) r.fresh) area r.answer) (sym e) (pass g (pass A (refuse f (refl, refl, refl))))
 
   pub started : {area' : List ℕ} → 33 ≤ length rs → Alphabets stock → length stock ≤ length area → area' ≡ sets area 0 stock
-      → Makes stock h rs area (new_head (length stock)) (written rs (fresh_records (length stock)) 33) area' making.Empty
+      → Makes stock h rs area (new_head (length stock)) (written rs (fresh_records (length stock)) 33) area' (Ok tt)
   started g A f w = pass g (pass A (pass f (accept (record { head = refl; records = written_fresh rs (length stock) g; bodies = w }))))

@@ -1,8 +1,10 @@
 -- What the entry points of a registry answer. In each, h, rs and area are the head, the records and the area as lent, and h', rs' and area' as left.
-use Rattle.std.specs.Prelude.{ℕ, ◌+◌, ◌≤◌, ◌<◌, List, [], ◌∷◌, ◌++◌, ◌⊎◌, ◌≡◌, length, set, drop, replicate}
+use Rattle.std.specs.Prelude.{Err, None, Ok, Option, Result, Some, ℕ, ◌+◌, ◌≤◌, ◌<◌, List, [], ◌∷◌, ◌++◌, ◌⊎◌, ◌≡◌, length, set, drop, replicate}
+use Rattle.trees.specs.declared.refusal.Refusal.{Refusal}
+use Rattle.records.specs.declared.book.Foretold.{Foretold}
+use Rattle.trees.specs.Refusal.{outcome_of, refusal_number, Outcome, accepted, refused, Checks, done, check, Judged}
 use Rattle.std.proofs.lemmas.List.Edits.{sets}
 use Rattle.trees.specs.Alphabets.{alphabet_check}
-use Rattle.trees.specs.Refusal.{refusal_number, Outcome, accepted, refused, Checks, done, check, Judged}
 use Rattle.formats.specs.Sheet.{longest, file, sheet_check}
 use Rattle.earliest.specs.Answers.{form_check}
 use Rattle.canonical.specs.Answers.{NormalFile}
@@ -11,12 +13,6 @@ use Rattle.records.specs.declared.book.Claim.{Claim}
 use Rattle.records.specs.declared.book.Claim.TheVariants as claiming
 use Rattle.records.specs.declared.book.Head.{Head}
 use Rattle.records.specs.declared.book.Record.{Record}
-use Rattle.records.specs.declared.book.Entered.{Entered}
-use Rattle.records.specs.declared.book.Entered.TheVariants as entering
-use Rattle.records.specs.declared.book.Made.{Made}
-use Rattle.records.specs.declared.book.Made.TheVariants as making
-use Rattle.records.specs.declared.book.Reply.{Reply}
-use Rattle.records.specs.declared.book.Reply.TheVariants as replying
 use Rattle.records.specs.declared.book.Submission.{Submission}
 
 -- a refusal leaves head, records and area as they were
@@ -24,27 +20,19 @@ abbrev pub Kept : Head → List Record → List ℕ → Head → List Record →
 Kept h rs area h' rs' area' = (h' ≡ h) × (rs' ≡ rs) × (area' ≡ area)
 
 -- ---- making: a registry with these alphabets and nothing else in it
-abbrev pub made_of : Made → Outcome (Unit {0})
-made_of making.Empty = accepted tt
-made_of (making.Refused r) = refused (refusal_number r)
-
 -- the head is new, the first 33 records are those of the alphabets and unused ones, and the area begins with the alphabets; the rest of both stays
 pub record Begun (stock : List ℕ) (rs : List Record) (area : List ℕ) (h' : Head) (rs' : List Record) (area' : List ℕ) : Type 0 where
   pub head : h' ≡ new_head (length stock)
   pub records : rs' ≡ stock_record (length stock) ∷ (replicate 32 no_record ++ drop 33 rs)
   pub bodies : area' ≡ sets area 0 stock
 
-abbrev pub Makes : List ℕ → Head → List Record → List ℕ → Head → List Record → List ℕ → Made → Type 0
+abbrev pub Makes : List ℕ → Head → List Record → List ℕ → Head → List Record → List ℕ → Result (Unit {0}) Refusal → Type 0
 Makes stock h rs area h' rs' area' r =
     Judged (Kept h rs area h' rs' area') (λ v. Begun stock rs area h' rs' area')
     (check 9 (33 ≤ length rs) (alphabet_check stock (check 8 (length stock ≤ length area) done)))
-    (made_of r)
+    (outcome_of r)
 
 -- ---- entry: the number of a transducer's normal form
-abbrev pub number_of : Entered → Outcome ℕ
-number_of (entering.Number n) = accepted n
-number_of (entering.Refused r) = refused (refusal_number r)
-
 -- x is the file of the normal form (01: clean sheet) of the transducer of the file s
 pub record CleanFile (stock s x : List ℕ) : Type 0 where
   pub states : ℕ
@@ -107,18 +95,14 @@ abbrev pub entry_check : List ℕ → Head → List Record → List ℕ → Chec
 entry_check s h rs area rest = check 9 (Chained h rs area) (sheet_check (body rs area 0) s (form_check (body rs area 0) s (check 8 ((x : List ℕ) × (CleanFile (body rs area 0) s x × HasPlace h rs area x)) rest)))
 
 -- the file s is cleaned under the alphabets of the registry, and its normal form is given a number
-abbrev pub Enters : List ℕ → Head → List Record → List ℕ → Head → List Record → List ℕ → Entered → Type 0
+abbrev pub Enters : List ℕ → Head → List Record → List ℕ → Head → List Record → List ℕ → Result ℕ Refusal → Type 0
 Enters s h rs area h' rs' area' r =
     Judged (Kept h rs area h' rs' area') (λ n. (x : List ℕ) × (CleanFile (body rs area 0) s x × Gives h rs area x n h' rs' area'))
     (entry_check s h rs area done)
-    (number_of r)
+    (outcome_of r)
 
 -- ---- question and commit (02, F-6)
 -- the number that an entry would get, and the length of the clean file
-abbrev pub reply_of : Reply → Outcome (ℕ × ℕ)
-reply_of (replying.Number n size) = accepted (n, size)
-reply_of (replying.Refused r) = refused (refusal_number r)
-
 -- an entry of s would get the number n, and its clean file, which has this size, stands at the start of the editor's area, after for before
 pub record Foretells (s : List ℕ) (h : Head) (rs : List Record) (area before after : List ℕ) (n size : ℕ) : Type 0 where
   pub clean : List ℕ
@@ -128,29 +112,29 @@ pub record Foretells (s : List ℕ) (h : Head) (rs : List Record) (area before a
   pub wrote : after ≡ sets before 0 clean
 
 -- a question is refused by 1, and then as the entry would be; a refusal leaves the editor's area. Head, records and area of the registry are lent for reading alone
-abbrev pub Questions : List ℕ → Head → List Record → List ℕ → List ℕ → List ℕ → Reply → Type 0
+abbrev pub Questions : List ℕ → Head → List Record → List ℕ → List ℕ → List ℕ → Result Foretold Refusal → Type 0
 Questions s h rs area before after r =
     Judged (after ≡ before) (λ v. Foretells s h rs area before after v.0 v.1)
     (check 1 (longest ≤ length before) (entry_check s h rs area done))
-    (reply_of r)
+    (outcome_of r)
 
 -- n is the number that an entry of s would get
 abbrev pub Would : List ℕ → Head → List Record → List ℕ → ℕ → Type 0
 Would s h rs area n = (x : List ℕ) × (CleanFile (body rs area 0) s x × Gets h rs area x n)
 
 -- a commit of s with the number m does what an entry does, where that gets this number; it is refused by 13, last of all, where it gets another
-abbrev pub Commits : List ℕ → ℕ → Head → List Record → List ℕ → Head → List Record → List ℕ → Entered → Type 0
+abbrev pub Commits : List ℕ → ℕ → Head → List Record → List ℕ → Head → List Record → List ℕ → Result ℕ Refusal → Type 0
 Commits s m h rs area h' rs' area' r =
     Judged (Kept h rs area h' rs' area') (λ n. (x : List ℕ) × (CleanFile (body rs area 0) s x × Gives h rs area x n h' rs' area'))
     (entry_check s h rs area (check 13 (Would s h rs area m) done))
-    (number_of r)
+    (outcome_of r)
 
 -- an entry where any number is claimed, a commit where one is
-abbrev pub RegistersBy : Claim → List ℕ → Head → List Record → List ℕ → Head → List Record → List ℕ → Entered → Type 0
+abbrev pub RegistersBy : Claim → List ℕ → Head → List Record → List ℕ → Head → List Record → List ℕ → Result ℕ Refusal → Type 0
 RegistersBy claiming.Any s h rs area h' rs' area' r = Enters s h rs area h' rs' area' r
 RegistersBy (claiming.Number m) s h rs area h' rs' area' r = Commits s m h rs area h' rs' area' r
 
-abbrev pub Registers : List ℕ → Submission → Head → List Record → List ℕ → Head → List Record → List ℕ → Entered → Type 0
+abbrev pub Registers : List ℕ → Submission → Head → List Record → List ℕ → Head → List Record → List ℕ → Result ℕ Refusal → Type 0
 Registers s u h rs area h' rs' area' r = RegistersBy u.claim s h rs area h' rs' area' r
 
 -- ---- a body by number: empty for 0, for a number that is not held, and on refusal 9

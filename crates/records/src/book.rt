@@ -19,13 +19,6 @@ pub struct Record {
     pub count: u64,
 }
 
-// The number that an entry gets, or the refusal.
-#[derive(Drop)]
-pub enum Entered {
-    Number(usize),
-    Refused(Refusal),
-}
-
 // The number that a transducer has to get: any, as in an entry, or this one, as in a commit.
 #[derive(Clone, Copy)]
 pub enum Claim {
@@ -39,20 +32,6 @@ pub struct Submission {
     pub claim: Claim,
 }
 
-// What a question answers: the number that an entry would get and how long the clean file is, or the refusal.
-#[derive(Drop)]
-pub enum Reply {
-    Number(usize, usize),
-    Refused(Refusal),
-}
-
-// A registry that holds nothing but alphabets, or the refusal.
-#[derive(Drop)]
-pub enum Made {
-    Empty,
-    Refused(Refusal),
-}
-
 // What the records passed tell: whether they lie as a registry's, where the next body starts, what they count together (18,446,744,073,709,551,615 for as many and more), the first record and the wanted one.
 #[derive(Clone, Copy)]
 pub struct Survey {
@@ -63,17 +42,10 @@ pub struct Survey {
     pub wanted: Record,
 }
 
-// That an entry has a clean file, or the refusal.
-#[derive(Drop)]
-pub enum Verdict {
-    Clean,
-    Refused(Refusal),
-}
-
 // What is known of an entry before the search: the verdict, how many bodies are to be searched and how long the clean file is, both 0 on a refusal.
 #[derive(Drop)]
 pub struct Asked {
-    pub verdict: Verdict,
+    pub verdict: Result<(), Refusal>,
     pub held: usize,
     pub size: usize,
 }
@@ -91,7 +63,7 @@ pub struct Entry {
     pub head: Head,
     pub number: usize,
     pub new: Record,
-    pub answer: Entered,
+    pub answer: Result<usize, Refusal>,
 }
 
 // What making leaves and answers: the head, and how many records are made new.
@@ -99,5 +71,5 @@ pub struct Entry {
 pub struct Started {
     pub head: Head,
     pub fresh: usize,
-    pub answer: Made,
+    pub answer: Result<(), Refusal>,
 }

@@ -7,14 +7,12 @@ ghost use Rattle.records.specs.Inner.Steps.{clean, Finds, Ready, Numbers, Decide
 ghost use Rattle.records.specs.Inner.Surveys.{Surveyed, Told};
 ghost use Rattle.records.specs.declared.book.Record.{Record as Records};
 
-use crate::book::{
-    Asked, Claim, Entered, Entry, Head, Located, Record, Reply, Submission, Survey, Verdict,
-};
+use crate::book::{Asked, Claim, Entry, Head, Located, Record, Submission, Survey};
 use crate::chain::chained;
 use crate::search::body_of;
 use canonical::normal::clean;
 use formats::file::copy_at;
-use forms::write::Formed;
+use forms::write::Form;
 use trees::refusal::Refusal;
 
 // An entry that is refused before the search.
@@ -22,7 +20,7 @@ fn refuse_early(r: Refusal) -> Asked
     ensures { result ≡ refused_ask r }
 {
     Asked {
-        verdict: Verdict::Refused(r),
+        verdict: Err(r),
         held: 0,
         size: 0,
     }
@@ -38,11 +36,11 @@ pub fn ask(h: Head, n: usize, s: Survey, area: &[u8], sheet: &[u8], file: &mut [
     }
     match clean(body_of(s.first, area), sheet, file) {
         Formed::Form(_, _, size) => Asked {
-            verdict: Verdict::Clean,
+            verdict: Ok(()),
             held: h.held,
             size: size,
         },
-        Formed::Refused(r) => refuse_early(r),
+        Err(r) => refuse_early(r),
     }
 }
 
@@ -55,51 +53,51 @@ pub fn beginning(file: &[u8], size: usize) -> &[u8]
 }
 
 // The number that bytes of this size would get, of which the search found f; the area has `room` bytes.
-fn number_for(h: Head, f: Located, room: usize, size: usize) -> Entered
+fn number_for(h: Head, f: Located, room: usize, size: usize) -> Result<usize, Refusal>
     requires { Ready h room }
     ensures { (rs : List Records) (area x : List ℕ) → length area ≡ room → length x ≡ size → Finds h.held rs area x f → Numbers h rs area x result }
 {
     if f.number != 0 {
-        return Entered::Number(f.number);
+        return Ok(f.number);
     }
     if h.held == 32 {
-        return Entered::Refused(Refusal::FullRegistry);
+        return Err(Refusal::FullRegistry);
     }
     if size > room - h.used {
-        return Entered::Refused(Refusal::FullRegistry);
+        return Err(Refusal::FullRegistry);
     }
-    Entered::Number(h.held + 1)
+    Ok(h.held + 1)
 }
 
 // The question: what an entry would answer. It changes nothing.
-fn decide(h: Head, a: Asked, f: Located, room: usize, size: usize) -> Entered
+fn decide(h: Head, a: Asked, f: Located, room: usize, size: usize) -> Result<usize, Refusal>
     requires { a.verdict ≡ clean → Ready h room }
     ensures { (s : List ℕ) (rs : List Records) (area x : List ℕ) → length area ≡ room → length x ≡ size → Asks s h rs area x a → Finds a.held rs area x f → Decided s h rs area x f.its result }
 {
     let verdict = a.verdict;
     match verdict {
-        Verdict::Clean => number_for(h, f, room, size),
-        Verdict::Refused(r) => Entered::Refused(r),
+        Ok(()) => number_for(h, f, room, size),
+        Err(r) => Err(r),
     }
 }
 
 // The answer where it is this number, or a refusal; else refusal 13.
-fn only_number(answer: Entered, m: usize) -> Entered
+fn only_number(answer: Result<usize, Refusal>, m: usize) -> Result<usize, Refusal>
     ensures { result ≡ only_number m answer }
 {
     match answer {
-        Entered::Number(n) => {
+        Ok(n) => {
             if n == m {
-                return Entered::Number(n);
+                return Ok(n);
             }
-            Entered::Refused(Refusal::OtherNumber)
+            Err(Refusal::OtherNumber)
         }
-        Entered::Refused(r) => Entered::Refused(r),
+        Err(r) => Err(r),
     }
 }
 
 // What is answered under a claim, where a question would answer so.
-fn claimed(answer: Entered, claim: Claim) -> Entered
+fn claimed(answer: Result<usize, Refusal>, claim: Claim) -> Result<usize, Refusal>
     ensures { result ≡ claimed_by claim answer }
 {
     match claim {
@@ -143,7 +141,7 @@ fn append(h: Head, area: &mut [u8], bytes: &[u8]) -> Entry
         head: count_answer(head),
         number: next,
         new: new,
-        answer: Entered::Number(next),
+        answer: Ok(next),
     }
 }
 
@@ -161,7 +159,7 @@ fn count(h: Head, n: usize, r: Record) -> Entry
         head: count_answer(h),
         number: n,
         new: new,
-        answer: Entered::Number(n),
+        answer: Ok(n),
     }
 }
 
@@ -177,7 +175,7 @@ fn refuse(h: Head, r: Refusal) -> Entry
             size: 0,
             count: 0,
         },
-        answer: Entered::Refused(r),
+        answer: Err(r),
     }
 }
 
@@ -193,35 +191,35 @@ fn put(h: Head, n: usize, r: Record, area: &mut [u8], bytes: &[u8]) -> Entry
 }
 
 // The commit of what the question answered; r is the record of bytes that are held.
-fn settle(h: Head, answer: Entered, r: Record, area: &mut [u8], bytes: &[u8]) -> Entry
+fn settle(h: Head, answer: Result<usize, Refusal>, r: Record, area: &mut [u8], bytes: &[u8]) -> Entry
     requires { Fit h answer r area.old bytes.now }
     ensures { Settled h answer r area.old bytes.now result area.new }
 {
     match answer {
-        Entered::Number(n) => put(h, n, r, area, bytes),
-        Entered::Refused(x) => refuse(h, x),
+        Ok(n) => put(h, n, r, area, bytes),
+        Err(x) => refuse(h, x),
     }
 }
 
 // The clean file `bytes` is handed over with the answer, its number. 1 where the editor's area is too short, whatever the answer: nothing has changed so far.
-fn deliver(answer: Entered, bytes: &[u8], out: &mut [u8]) -> Reply
+fn deliver(answer: Result<usize, Refusal>, bytes: &[u8], out: &mut [u8]) -> Result<Foretold, Refusal>
     requires { length bytes.now ≤ longest }
     ensures { Delivered answer bytes.now out.old out.new result }
 {
     if out.len() < 20483 {
-        return Reply::Refused(Refusal::ShortArea);
+        return Err(Refusal::ShortArea);
     }
     match answer {
-        Entered::Number(n) => {
+        Ok(n) => {
             copy_at(bytes, out, 0);
             Reply::Number(n, bytes.len())
         }
-        Entered::Refused(r) => Reply::Refused(r),
+        Err(r) => Err(r),
     }
 }
 
 // The end of a question, after the search for the clean file `bytes`, which found f.
-pub fn reply(h: Head, a: Asked, f: Located, area: &[u8], bytes: &[u8], out: &mut [u8]) -> Reply
+pub fn reply(h: Head, a: Asked, f: Located, area: &[u8], bytes: &[u8], out: &mut [u8]) -> Result<Foretold, Refusal>
     requires { Searched h a f area.now bytes.now × (length bytes.now ≤ longest) }
     ensures { (s : List ℕ) (rs : List Records) → Asks s h rs area.now bytes.now a → Finds a.held rs area.now bytes.now f → Questions s h rs area.now out.old out.new result }
 {

@@ -7,7 +7,7 @@ ghost use Rattle.records.specs.Inner.Surveys.{Surveyed, Told};
 ghost use Rattle.records.specs.Inner.Writes.{fresh_records, written};
 ghost use Rattle.records.specs.declared.book.Record.{Record as Records};
 
-use crate::book::{Head, Made, Record, Started, Survey};
+use crate::book::{Head, Record, Started, Survey};
 use crate::chain::chained;
 use crate::search::body_of;
 use formats::file::copy_at;
@@ -21,7 +21,7 @@ fn refuse(h: Head, r: Refusal) -> Started
     Started {
         head: h,
         fresh: 0,
-        answer: Made::Refused(r),
+        answer: Err(r),
     }
 }
 
@@ -67,7 +67,7 @@ pub fn start(h: Head, n: usize, area: &mut [u8], stock: &[u8]) -> Started
     Started {
         head: head,
         fresh: 33,
-        answer: Made::Empty,
+        answer: Ok(()),
     }
 }
 

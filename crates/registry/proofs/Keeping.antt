@@ -1,5 +1,7 @@
 -- What one call leaves: the bodies that are held stay where they are, and an entry is one of the theory's registry.
 -- Assumes nothing.
+use Rattle.std.specs.Prelude.{Err, None, Ok, Option, Result, Some}
+use Rattle.trees.specs.declared.refusal.Refusal.{Refusal}
 use Prim.Native.Nat.{ℕ, zero, suc, ◌+◌, ◌-◌, ◌≤◌, ◌<◌}
 use native.Mathlib.Decide.{ℕ_discrete}
 use native.Mathlib.Nat.{add-zero}
@@ -17,8 +19,6 @@ use Rattle.trees.specs.Refusal.{Holds}
 use Rattle.trees.proofs.Judging.{accepted_holds, refused_fails}
 use Rattle.records.specs.Answers.{Enters, CleanFile, Known, Added, Gives}
 use Rattle.records.specs.Book.{answers_of, no_record, body_record, counted_record, record_at, body, tally, Chained}
-use Rattle.records.specs.declared.book.Entered.{Entered}
-use Rattle.records.specs.declared.book.Entered.TheVariants.{Number, Refused}
 use Rattle.records.specs.declared.book.Head.{Head}
 use Rattle.records.specs.declared.book.Record.{Record}
 use Rattle.records.proofs.Chains.{body_end}
@@ -66,10 +66,10 @@ pub record Accepted (b : Book) (s : List ℕ) (a : Option ℕ) (b' : Book) : Typ
   pub gives : Gives b.head b.records b.area file number b'.head b'.records b'.area
 
 module _ {b : Book} {s : List ℕ} {a : Option ℕ} {b' : Book} where
-  answered : (r : Entered) → Enters s b.head b.records b.area b'.head b'.records b'.area r → answer_of r ≡ a → Unchanged b a b' ⊎ Accepted b s a b'
+  answered : (r : Result ℕ Refusal) → Enters s b.head b.records b.area b'.head b'.records b'.area r → answer_of r ≡ a → Unchanged b a b' ⊎ Accepted b s a b'
   unfolding Holds
-  answered (Number n) J e = let w = accepted_holds J in inr (record { number = n; answer = sym e; file = w.1.0; chained = w.0.0; clean = w.1.1.0; gives = w.1.1.1 })
-  answered (Refused r) J e = let w = (refused_fails J).1 in inl (record { answer = sym e; head = w.0; records = w.1; bodies = w.2 })
+  answered (Ok n) J e = let w = accepted_holds J in inr (record { number = n; answer = sym e; file = w.1.0; chained = w.0.0; clean = w.1.1.0; gives = w.1.1.1 })
+  answered (Err r) J e = let w = (refused_fails J).1 in inl (record { answer = sym e; head = w.0; records = w.1; bodies = w.2 })
 
   pub answered_by : EntersFile b s a b' → Unchanged b a b' ⊎ Accepted b s a b'
   answered_by E = answered E.answer E.call E.told

@@ -1,5 +1,7 @@
 -- Questions and commits: a list of calls is a list of entries, and a commit after a question is accepted.
 -- Assumes nothing.
+use Rattle.std.specs.Prelude.{Err, None, Ok, Option, Result, Some}
+use Rattle.records.specs.declared.book.Foretold.{Foretold}
 use Prim.Native.Nat.{ℕ, ◌≤◌}
 use mathlib.Core.List.Memᴰ
 use mathlib.Core.List.{List, [], ◌∷◌, map, Memᴰ}
@@ -16,12 +18,8 @@ use Rattle.trees.specs.declared.refusal.Refusal.TheVariants.{OtherNumber}
 use Rattle.formats.specs.Sheet.{longest}
 use Rattle.trees.proofs.Judging.{refuse, pass, accept, accepted_holds, refused_fails, behind, refused_early, must_accept}
 use Rattle.records.specs.Answers.{Gets, Gives, entry_check, Enters, Would, Questions, Commits}
-use Rattle.records.specs.declared.book.Entered.{Entered}
-use Rattle.records.specs.declared.book.Entered.TheVariants as entering
 use Rattle.records.specs.declared.book.Head.{Head}
 use Rattle.records.specs.declared.book.Record.{Record}
-use Rattle.records.specs.declared.book.Reply.{Reply}
-use Rattle.records.specs.declared.book.Reply.TheVariants as replying
 use Rattle.records.proofs.Entering.{clean_unique, gets_unique}
 use Rattle.registry.specs.Calls.{Book, answer_of, EntersFile, Entries}
 use Rattle.registry.specs.Questions.{Call, entry, commit, question, foretold, CommitsFile, Calling, Calls, enters_file, accepteds, Idle, Commitment, CallsOrderly}
@@ -37,9 +35,9 @@ same_book {b} {b'} e f g = ap₂ (λ (h : Head) (r : List Record). record { head
 entry_refused : {b b' : Book} {s : List ℕ} {a : Option ℕ} → EntersFile b s a b' → a ≡ nothing → b' ≡ b
 entry_refused {b} {b'} {s} {a} E e = ⊎_elim (λ U. same_book U.head U.records U.bodies) (λ A. let q : ◌≡◌ {A = Option ℕ} (some A.number) nothing = sym A.answer ∙ e in conflict (cc)) (answered_by E)
 
-commit_left : {b b' : Book} {s : List ℕ} {claim : ℕ} (r : Entered) → Commits s claim b.head b.records b.area b'.head b'.records b'.area r → answer_of r ≡ nothing → b' ≡ b
-commit_left (entering.Number n) J e = conflict (cc)
-commit_left (entering.Refused k) J e = let w = (refused_fails J).1 in same_book w.0 w.1 w.2
+commit_left : {b b' : Book} {s : List ℕ} {claim : ℕ} (r : Result ℕ Refusal) → Commits s claim b.head b.records b.area b'.head b'.records b'.area r → answer_of r ≡ nothing → b' ≡ b
+commit_left (Ok n) J e = conflict (cc)
+commit_left (Err k) J e = let w = (refused_fails J).1 in same_book w.0 w.1 w.2
 
 commit_refused : {b b' : Book} {s : List ℕ} {claim : ℕ} {a : Option ℕ} → CommitsFile b s claim a b' → a ≡ nothing → b' ≡ b
 commit_refused C e = commit_left C.answer C.call (C.told ∙ e)
@@ -70,7 +68,7 @@ would_one {h = h} {rs = rs} {area = area} {m = m} (x, (c, g)) (y, (d, k)) = gets
 
 module _ {s : List ℕ} {h : Head} {rs : List Record} {area : List ℕ} {h' : Head} {rs' : List Record} {area' : List ℕ} where
   -- an accepted commit is an accepted entry, which gets the number that is claimed,
-  pub commit_enters : {m n : ℕ} → Commits s m h rs area h' rs' area' (entering.Number n) → Enters s h rs area h' rs' area' (entering.Number n) × (n ≡ m)
+  pub commit_enters : {m n : ℕ} → Commits s m h rs area h' rs' area' (Ok n) → Enters s h rs area h' rs' area' (Ok n) × (n ≡ m)
   unfolding Holds
   commit_enters {m} J =
       let (w, (x, (c, g))) = accepted_holds J in
@@ -78,32 +76,32 @@ module _ {s : List ℕ} {h : Head} {rs : List Record} {area : List ℕ} {h' : He
       (all_pass (entry_check s h rs area done) u.0 (accept (x, (c, g))), would_one (x, (c, gives_gets g)) u.1.0)
 
   -- and an accepted entry is a commit of its number
-  pub entry_commits : {n : ℕ} → Enters s h rs area h' rs' area' (entering.Number n) → Commits s n h rs area h' rs' area' (entering.Number n)
+  pub entry_commits : {n : ℕ} → Enters s h rs area h' rs' area' (Ok n) → Commits s n h rs area h' rs' area' (Ok n)
   entry_commits J = let (w, (x, (c, g))) = accepted_holds J in all_pass (entry_check s h rs area done) w (pass (x, (c, gives_gets g)) (accept (x, (c, g))))
 
   -- a commit of another number is refused by 13,
-  pub other_refused : {m n : ℕ} → Enters s h rs area h' rs' area' (entering.Number n) → m ≢ n → Commits s m h rs area h rs area (entering.Refused OtherNumber)
+  pub other_refused : {m n : ℕ} → Enters s h rs area h' rs' area' (Ok n) → m ≢ n → Commits s m h rs area h rs area (Err OtherNumber)
   other_refused J o = let (w, (x, (c, g))) = accepted_holds J in all_pass (entry_check s h rs area done) w (refuse (λ u. o (would_one u (x, (c, gives_gets g)))) (refl, refl, refl))
 
   -- and of an entry that is refused, as that is, whatever the number
-  pub entry_refuses : {m : ℕ} (q : Refusal) → Enters s h rs area h' rs' area' (entering.Refused q) → Commits s m h rs area h' rs' area' (entering.Refused q)
+  pub entry_refuses : {m : ℕ} (q : Refusal) → Enters s h rs area h' rs' area' (Err q) → Commits s m h rs area h' rs' area' (Err q)
   entry_refuses {m} q J = refused_early (entry_check s h rs area done) (check 13 (Would s h rs area m) done) (refused_fails J).1 J
 
   module _ {before : List ℕ} (long : longest ≤ length before) where
     -- a question answers the number of the entry, where the editor's area is long enough,
-    pub entry_answers : {n : ℕ} → Enters s h rs area h' rs' area' (entering.Number n) → (size : ℕ) × ((after : List ℕ) × Questions s h rs area before after (replying.Number n size))
+    pub entry_answers : {n : ℕ} → Enters s h rs area h' rs' area' (Ok n) → (size : ℕ) × ((after : List ℕ) × Questions s h rs area before after (replying.Number n size))
     entry_answers J =
         let (w, (x, (c, g))) = accepted_holds J in
         (length x, (sets before 0 x, pass long (all_pass (entry_check s h rs area done) w (accept (record { clean = x; file = c; gets = gives_gets g; long = refl; wrote = refl })))))
 
     -- and is refused as the entry is
-    pub entry_unanswered : (q : Refusal) → Enters s h rs area h' rs' area' (entering.Refused q) → Questions s h rs area before before (replying.Refused q)
+    pub entry_unanswered : (q : Refusal) → Enters s h rs area h' rs' area' (Err q) → Questions s h rs area before before (Err q)
     entry_unanswered q J = pass long (refused_early (entry_check s h rs area done) done refl J)
 
 -- ---- a list of calls is one of entries
-commit_entry : {b b' : Book} {s : List ℕ} {claim : ℕ} (n : ℕ) (r : Entered) → Commits s claim b.head b.records b.area b'.head b'.records b'.area r → answer_of r ≡ some n → EntersFile b s (some n) b'
-commit_entry n (entering.Number m) J e = record { answer = entering.Number m; call = (commit_enters J).0; told = e }
-commit_entry n (entering.Refused k) J e = conflict (cc)
+commit_entry : {b b' : Book} {s : List ℕ} {claim : ℕ} (n : ℕ) (r : Result ℕ Refusal) → Commits s claim b.head b.records b.area b'.head b'.records b'.area r → answer_of r ≡ some n → EntersFile b s (some n) b'
+commit_entry n (Ok m) J e = record { answer = Ok m; call = (commit_enters J).0; told = e }
+commit_entry n (Err k) J e = conflict (cc)
 
 module _ {stock : List ℕ} where
   next_entry : (log : List (Call × Option ℕ)) {b b' : Book} (c : Call) (a : Option ℕ) → Entries stock (accepteds log) b → Calling b c a b' → Entries stock (accepteds ((c, a) ∷ log)) b'
@@ -183,13 +181,13 @@ record Answered (b : Book) (s : List ℕ) (n : ℕ) : Type 0 where
   holds : Holds (entry_check s b.head b.records b.area done)
   would : Would s b.head b.records b.area n
 
-asked : {b : Book} {s : List ℕ} (n : ℕ) {before after : List ℕ} (r : Reply) → Questions s b.head b.records b.area before after r → foretold r ≡ some n → Answered b s n
+asked : {b : Book} {s : List ℕ} (n : ℕ) {before after : List ℕ} (r : Result Foretold Refusal) → Questions s b.head b.records b.area before after r → foretold r ≡ some n → Answered b s n
 unfolding Holds
 asked {b} n (replying.Number m size) J e =
     let w = accepted_holds J in
     let z : m ≡ n = cc in
     record { holds = w.0.1; would = (w.1.clean, (w.1.file, subst (λ k. Gets b.head b.records b.area w.1.clean k) z w.1.gets)) }
-asked n (replying.Refused k) J e = conflict (cc)
+asked n (Err k) J e = conflict (cc)
 
 -- a commit with that number, lent the same book
 commit_accepts : {b b'' : Book} {s : List ℕ} {n : ℕ} {a : Option ℕ} → Answered b s n → CommitsFile b s n a b'' → a ≡ some n

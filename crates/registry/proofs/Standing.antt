@@ -1,5 +1,8 @@
 -- What a making and any entries leave is a registry again, as long as one more answer can be counted; and what an entry answers whose clean file is known and has a place.
 -- Assumes nothing.
+use Rattle.std.specs.Prelude.{Err, None, Ok, Option, Result, Some}
+use Rattle.trees.specs.declared.refusal.Refusal.{Refusal}
+use Rattle.trees.specs.Refusal.{outcome_of, accepted, done, Holds}
 use Prim.Native.Nat.{ℕ, zero, suc, ◌+◌, ◌≤◌, ◌<◌}
 use native.Mathlib.Omega.{arith}
 use mathlib.Core.List.{List, ◌∷◌, ◌++◌}
@@ -11,17 +14,14 @@ use lib.Seq.{sets, length-sets}
 use Rattle.theory.specs.Registry.{begun, entered}
 use Rattle.theory.proofs.Terms.{conflict}
 use Rattle.trees.specs.Alphabets.{Alphabets}
-use Rattle.trees.specs.Refusal.{accepted, done, Holds}
 use Rattle.trees.specs.declared.refusal.Refusal.TheVariants.{FullRegistry}
 use Rattle.formats.specs.Sheet.{file, sheet_check}
 use Rattle.trees.proofs.Judging.{refuse, pass, accept, accepted_holds, must_accept}
 use Rattle.formats.proofs.Sheets.{sheet_counted}
 use Rattle.earliest.specs.Answers.{EarliestFile, form_check}
 use Rattle.canonical.specs.Answers.{NormalFile}
-use Rattle.records.specs.Answers.{CleanFile, Lowest, NotHeld, Room, HasPlace, Known, Added, Gives, number_of, Enters}
+use Rattle.records.specs.Answers.{CleanFile, Lowest, NotHeld, Room, HasPlace, Known, Added, Gives, Enters}
 use Rattle.records.specs.Book.{answers_of, too_many, new_head, counted_head, grown_head, no_record, stock_record, body_record, counted_record, record_at, body, tally, Follow, Unused, Lies, Sound, Chained}
-use Rattle.records.specs.declared.book.Entered.{Entered}
-use Rattle.records.specs.declared.book.Entered.TheVariants.{Number, Refused}
 use Rattle.records.specs.declared.book.Head.{Head}
 use Rattle.records.specs.declared.book.Record.{Record}
 use Rattle.records.proofs.Chains.{Passed, passed_none, passed_more, passed_same, all_passed, follow_passed, follow_places}
@@ -186,13 +186,13 @@ cleans_to {k} {counts} {bytes} F e E = record { checks = (sheet_counted F.sheet,
 no_place : {stock s x : List ℕ} {h : Head} {rs : List Record} {area : List ℕ} → NotHeld h.held rs area x → (Room h area x → ⊥) → CleanFile stock s x → (y : List ℕ) × (CleanFile stock s y × HasPlace h rs area y) → ⊥
 no_place {x} {h} {rs} {area} N R c (y, (d, p)) = ⊎_elim (λ w. N.none w.0 w.1.low w.1.high (w.1.there ∙ clean_unique d c)) (λ r. R (rw (clean_unique d c) at r)) p
 
-pub told : (r : Entered) {a : Option ℕ} {n : ℕ} → answer_of r ≡ a → number_of r ≡ accepted n → a ≡ some n
-told (Number m) {n = n} e f = let z : m ≡ n = cc in sym e ∙ ap (λ k. some k) z
-told (Refused q) e f = conflict (cc)
+pub told : (r : Result ℕ Refusal) {a : Option ℕ} {n : ℕ} → answer_of r ≡ a → outcome_of r ≡ accepted n → a ≡ some n
+told (Ok m) {n = n} e f = let z : m ≡ n = cc in sym e ∙ ap (λ k. some k) z
+told (Err q) e f = conflict (cc)
 
-pub told_number : (r : Entered) {n : ℕ} → answer_of r ≡ some n → number_of r ≡ accepted n
-told_number (Number m) {n} e = let z : m ≡ n = cc in ap (λ k. accepted k) z
-told_number (Refused q) e = conflict (cc)
+pub told_number : (r : Result ℕ Refusal) {n : ℕ} → answer_of r ≡ some n → outcome_of r ≡ accepted n
+told_number (Ok m) {n} e = let z : m ≡ n = cc in ap (λ k. accepted k) z
+told_number (Err q) e = conflict (cc)
 
 module _ {stock : List ℕ} {b : Book} {s x : List ℕ} {a : Option ℕ} {b' : Book} (C : Chained b.head b.records b.area) (same : body_of b 0 ≡ stock) (k : CleansTo stock s x) (E : EntersFile b s a b') where
   -- it gets a number, if it is held or there is room for it
@@ -229,25 +229,25 @@ makes {stock} room A h =
 
 module _ {stock : List ℕ} {b : Book} {s x : List ℕ} (C : Chained b.head b.records b.area) (same : body_of b 0 ≡ stock) (k : CleansTo stock s x) where
   -- an answer n that leaves b', as one of the two ways to give a number says
-  gave : (n : ℕ) (b' : Book) → HasPlace b.head b.records b.area x → Gives b.head b.records b.area x n b'.head b'.records b'.area → Enters s b.head b.records b.area b'.head b'.records b'.area (Number n)
+  gave : (n : ℕ) (b' : Book) → HasPlace b.head b.records b.area x → Gives b.head b.records b.area x n b'.head b'.records b'.area → Enters s b.head b.records b.area b'.head b'.records b'.area (Ok n)
   unfolding Holds
   gave n b' p g =
       let k' = subst (λ t. CleansTo t s x) (sym same) k in
       pass C (pass k'.checks.0 (pass k'.checks.1.0 (pass k'.checks.1.1.0 (pass (x, (k'.clean, p)) (accept (x, (k'.clean, g)))))))
 
   -- a refusal by 8
-  pub enters_full : NotHeld b.head.held b.records b.area x → (Room b.head b.area x → ⊥) → Enters s b.head b.records b.area b.head b.records b.area (Refused FullRegistry)
+  pub enters_full : NotHeld b.head.held b.records b.area x → (Room b.head b.area x → ⊥) → Enters s b.head b.records b.area b.head b.records b.area (Err FullRegistry)
   unfolding Holds
   enters_full N R =
       let k' = subst (λ t. CleansTo t s x) (sym same) k in
       pass C (pass k'.checks.0 (pass k'.checks.1.0 (pass k'.checks.1.1.0 (refuse (no_place N R k'.clean) (refl, refl, refl)))))
 
-  pub enters_known : {n : ℕ} → Lowest b.head.held b.records b.area x n → (b' : Book) × Enters s b.head b.records b.area b'.head b'.records b'.area (Number n)
+  pub enters_known : {n : ℕ} → Lowest b.head.held b.records b.area x n → (b' : Book) × Enters s b.head b.records b.area b'.head b'.records b'.area (Ok n)
   enters_known {n} L =
       let b' : Book = record { head = counted_head b.head; records = set b.records n (counted_record (record_at b.records n)); area = b.area } in
       (b', gave n b' (inl (n, L)) (inl (record { lowest = L; head = refl; records = refl; bodies = refl })))
 
-  pub enters_new : {n : ℕ} → n ≡ b.head.held + 1 → NotHeld b.head.held b.records b.area x → Room b.head b.area x → (b' : Book) × Enters s b.head b.records b.area b'.head b'.records b'.area (Number n)
+  pub enters_new : {n : ℕ} → n ≡ b.head.held + 1 → NotHeld b.head.held b.records b.area x → Room b.head b.area x → (b' : Book) × Enters s b.head b.records b.area b'.head b'.records b'.area (Ok n)
   enters_new {n} e N R =
       let b' : Book = record { head = grown_head b.head (length x); records = set b.records n (body_record b.head.used (length x)); area = sets b.area b.head.used x } in
       (b', gave n b' (inr R) (inr (record { new = N; room = R; next = e; head = refl; records = refl; bodies = refl })))

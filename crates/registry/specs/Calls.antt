@@ -1,5 +1,6 @@
 -- Lists of calls: an accepted making, then entries, each lent head, records and area as the call before it left them.
-use Rattle.std.specs.Prelude.{ℕ, suc, ◌+◌, ◌≤◌, ◌<◌, Bool, true, false, ◌⊎◌, ◌↔◌, ◌≡◌, eqb}
+use Rattle.std.specs.Prelude.{Err, None, Ok, Option, Result, Some, ℕ, suc, ◌+◌, ◌≤◌, ◌<◌, Bool, true, false, ◌⊎◌, ◌↔◌, ◌≡◌, eqb}
+use Rattle.trees.specs.declared.refusal.Refusal.{Refusal}
 use mathlib.Core.List.{List, [], ◌∷◌, Memᴰ}
 use Rattle.std.proofs.Math.Option.{some, Option, none as nothing}
 use Rattle.theory.specs.Registry.{History}
@@ -8,9 +9,6 @@ use Rattle.records.specs.Answers.{Makes, CleanFile, Enters}
 use Rattle.records.specs.Book.{answers_of, too_many, record_at, body, tally, Chained}
 use Rattle.records.specs.declared.book.Head.{Head}
 use Rattle.records.specs.declared.book.Record.{Record}
-use Rattle.records.specs.declared.book.Entered.{Entered}
-use Rattle.records.specs.declared.book.Entered.TheVariants as entering
-use Rattle.records.specs.declared.book.Made.TheVariants as making
 
 -- head, records and area, as one call leaves them to the next
 pub record Book : Type 0 where
@@ -21,16 +19,16 @@ pub record Book : Type 0 where
 -- b is what an accepted making with the alphabets `stock` leaves, whatever stood there before it
 pub record MadeWith (stock : List ℕ) (b : Book) : Type 0 where
   pub before : Book
-  pub call : Makes stock before.head before.records before.area b.head b.records b.area making.Empty
+  pub call : Makes stock before.head before.records before.area b.head b.records b.area (Ok tt)
 
 -- the number that an entry answers; a refusal has none
-abbrev pub answer_of : Entered → Option ℕ
-answer_of (entering.Number n) = some n
-answer_of (entering.Refused r) = nothing
+abbrev pub answer_of : Result ℕ Refusal → Option ℕ
+answer_of (Ok n) = some n
+answer_of (Err r) = nothing
 
 -- an entry of the file s, lent b, answers a and leaves b'
 pub record EntersFile (b : Book) (s : List ℕ) (a : Option ℕ) (b' : Book) : Type 0 where
-  pub answer : Entered
+  pub answer : Result ℕ Refusal
   pub call : Enters s b.head b.records b.area b'.head b'.records b'.area answer
   pub told : answer_of answer ≡ a
 

@@ -1,13 +1,12 @@
 -- 02, F-6: a question, and a commit with the number that it answered. Lists of entries, commits and questions.
-use Rattle.std.specs.Prelude.{ℕ, ◌↔◌, ◌≡◌}
+use Rattle.std.specs.Prelude.{Err, None, Ok, Option, Result, Some, ℕ, ◌↔◌, ◌≡◌}
+use Rattle.trees.specs.declared.refusal.Refusal.{Refusal}
+use Rattle.records.specs.declared.book.Foretold.{Foretold}
 use mathlib.Core.List.{List, [], ◌∷◌, Memᴰ}
 use Rattle.std.proofs.Math.Option.{some, Option, none as nothing}
 use Rattle.theory.specs.Registry.{History}
 use Rattle.canonical.specs.Answers.{SewAlike}
 use Rattle.records.specs.Answers.{Questions, Commits}
-use Rattle.records.specs.declared.book.Entered.{Entered}
-use Rattle.records.specs.declared.book.Reply.{Reply}
-use Rattle.records.specs.declared.book.Reply.TheVariants as replying
 use Rattle.registry.specs.Calls.{Book, MadeWith, answer_of, EntersFile, Entries}
 
 -- ---- lists of calls
@@ -17,13 +16,13 @@ pub data Call : Type 0 where
   question : List ℕ → Call
 
 -- the number that a question answers; a refusal has none
-abbrev pub foretold : Reply → Option ℕ
+abbrev pub foretold : Result Foretold Refusal → Option ℕ
 foretold (replying.Number n size) = some n
-foretold (replying.Refused r) = nothing
+foretold (Err r) = nothing
 
 -- a commit of the file s with the number `claim`, lent b, answers a and leaves b'
 pub record CommitsFile (b : Book) (s : List ℕ) (claim : ℕ) (a : Option ℕ) (b' : Book) : Type 0 where
-  pub answer : Entered
+  pub answer : Result ℕ Refusal
   pub call : Commits s claim b.head b.records b.area b'.head b'.records b'.area answer
   pub told : answer_of answer ≡ a
 
@@ -31,7 +30,7 @@ pub record CommitsFile (b : Book) (s : List ℕ) (claim : ℕ) (a : Option ℕ) 
 pub record AsksFile (b : Book) (s : List ℕ) (a : Option ℕ) : Type 0 where
   pub before : List ℕ
   pub after : List ℕ
-  pub answer : Reply
+  pub answer : Result Foretold Refusal
   pub call : Questions s b.head b.records b.area before after answer
   pub told : foretold answer ≡ a
 

@@ -5,7 +5,8 @@ ghost use Rattle.records.specs.Inner.Steps.{Placed, Finds};
 ghost use Rattle.records.specs.Inner.Surveys.{Surveyed};
 ghost use Rattle.records.specs.Inner.Writes.{fresh_records, written, added};
 
-use records::book::{Entered, Head, Located, Made, Record, Reply, Submission, Survey};
+use trees::refusal::Refusal;
+use records::book::{Head, Located, Record, Submission, Survey};
 use records::chain::{begin, look};
 use records::entry::{ask, beginning, place, reply};
 use records::making::{fresh, held_body, start};
@@ -75,7 +76,7 @@ pub fn enter(
     area: &mut [u8],
     sheet: &[u8],
     submission: Submission,
-) -> Entered
+) -> Result<usize, Refusal>
     ensures { Registers sheet.now submission head.old records.old area.old head.new records.new area.new result }
 {
     let h = *head;
@@ -97,7 +98,7 @@ pub fn question<'r, 'a, 's, 'o>(
     area: &'a [u8],
     sheet: &'s [u8],
     out: &'o mut [u8],
-) -> Reply
+) -> Result<Foretold, Refusal>
     ensures { Questions sheet.now head records.now area.now out.old out.new result }
 {
     let s = survey(records, head, 0);
@@ -109,7 +110,7 @@ pub fn question<'r, 'a, 's, 'o>(
 }
 
 // Makes a registry with the alphabets `stock`.
-pub fn make(head: &mut Head, records: &mut [Record], area: &mut [u8], stock: &[u8]) -> Made
+pub fn make(head: &mut Head, records: &mut [Record], area: &mut [u8], stock: &[u8]) -> Result<(), Refusal>
     ensures { Makes stock.now head.old records.old area.old head.new records.new area.new result }
 {
     let s = start(*head, records.len(), area, stock);

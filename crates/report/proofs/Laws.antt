@@ -1,5 +1,7 @@
 -- What `report` promises comes to: every text is at most 36,911 bytes long, so that an area that is not refused begins with the whole text.
 -- Assumes nothing.
+use Rattle.std.specs.Prelude.{Err, None, Ok, Option, Result, Some}
+use Rattle.trees.specs.declared.refusal.Refusal.{Refusal}
 use Prim.Native.Nat.{ℕ, ◌≤◌}
 use native.Mathlib.Omega.{arith}
 use mathlib.Core.List.{List, ◌++◌}
@@ -13,8 +15,6 @@ use Rattle.canonical.specs.Answers.{SewAlike}
 use Rattle.comparison.specs.Answers.{pair_check}
 use Rattle.report.specs.Answers.{text_area, Shows, Report, printed, Lines, Reports}
 use Rattle.report.specs.Text.{number_text, refused_word, first_word, second_word, end_of_line, sizes_line, alike_line}
-use Rattle.report.specs.declared.report.Reported.{Reported}
-use Rattle.report.specs.declared.report.Reported.TheVariants as reported
 use Rattle.report.proofs.Decimals.{number_four}
 use Rattle.report.proofs.Reporting.{line_short, differing_bounded}
 
@@ -38,7 +38,7 @@ module _ {stock s s' : List ℕ} where
       go (accepted t) J e = let w = accepted_holds J in omega (arith, ap length e, three_short w.0 w.1)
       go (refused k) J e = omega (arith, ap length e, length-append (refused_word ++ number_text k) end_of_line, length-append refused_word (number_text k), number_four k)
 
-  module _ {area after : List ℕ} {r : Reported} {n : ℕ} (J : Reports stock s s' area after r) (e : r ≡ reported.Bytes n) where
+  module _ {area after : List ℕ} {r : Result ℕ Refusal} {n : ℕ} (J : Reports stock s s' area after r) (e : r ≡ Ok n) where
     -- so an area that is not refused has room for it
     pub text_inside : n ≤ length area
     unfolding Holds

@@ -1,5 +1,8 @@
 -- The lines for two files: what cleaning and comparing them answered, and what was written of it.
 -- Assumes nothing.
+use Rattle.std.specs.Prelude.{Err, None, Ok, Option, Result, Some}
+use Rattle.forms.specs.declared.write.Form.{Form}
+use Rattle.witness.specs.declared.witness.Shown.{Shown}
 use Prim.Native.Nat.{ℕ, ◌+◌, ◌-◌, ◌≤◌, ◌<◌}
 use native.Mathlib.Nat.{sub-zero}
 use native.Mathlib.Omega.{arith}
@@ -18,19 +21,14 @@ use Rattle.trees.specs.declared.refusal.Refusal.{Refusal}
 use Rattle.trees.proofs.Judging.{pass, accept, accepted_holds, refused_fails, refused_early}
 use Rattle.formats.proofs.Laws.{written_take}
 use Rattle.transducer.proofs.Outputs.{code_size}
-use Rattle.forms.specs.declared.write.Formed.{Formed}
-use Rattle.forms.specs.declared.write.Formed.TheVariants as formed
 use Rattle.canonical.specs.Answers.{SewAlike, Cleans}
 use Rattle.witness.specs.Difference.{tree_area, address_area, Difference}
 use Rattle.comparison.specs.Answers.{Differ, pair_check, Compares}
-use Rattle.comparison.specs.declared.compare.Comparison.{Comparison}
-use Rattle.comparison.specs.declared.compare.Comparison.TheVariants as compared
 use Rattle.comparison.proofs.Comparing.{past}
 use Rattle.report.specs.Answers.{text_area, Sizes, Shows, Report, Lines, Reports}
 use Rattle.formats.specs.Inner.Written.{Wrote}
 use Rattle.report.specs.Inner.Writing.{clean_check, WroteNormal, WroteBoth}
 use Rattle.report.specs.Text.{separated, first_word, second_word, refused_line, sizes_line, alike_line, place_text, differ_line}
-use Rattle.report.specs.declared.report.Reported.TheVariants as reported
 use Rattle.discovery.proofs.Ranks.{translate_ranked}
 use Rattle.report.proofs.Bounds.{address_low, tree_long, address_long}
 use Rattle.report.proofs.Decimals.{number_three, number_four}
@@ -54,14 +52,14 @@ module _ {stock s : List ℕ} {k m : ℕ} (S : Sizes stock s k m) where
   normal_written {word} W = record { states = k; marks = m; sizes = S; line = W; short = omega (arith, W.behind, line_short word) }
 
 -- cleaning a file that passes all checks gives it
-module _ {stock s before after : List ℕ} {r : Formed} (J : Cleans stock s before after r) where
+module _ {stock s before after : List ℕ} {r : Result Form Refusal} (J : Cleans stock s before after r) where
   pub normal_sizes : {k m n : ℕ} → r ≡ formed.Form k m n → Sizes stock s k m
   unfolding Holds
   normal_sizes e =
       let w = accepted_holds (rw e at J) in
       record { counts = w.1.0; bytes = w.1.1.0; normal = w.1.1.1.0; two = sym w.1.1.1.1.marks }
 
-  pub normal_there : {x : Refusal} → r ≡ formed.Refused x → longest ≤ length before → Holds (clean_check stock s) → ⊥
+  pub normal_there : {x : Refusal} → r ≡ Err x → longest ≤ length before → Holds (clean_check stock s) → ⊥
   unfolding Holds
   normal_there e h w = (refused_fails (rw e at J)).0 (h, w)
 
@@ -80,11 +78,11 @@ both_written A B = record { states = A.states; marks = A.marks; first = A.sizes;
 -- ---- the answer
 module _ {stock s s' area : List ℕ} (room : text_area ≤ length area) where
   -- the area begins with the text
-  printed_text : {text after : List ℕ} {n : ℕ} → Lines stock s s' text → Wrote area after 0 n text → Reports stock s s' area after (reported.Bytes n)
+  printed_text : {text after : List ℕ} {n : ℕ} → Lines stock s s' text → Wrote area after 0 n text → Reports stock s s' area after (Ok n)
   printed_text {text} L W = pass room (accept (record { text = text; lines = L; size = omega (arith, W.behind); wrote = W.wrote }))
 
   -- three lines, where all checks hold
-  three_lines : {line u after : List ℕ} {m n : ℕ} → Holds (pair_check stock s s') → (SewAlike stock s s' × (line ≡ alike_line)) ⊎ Shows stock s s' line → WroteBoth stock s s' area u m → Wrote u after m n line → Reports stock s s' area after (reported.Bytes n)
+  three_lines : {line u after : List ℕ} {m n : ℕ} → Holds (pair_check stock s s') → (SewAlike stock s s' × (line ≡ alike_line)) ⊎ Shows stock s s' line → WroteBoth stock s s' area u m → Wrote u after m n line → Reports stock s s' area after (Ok n)
   unfolding Holds
   three_lines {line} H verdict B W =
       let text = sizes_line first_word B.states B.marks ++ sizes_line second_word B.states' B.marks' ++ line in
@@ -123,13 +121,13 @@ module _ (stock s s' : List ℕ) (H : Holds (pair_check stock s s')) {d : Tree} 
       }
 
 -- ---- what the comparison answered
-module _ {stock s s' tree tree' address address' : List ℕ} {r : Comparison} (J : Compares stock s s' tree tree' address address' r) where
+module _ {stock s s' tree tree' address address' : List ℕ} {r : Result (Option Shown) Refusal} (J : Compares stock s s' tree tree' address address' r) where
   module _ (e : r ≡ compared.Alike) where
     pub alike_holds : Holds (pair_check stock s s')
     unfolding Holds
     alike_holds = (accepted_holds (rw e at J)).0.1
 
-    pub alike_reported : {area u after : List ℕ} {m n : ℕ} → text_area ≤ length area → WroteBoth stock s s' area u m → Wrote u after m n alike_line → Reports stock s s' area after (reported.Bytes n)
+    pub alike_reported : {area u after : List ℕ} {m n : ℕ} → text_area ≤ length area → WroteBoth stock s s' area u m → Wrote u after m n alike_line → Reports stock s s' area after (Ok n)
     alike_reported room B W = three_lines room alike_holds (inl ((accepted_holds (rw e at J)).1.0, refl)) B W
 
   module _ {nodes numbers b b' : ℕ} (e : r ≡ compared.Differ nodes numbers b b') where
@@ -163,8 +161,8 @@ module _ {stock s s' tree tree' address address' : List ℕ} {r : Comparison} (J
       pub differ_short : length (separated 44 (take (nodes - 0) tree')) + length (place_text (take (numbers - 0) address')) + 18 ≤ 36880
       differ_short = omega (arith, ap length line_is, differ_bounded.line, differ_long (take (nodes - 0) tree') (take (numbers - 0) address') b b')
 
-      pub differ_reported : {area u after : List ℕ} {m n : ℕ} → text_area ≤ length area → WroteBoth stock s s' area u m → Wrote u after m n (differ_line (take (nodes - 0) tree') (take (numbers - 0) address') b b') → Reports stock s s' area after (reported.Bytes n)
+      pub differ_reported : {area u after : List ℕ} {m n : ℕ} → text_area ≤ length area → WroteBoth stock s s' area u m → Wrote u after m n (differ_line (take (nodes - 0) tree') (take (numbers - 0) address') b b') → Reports stock s s' area after (Ok n)
       differ_reported room B W = three_lines room differ_holds (inr (record { tree = answer.shown; place = answer.place; left = b; right = b'; differ = answer.differ; says = line_is })) B W
 
-  pub refusal_reported : {x : Refusal} {area after : List ℕ} {n : ℕ} → r ≡ compared.Refused x → tree_area ≤ length tree → address_area ≤ length address → text_area ≤ length area → Wrote area after 0 n (refused_line (refusal_number x)) → Reports stock s s' area after (reported.Bytes n)
+  pub refusal_reported : {x : Refusal} {area after : List ℕ} {n : ℕ} → r ≡ Err x → tree_area ≤ length tree → address_area ≤ length address → text_area ≤ length area → Wrote area after 0 n (refused_line (refusal_number x)) → Reports stock s s' area after (Ok n)
   refusal_reported {x} e h h' room W = printed_text room (record { outcome = refused (refusal_number x); judged = refused_early (pair_check stock s s') done tt (past (h, h') (rw e at J)); says = refl }) W

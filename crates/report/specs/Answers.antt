@@ -1,18 +1,17 @@
 -- What the function that writes the lines of the program `sheets` promises.
-use Rattle.std.specs.Prelude.{ℕ, ◌*◌, ◌≤◌, List, ◌++◌, ◌⊎◌, ◌≡◌, length}
+use Rattle.std.specs.Prelude.{Err, None, Ok, Option, Result, Some, ℕ, ◌*◌, ◌≤◌, List, ◌++◌, ◌⊎◌, ◌≡◌, length}
+use Rattle.trees.specs.declared.refusal.Refusal.{Refusal}
+use Rattle.trees.specs.Refusal.{outcome_of, Outcome, accepted, refused, refusal_number, Judged, check, done}
 use Rattle.std.proofs.lemmas.List.Edits.{sets}
 use Rattle.theory.specs.Term.{Tree}
 use Rattle.theory.specs.Transducer.{Transducer}
 use Rattle.trees.specs.Alphabets.{inputs, outputs}
 use Rattle.trees.specs.Code.{code}
-use Rattle.trees.specs.Refusal.{Outcome, accepted, refused, refusal_number, Judged, check, done}
 use Rattle.formats.specs.Sheet.{Sheet}
 use Rattle.canonical.specs.Answers.{SewAlike, NormalFile}
 use Rattle.witness.specs.Difference.{Difference}
 use Rattle.comparison.specs.Answers.{pair_check}
 use Rattle.report.specs.Text.{refused_line, sizes_line, alike_line, differ_line, first_word, second_word}
-use Rattle.report.specs.declared.report.Reported.{Reported}
-use Rattle.report.specs.declared.report.Reported.TheVariants as reported
 
 -- The area of the text: 15 and 16 bytes for the first two lines; for the third 7, 1,536 input symbols of two digits with commas, 4, 16,128 digits with dots, and 7.
 abbrev pub text_area : ℕ
@@ -58,10 +57,6 @@ pub record Lines (stock s s' text : List ℕ) : Type 0 where
   pub says : text ≡ printed outcome
 
 -- how many bytes were written, or the refusal of the area
-abbrev pub reported_as : Reported → Outcome ℕ
-reported_as (reported.Bytes n) = accepted n
-reported_as (reported.Refused r) = refused (refusal_number r)
-
 -- the area begins with the text, and keeps what stands behind it
 pub record Prints (stock s s' area area' : List ℕ) (n : ℕ) : Type 0 where
   pub text : List ℕ
@@ -69,5 +64,5 @@ pub record Prints (stock s s' area area' : List ℕ) (n : ℕ) : Type 0 where
   pub size : n ≡ length text
   pub wrote : area' ≡ sets area 0 text
 
-abbrev pub Reports : List ℕ → List ℕ → List ℕ → List ℕ → List ℕ → Reported → Type 0
-Reports stock s s' area area' r = Judged (area' ≡ area) (Prints stock s s' area area') (check 1 (text_area ≤ length area) done) (reported_as r)
+abbrev pub Reports : List ℕ → List ℕ → List ℕ → List ℕ → List ℕ → Result ℕ Refusal → Type 0
+Reports stock s s' area area' r = Judged (area' ≡ area) (Prints stock s s' area area') (check 1 (text_area ≤ length area) done) (outcome_of r)

@@ -7,16 +7,9 @@ ghost use Rattle.report.specs.Inner.Writing.{clean_check, WroteNormal, WroteBoth
 
 use crate::text::{write_alike, write_differ, write_refused, write_sizes};
 use canonical::normal::clean;
-use comparison::compare::{Comparison, compare};
-use forms::write::Formed;
+use comparison::compare::compare;
+use forms::write::Form;
 use trees::refusal::Refusal;
-
-// How many bytes of text were written, or the refusal of the area.
-#[derive(Drop)]
-pub enum Reported {
-    Bytes(usize),
-    Refused(Refusal),
-}
 
 // Writes the line of the normal form of the transducer of the file `sheet`, behind a word.
 fn write_normal(stock: &[u8], sheet: &[u8], text: &mut [u8], at: usize, word: &[u8]) -> usize
@@ -26,7 +19,7 @@ fn write_normal(stock: &[u8], sheet: &[u8], text: &mut [u8], at: usize, word: &[
     let mut normal = [0u8; 20483];
     match clean(stock, sheet, &mut normal) {
         Formed::Form(states, marks, _) => write_sizes(text, at, word, states, marks),
-        Formed::Refused(_) => at,
+        Err(_) => at,
     }
 }
 
@@ -40,22 +33,22 @@ fn write_both(stock: &[u8], first: &[u8], second: &[u8], text: &mut [u8]) -> usi
 }
 
 // Writes the lines for two files to the start of the area: the states and marks of each normal form, and whether the two transducers are equivalent; or that one was refused.
-pub fn report(stock: &[u8], first: &[u8], second: &[u8], area: &mut [u8]) -> Reported
+pub fn report(stock: &[u8], first: &[u8], second: &[u8], area: &mut [u8]) -> Result<usize, Refusal>
     ensures { Reports stock.now first.now second.now area.old area.new result }
 {
     if area.len() < 36911 {
-        return Reported::Refused(Refusal::ShortArea);
+        return Err(Refusal::ShortArea);
     }
     let mut tree = [0u8; 1536];
     let mut address = [0u8; 16128];
     match compare(stock, first, second, &mut tree, &mut address) {
         Comparison::Alike => {
             let at = write_both(stock, first, second, area);
-            Reported::Bytes(write_alike(area, at))
+            Ok(write_alike(area, at))
         }
         Comparison::Differ(nodes, numbers, left, right) => {
             let at = write_both(stock, first, second, area);
-            Reported::Bytes(write_differ(
+            Ok(write_differ(
                 area,
                 at,
                 &tree[0..nodes],
@@ -64,6 +57,6 @@ pub fn report(stock: &[u8], first: &[u8], second: &[u8], area: &mut [u8]) -> Rep
                 right,
             ))
         }
-        Comparison::Refused(r) => Reported::Bytes(write_refused(area, r)),
+        Err(r) => Ok(write_refused(area, r)),
     }
 }

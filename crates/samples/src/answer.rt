@@ -1,5 +1,5 @@
 // What is printed: the parts of an answer.
-use forms::write::Formed;
+use forms::write::Form;
 use std::io;
 use trees::bytes::wide;
 use trees::refusal::{Refusal, number_of};
@@ -47,7 +47,7 @@ pub(crate) fn refused(rt: &impl Print, r: Refusal) -> io::Result<()> {
 }
 
 // How many states and marks a form has, and how long its file is.
-pub(crate) fn form(rt: &impl Print, name: &[u8], a: Formed) -> io::Result<()> {
+pub(crate) fn form(rt: &impl Print, name: &[u8], a: Result<Form, Refusal>) -> io::Result<()> {
     text(rt, name)?;
     match a {
         Formed::Form(states, marks, bytes) => {
@@ -55,7 +55,7 @@ pub(crate) fn form(rt: &impl Print, name: &[u8], a: Formed) -> io::Result<()> {
             number(rt, b", marks ", marks)?;
             number(rt, b", bytes ", bytes)
         }
-        Formed::Refused(r) => refusal(rt, r),
+        Err(r) => refusal(rt, r),
     }
 }
 

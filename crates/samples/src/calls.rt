@@ -1,19 +1,20 @@
 // The calls, each with its answer.
+use trees::refusal::Refusal;
 use crate::answer;
 use canonical::normal::clean;
-use comparison::compare::{Comparison, compare};
+use comparison::compare::compare;
 use comparison::shorter::shorter;
 use earliest::earliest::earliest_form;
-use formats::file::{FileRead, FileWritten, read_transducer, write_transducer};
+use formats::file::{read_transducer, write_transducer};
 use join::join::join;
-use queries::address::{Found, symbol_at};
-use queries::linear::{LinearTest, is_linear};
+use queries::address::symbol_at;
+use queries::linear::is_linear;
 use std::io;
-use transducer::translate::{Translation, translate};
+use transducer::translate::translate;
 use trees::alphabet::{AlphabetsRead, read_alphabets};
 use trees::tree::{TreeRead, read_tree};
 use xml::read::read_xml;
-use xml::write::{Converted, write_xml};
+use xml::write::write_xml;
 
 pub(crate) fn stock(rt: &impl Print, stock: &[u8]) -> io::Result<()> {
     match read_alphabets(stock) {
@@ -31,8 +32,8 @@ pub(crate) fn design(rt: &impl Print, stock: &[u8], design: &[u8]) -> io::Result
 
 pub(crate) fn sheet(rt: &impl Print, stock: &[u8], sheet: &[u8]) -> io::Result<()> {
     match read_transducer(stock, sheet) {
-        FileRead::States(n) => answer::one(rt, b"passes ", n),
-        FileRead::Refused(r) => answer::refused(rt, r),
+        Ok(n) => answer::one(rt, b"passes ", n),
+        Err(r) => answer::refused(rt, r),
     }
 }
 
@@ -46,7 +47,7 @@ pub(crate) fn place(
     match symbol_at(stock, sheet, design, place) {
         Found::Symbol(b) => answer::one(rt, b"block ", b),
         Found::Nowhere => answer::text(rt, b"no such place\n"),
-        Found::Refused(r) => answer::refused(rt, r),
+        Err(r) => answer::refused(rt, r),
     }
 }
 
@@ -54,7 +55,7 @@ pub(crate) fn single(rt: &impl Print, stock: &[u8], sheet: &[u8]) -> io::Result<
     match is_linear(stock, sheet) {
         LinearTest::Linear => answer::text(rt, b"yes\n"),
         LinearTest::NotLinear => answer::text(rt, b"no\n"),
-        LinearTest::Refused(r) => answer::refused(rt, r),
+        Err(r) => answer::refused(rt, r),
     }
 }
 
@@ -68,8 +69,8 @@ pub(crate) fn writing(
     shown: usize,
 ) -> io::Result<()> {
     match write_transducer(stock, n, counts, marks, area) {
-        FileWritten::Bytes(size) => answer::one(rt, b"bytes ", size)?,
-        FileWritten::Refused(r) => answer::refused(rt, r)?,
+        Ok(size) => answer::one(rt, b"bytes ", size)?,
+        Err(r) => answer::refused(rt, r)?,
     }
     answer::area_starts(rt, area, shown)
 }
@@ -82,8 +83,8 @@ pub(crate) fn sewing(
     area: &mut [u8],
 ) -> io::Result<()> {
     match translate(stock, sheet, design, area) {
-        Translation::Symbols(n) => answer::one(rt, b"blocks ", n)?,
-        Translation::Refused(r) => answer::refused(rt, r)?,
+        Ok(n) => answer::one(rt, b"blocks ", n)?,
+        Err(r) => answer::refused(rt, r)?,
     }
     answer::area(rt, area)
 }
@@ -113,7 +114,7 @@ fn verdict(
     second: &[u8],
     tree: &mut [u8],
     address: &mut [u8],
-) -> Comparison {
+) -> Result<Option<Shown>, Refusal> {
     compare(stock, first, second, tree, address)
 }
 
@@ -139,7 +140,7 @@ pub(crate) fn pair<'a>(
         Comparison::Differ(nodes, numbers, left, right) => {
             answer::difference(rt, left, right, tree, nodes, address, numbers)
         }
-        Comparison::Refused(r) => answer::refused(rt, r),
+        Err(r) => answer::refused(rt, r),
     }
 }
 
@@ -167,8 +168,8 @@ pub(crate) fn xml(
     shown: usize,
 ) -> io::Result<()> {
     match write_xml(stock, plan, area) {
-        Converted::Length(n) => answer::one(rt, b"bytes ", n)?,
-        Converted::Refused(r) => answer::refused(rt, r)?,
+        Ok(n) => answer::one(rt, b"bytes ", n)?,
+        Err(r) => answer::refused(rt, r)?,
     }
     answer::area_starts(rt, area, shown)
 }
@@ -182,8 +183,8 @@ pub(crate) fn plan(
     shown: usize,
 ) -> io::Result<()> {
     match read_xml(stock, text, area) {
-        Converted::Length(n) => answer::one(rt, b"blocks ", n)?,
-        Converted::Refused(r) => answer::refused(rt, r)?,
+        Ok(n) => answer::one(rt, b"blocks ", n)?,
+        Err(r) => answer::refused(rt, r)?,
     }
     answer::area_starts(rt, area, shown)
 }

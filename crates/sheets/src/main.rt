@@ -3,7 +3,7 @@
 
 ghost use Rattle.std.specs.Counts.{IsPrefixLen};
 
-use report::report::{Reported, report};
+use report::report::report;
 use std::fs::File;
 use std::io;
 use std::io::Read;
@@ -45,7 +45,7 @@ fn main(rt: HostRuntime) -> io::Result<()> {
     let c = read_file(&rt, "second", &mut second);
     let mut area = [0u8; 36911];
     match report(&stock[..a], &first[..b], &second[..c], &mut area) {
-        Reported::Bytes(n) => rt.write_all(&area[..n]),
-        Reported::Refused(_) => Ok(()),
+        Ok(n) => rt.write_all(&area[..n]),
+        Err(_) => Ok(()),
     }
 }

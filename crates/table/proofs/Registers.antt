@@ -1,5 +1,6 @@
 -- T, T' and U in registries of 60 and of 55 bytes: the clean files of T and T' are T, that of U is another, which has room in the first alone.
 -- Assumes nothing.
+use Rattle.std.specs.Prelude.{Err, None, Ok, Option, Result, Some}
 use Prim.Native.Nat.{ℕ, zero, suc, ◌+◌, ◌≤◌, ◌<◌}
 use native.Mathlib.Omega.{arith}
 use mathlib.Core.Bool.{false}
@@ -20,7 +21,6 @@ use Rattle.canonical.proofs.SampleTrimmed.{T'-trims, U-trims}
 use Rattle.canonical.proofs.Samples.{T-cleans, T'-cleans, U-cleans}
 use Rattle.records.specs.Answers.{Lowest, NotHeld, Room}
 use Rattle.records.specs.Book.{answers_of, too_many, Chained}
-use Rattle.records.specs.declared.book.Entered.TheVariants.{Number, Refused}
 use Rattle.registry.specs.Calls.{Book, MadeWith, EntersFile, acceptances, accepted_with, Entries}
 use Rattle.registry.specs.Questions.{entry, commit, question}
 use Rattle.registry.proofs.Keeping.{body_of, added_there, known_stays}
@@ -77,8 +77,8 @@ count_2_1 (suc (suc zero)) = refl
 count_2_1 (suc (suc (suc n))) = rw (not_2 n, not_1 (suc n))
 
 -- an accepted entry, as one of a list
-file_in_lem : (b b' : Book) {s : List ℕ} {n : ℕ} → Entry b s (Number n) b' → EntersFile b s (some n) b'
-file_in_lem b b' {n = n} J = record { answer = Number n; call = J; told = refl }
+file_in_lem : (b b' : Book) {s : List ℕ} {n : ℕ} → Entry b s (Ok n) b' → EntersFile b s (some n) b'
+file_in_lem b b' {n = n} J = record { answer = Ok n; call = J; told = refl }
 
 -- what a list of entries leaves
 leaves : {log : List (List ℕ × Option ℕ)} {b : Book} {used answered : ℕ} (counts : List ℕ) → Entries S log b → b.head.used ≡ used → acceptances log ≡ answered → ((n : ℕ) → accepted_with n log ≡ get_or counts n 0) → Leaves used answered counts b
@@ -101,7 +101,7 @@ module _ {k : ℕ} {log : List (List ℕ × Option ℕ)} {b : Book} (H : HoldsT 
   lowest : Lowest b.head.held b.records b.area T 1
   lowest = record { low = omega arith; high = omega (arith, H.held); there = H.there; first = λ m l g. absurd (omega arith) }
 
-  T'-in : (b' : Book) × Entry b T' (Number 1) b'
+  T'-in : (b' : Book) × Entry b T' (Ok 1) b'
   T'-in = enters_known chained (stock_stays H.entries) T'-to-T lowest
 
   -- the clean U is not,
@@ -112,13 +112,13 @@ module _ {k : ℕ} {log : List (List ℕ × Option ℕ)} {b : Book} (H : HoldsT 
   room-U : 56 ≤ k → Room b.head b.area U-clean
   room-U h = record { few = omega (arith, H.held); fits = omega (arith, H.used, H.room) }
 
-  U-in : 56 ≤ k → (b' : Book) × Entry b U (Number 2) b'
+  U-in : 56 ≤ k → (b' : Book) × Entry b U (Ok 2) b'
   U-in h = enters_new chained (stock_stays H.entries) U-to-U_clean (omega (arith, H.held)) new (room-U h)
 
   U-used : {b' : Book} → 56 ≤ k → EntersFile b U (some 2) b' → b'.head.used ≡ 56
   U-used h E = let A = (entered_new chained (stock_stays H.entries) U-to-U_clean E new (room-U h)).1 in ap (λ w. w.used) A.head ∙ ap (λ i. i + 29) H.used
 
-  U-out : k < 56 → Entry b U (Refused FullRegistry) b
+  U-out : k < 56 → Entry b U (Err FullRegistry) b
   U-out h = enters_full chained (stock_stays H.entries) U-to-U_clean new (λ R. omega (arith, R.fits, H.used, H.room))
 
 -- it holds T after T' is entered
@@ -147,7 +147,7 @@ module _ {k : ℕ} (wide : 27 ≤ k) {b : Book} (M : MadeWith S b) (room : lengt
   room-T : Room b.head b.area T
   room-T = record { few = omega (arith, ap (λ w. w.held) (made_head M)); fits = omega (arith, ap (λ w. w.used) (made_head M)) }
 
-  T-in : (b' : Book) × Entry b T (Number 1) b'
+  T-in : (b' : Book) × Entry b T (Ok 1) b'
   T-in = enters_new chained_made (stock_stays (begun M)) T-to-T (omega (arith, ap (λ w. w.held) (made_head M))) new-T room-T
 
   -- it holds T after T is entered

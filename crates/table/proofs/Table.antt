@@ -1,5 +1,6 @@
 -- Every row of the table is so.
 -- Assumes nothing.
+use Rattle.trees.specs.Refusal.{outcome_of, accepted, refused, done, Holds}
 use Prim.Native.Nat.{ℕ, ◌*◌, ◌≤◌}
 use native.Mathlib.Omega.{arith}
 use mathlib.Core.List.{List, Memᴰ, [], ◌∷◌}
@@ -9,12 +10,11 @@ use Rattle.theory.specs.Size.{size, levels}
 use Rattle.theory.specs.Term.{Tree}
 use Rattle.trees.specs.Alphabets.{Alphabets, alphabet_check}
 use Rattle.trees.specs.Code.{code}
-use Rattle.trees.specs.Refusal.{accepted, refused, done, Holds}
 use Rattle.formats.specs.Samples.{S, T, T', U, pairs, M, M-pref}
 use Rattle.formats.specs.Sheet.{file, sheet_check}
 use Rattle.formats.proofs.Sheets.{sheet_counted}
 use Rattle.trees.specs.Tree.{tree_check}
-use Rattle.transducer.specs.Answers.{translated, room_check, levels_check}
+use Rattle.transducer.specs.Answers.{room_check, levels_check}
 use Rattle.transducer.specs.Output.{Output}
 use Rattle.transducer.proofs.Laws.{must_translate}
 use Rattle.transducer.proofs.Samples.{S-alphabets, T-machine, T-sheet, leaf_design, chain_design, T-output, on_leaf, on_chain, room_chain, few_levels_chain}
@@ -44,7 +44,7 @@ module _ {stock sheet : List ℕ} where
   has_room : {design : List ℕ} {t : Tree} {k : ℕ} → Alphabets stock → Output stock sheet design t → size t ≤ k → levels t ≤ 256 → Says (fits stock sheet design k)
   has_room {t = t} A O h l = record {
     checks = λ area e. room_holds A O area (omega (arith, e, h)) l;
-    answer = λ before after r e J. (size t, ap translated (must_translate A O before after r (omega (arith, e, h)) l J).0);
+    answer = λ before after r e J. (size t, ap outcome_of (must_translate A O before after r (omega (arith, e, h)) l J).0);
   }
 
   -- a transducer whose earliest form is within the limits is accepted for cleaning

@@ -1,27 +1,26 @@
 -- The starred samples of document 01 as rows of one table: what a row may say, what that comes to by the definitions that the promises are made of, and the rows.
-use Rattle.std.specs.Prelude.{ℕ, ◌*◌, ◌≤◌, ◌<◌, List, [], ◌∷◌, ◌≡◌, length, get_or}
+use Rattle.std.specs.Prelude.{Option, Result, ℕ, ◌*◌, ◌≤◌, ◌<◌, List, [], ◌∷◌, ◌≡◌, length, get_or}
+use Rattle.trees.specs.declared.refusal.Refusal.{Refusal}
+use Rattle.records.specs.declared.book.Foretold.{Foretold}
+use Rattle.trees.specs.Refusal.{outcome_of, Outcome, accepted, refused, done, Holds}
 use Rattle.theory.specs.Pref.{IsPref}
 use Rattle.theory.specs.Prefix.{Pattern}
 use Rattle.theory.specs.Term.{Tree}
 use Rattle.theory.specs.Transducer.{Transducer}
 use Rattle.trees.specs.Alphabets.{Alphabets, Leaf, inputs, outputs, alphabet_check}
 use Rattle.trees.specs.Code.{code}
-use Rattle.trees.specs.Refusal.{Outcome, accepted, refused, done, Holds}
 use Rattle.formats.specs.Samples.{S, T, T', U, U-clean, leaf_file, pairs, M, M-pref, M-clean}
 use Rattle.formats.specs.Sheet.{longest, Sheet, file, sheet_check}
 use Rattle.trees.specs.Tree.{tree_check}
-use Rattle.transducer.specs.Answers.{translated, room_check, levels_check, Translates}
-use Rattle.transducer.specs.declared.translate.Translation.{Translation}
+use Rattle.transducer.specs.Answers.{room_check, levels_check, Translates}
 use Rattle.queries.specs.Linear.{LinearFile}
 use Rattle.transducer.specs.Output.{Output}
 use Rattle.forms.specs.Alphabet.{alphabet}
 use Rattle.earliest.specs.Answers.{EarliestFile, form_check}
 use Rattle.canonical.specs.Answers.{NormalFile}
 use Rattle.witness.specs.Difference.{Difference}
-use Rattle.records.specs.Answers.{number_of, Enters, reply_of, Questions, Commits}
+use Rattle.records.specs.Answers.{Enters, Questions, Commits}
 use Rattle.records.specs.Book.{answers_of, record_at}
-use Rattle.records.specs.declared.book.Entered.{Entered}
-use Rattle.records.specs.declared.book.Reply.{Reply}
 use Rattle.registry.specs.Calls.{Book, MadeWith}
 use Rattle.registry.specs.Questions.{Call, entry, commit, question}
 
@@ -69,15 +68,15 @@ number_in (refused k) = refused k
 pub record Looks (b : Book) (s : List ℕ) (o : Outcome ℕ) : Type 0 where
   pub before : List ℕ
   pub after : List ℕ
-  pub answer : Reply
+  pub answer : Result Foretold Refusal
   pub long : longest ≤ length before
   pub call : Questions s b.head b.records b.area before after answer
-  pub told : number_in (reply_of answer) ≡ o
+  pub told : number_in (outcome_of answer) ≡ o
 
 -- a call, lent b, is answered so and leaves b'
 abbrev pub Runs : Book → Call → Outcome ℕ → Book → Type 0
-Runs b (entry s) o b' = (r : Entered) × (Enters s b.head b.records b.area b'.head b'.records b'.area r × (number_of r ≡ o))
-Runs b (commit s m) o b' = (r : Entered) × (Commits s m b.head b.records b.area b'.head b'.records b'.area r × (number_of r ≡ o))
+Runs b (entry s) o b' = (r : Result ℕ Refusal) × (Enters s b.head b.records b.area b'.head b'.records b'.area r × (outcome_of r ≡ o))
+Runs b (commit s m) o b' = (r : Result ℕ Refusal) × (Commits s m b.head b.records b.area b'.head b'.records b'.area r × (outcome_of r ≡ o))
 Runs b (question s) o b' = Looks b s o × (b' ≡ b)
 
 -- from b on there are these calls, the first first, each lent what the call before it left, and every one is answered so; of what they leave End holds
@@ -99,7 +98,7 @@ pub record Registers (stock : List ℕ) (room : ℕ) (End : Book → Type 0) (ca
 -- whatever area of k bytes is lent, a translation that keeps its promise is accepted
 pub record Fits (stock sheet design : List ℕ) (k : ℕ) : Type 0 where
   pub checks : (area : List ℕ) → length area ≡ k → Holds (alphabet_check stock (sheet_check stock sheet (tree_check stock design (room_check stock sheet design area (levels_check stock sheet design done)))))
-  pub answer : (before after : List ℕ) (r : Translation) → length before ≡ k → Translates stock sheet design before after r → (n : ℕ) × (translated r ≡ accepted n)
+  pub answer : (before after : List ℕ) (r : Result ℕ Refusal) → length before ≡ k → Translates stock sheet design before after r → (n : ℕ) × (outcome_of r ≡ accepted n)
 
 -- the file of the normal form of the transducer of the sheet, which is accepted for cleaning
 pub record Clean (stock sheet : List ℕ) (k : ℕ) (counts bytes : List ℕ) : Type 0 where

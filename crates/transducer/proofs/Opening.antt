@@ -1,5 +1,6 @@
 -- A transducer's file that was accepted, with the parts that were handed out.
 -- Assumes nothing.
+use Rattle.std.specs.Prelude.{Err, None, Ok, Option, Result, Some}
 use Prim.Native.Nat.{ℕ, ◌+◌, ◌-◌, ◌*◌, ◌≤◌, ◌<◌}
 use native.Mathlib.Omega.{arith}
 use mathlib.Core.List.{List}
@@ -11,8 +12,6 @@ use Rattle.formats.specs.Answers.{ReadsFile, HandsCounts, HandsMarks}
 use Rattle.formats.specs.Inner.Layout.{offset, body_count, Right}
 use Rattle.trees.specs.Refusal.{refusal_number, refused, Checks, done, Holds, Judged}
 use Rattle.formats.specs.Sheet.{file, Sheet, Encodes, sheet_check}
-use Rattle.formats.specs.declared.file.FileRead.{FileRead}
-use Rattle.formats.specs.declared.file.FileRead.TheVariants.{States, Refused}
 use Rattle.trees.specs.declared.refusal.Refusal.{Refusal}
 use Rattle.formats.proofs.Counts.{few_bodies}
 use Rattle.trees.proofs.Judging.{accepted_holds, refused_early}
@@ -30,7 +29,7 @@ pub record Opened (stock s : List ℕ) (n : ℕ) (ins counts bytes : List ℕ) :
   pub coded : file n counts bytes ≡ s
   pub encodes : Encodes ins (outputs stock) n counts bytes machine
 
-pub opened : {stock s : List ℕ} {n : ℕ} {ins counts bytes : List ℕ} {r : FileRead} → ReadsFile stock s r → r ≡ States n → HandsCounts stock s counts → HandsMarks stock s bytes → ins ≡ inputs stock → Opened stock s n ins counts bytes
+pub opened : {stock s : List ℕ} {n : ℕ} {ins counts bytes : List ℕ} {r : Result ℕ Refusal} → ReadsFile stock s r → r ≡ Ok n → HandsCounts stock s counts → HandsMarks stock s bytes → ins ≡ inputs stock → Opened stock s n ins counts bytes
 unfolding Holds
 opened {stock} {s} {n} {counts = counts} {bytes} J e C B i =
     let w = accepted_holds (rw e at J) in
@@ -41,7 +40,7 @@ opened {stock} {s} {n} {counts = counts} {bytes} J e C B i =
     record { holds = w.0; alphabets = A; ins_are = i; machine = w.1.0; coded = ap₂ (file n) c b ∙ S.coded; encodes = rw (i, c, b) S.encodes }
 
 -- the same with the parts lent from the file, whose counts end at `from`
-pub opened_at : (stock s : List ℕ) (n : ℕ) {r : FileRead} → ReadsFile stock s r → r ≡ States n → (from : ℕ) → from ≡ 1 + 2 * body_count (inputs stock) n → {ins : List ℕ} → ins ≡ inputs stock → Opened stock s n ins (take (from - 1) (drop 1 s)) (take (length s - from) (drop from s))
+pub opened_at : (stock s : List ℕ) (n : ℕ) {r : Result ℕ Refusal} → ReadsFile stock s r → r ≡ Ok n → (from : ℕ) → from ≡ 1 + 2 * body_count (inputs stock) n → {ins : List ℕ} → ins ≡ inputs stock → Opened stock s n ins (take (from - 1) (drop 1 s)) (take (length s - from) (drop from s))
 opened_at stock s n J e from f i = opened J e (counts_handed stock s n J e from f) (marks_handed stock s n J e from f) i
 
 module _ {stock s : List ℕ} {n : ℕ} {ins counts bytes : List ℕ} (O : Opened stock s n ins counts bytes) where
@@ -64,5 +63,5 @@ module _ {stock s : List ℕ} {n : ℕ} {ins counts bytes : List ℕ} (O : Opene
   starts_fit = let R = opened_right in (omega (arith, R.long), few_bodies R, omega (arith, R.sums.few))
 
 -- a file that was refused: so is all that is asked of it, whatever would have been asked behind
-pub not_opened : {B Kept : Type 0} {Good : B → Type 0} (stock s : List ℕ) (rest : Checks) {x : Refusal} {r : FileRead} → Kept → ReadsFile stock s r → r ≡ Refused x → Judged {A = B} Kept Good (alphabet_check stock (sheet_check stock s rest)) (refused (refusal_number x))
+pub not_opened : {B Kept : Type 0} {Good : B → Type 0} (stock s : List ℕ) (rest : Checks) {x : Refusal} {r : Result ℕ Refusal} → Kept → ReadsFile stock s r → r ≡ Err x → Judged {A = B} Kept Good (alphabet_check stock (sheet_check stock s rest)) (refused (refusal_number x))
 not_opened stock s rest kept J e = refused_early (alphabet_check stock (sheet_check stock s done)) rest kept (rw e at J)

@@ -1,5 +1,8 @@
 -- From the parts of a file to what the translation asks, and to what it answers.
 -- Assumes nothing.
+use Rattle.std.specs.Prelude.{Err, None, Ok, Option, Result, Some}
+use Rattle.trees.specs.declared.refusal.Refusal.{Refusal}
+use Rattle.trees.specs.Refusal.{outcome_of, done as no_more, check, IsJudged, Judged, Holds}
 use Prim.Native.Nat.{ℕ, suc, ◌+◌, ◌-◌, ◌*◌, ◌/◌, ◌%◌, ◌≤◌, ◌<◌}
 use native.Mathlib.Nat.{zero-add}
 use native.Mathlib.Omega.{arith}
@@ -17,7 +20,6 @@ use Rattle.trees.specs.Inner.Symbols.{trees, tree, IsTree}
 use Rattle.formats.specs.Inner.Layout.{pairs, mark_at, mark_of, offset, body, body_number, body_count, transducer, Right, Starts, Wholes}
 use Rattle.trees.specs.Inner.Decode.{Whole}
 use Rattle.trees.specs.Inner.Measured.{WholeTree, MeasuredAll}
-use Rattle.trees.specs.Refusal.{done as no_more, check, IsJudged, Judged, Holds}
 use Rattle.trees.specs.Tree.{InputTree, tree_check}
 use Rattle.trees.specs.declared.refusal.Refusal.TheVariants.{BadTree, LongOutput, DeepOutput}
 use Rattle.trees.specs.declared.tree.Extent.{Extent}
@@ -29,13 +31,11 @@ use Rattle.formats.proofs.Offsets.{offset_most, offset_next}
 use Rattle.formats.proofs.Pairs.{pairs_length, pairs_at, getD_slice}
 use Rattle.formats.proofs.Sheets.{counted_right, encodes_counted, encodes_wholes, wholes_encodes}
 use Rattle.trees.proofs.Trees.{whole_input, measured_none}
-use Rattle.transducer.specs.Answers.{translated, room_check, levels_check, Translates}
+use Rattle.transducer.specs.Answers.{room_check, levels_check, Translates}
 use Rattle.transducer.specs.Output.{Output}
 use Rattle.transducer.specs.Inner.Machine.{Machine, OutputBy, TranslatesBy}
 use Rattle.transducer.specs.Inner.Written.{walked, walked_levels, hop, Callable, Input, Walkable, Depths, Emitted}
 use Rattle.transducer.specs.Inner.Depth.{Known, BodiesIn, DepthsAt}
-use Rattle.transducer.specs.declared.translate.Translation.{Translation}
-use Rattle.transducer.specs.declared.translate.Translation.TheVariants.{Symbols, Refused}
 use Rattle.transducer.proofs.Meaning.{Bodies, body_read, table, translate_walked}
 use Rattle.transducer.proofs.OutputLevels.{levels_walked}
 use Rattle.transducer.proofs.Opening.{Opened, opened_sheet}
@@ -144,7 +144,7 @@ module _ {stock : List ℕ} {n : ℕ} {counts bytes : List ℕ} (X : Machine sto
   output_read s T = record { machine = transducer (inputs stock) (outputs stock) n (offset counts) bytes; input = tree (inputs stock) s; encodes = wholes_encodes (inputs stock) (outputs stock) n counts bytes machine_right machine_wholes; is_tree = whole_input T; given = refl }
 
   module _ {ins : List ℕ} (e : ins ≡ inputs stock) {s : List ℕ} {r : Extent} (M : MeasuredAll ins s r) where
-    pub not_tree : {before : List ℕ} → r ≡ extent.Bad → TranslatesBy stock n counts bytes s before before (Refused BadTree)
+    pub not_tree : {before : List ℕ} → r ≡ extent.Bad → TranslatesBy stock n counts bytes s before before (Err BadTree)
     not_tree q = refuse (measured_none (rw e at M) q) refl
 
     module _ {d l : ℕ} (q : r ≡ extent.Tree d l) where
@@ -175,7 +175,7 @@ module _ {stock : List ℕ} {n : ℕ} {counts bytes : List ℕ} (X : Machine sto
           output_long : length (walked ins starts bytes s 0 0 to) ≡ size (translate (transducer (inputs stock) (outputs stock) n (offset counts) bytes) (tree (inputs stock) s))
           output_long = ap length given_code ∙ code_size _
 
-          pub too_long : length before < k → TranslatesBy stock n counts bytes s before after (Refused LongOutput)
+          pub too_long : length before < k → TranslatesBy stock n counts bytes s before after (Err LongOutput)
           too_long h =
               let (l, a) = E.full h in
               pass tree_there (refuse (λ w. omega (arith, output_long, w.1.1, ap size (output_unique w.1.0 (output_read s read_whole)))) a)
@@ -184,29 +184,29 @@ module _ {stock : List ℕ} {n : ℕ} {counts bytes : List ℕ} (X : Machine sto
           room_there : k ≤ length before → (t : Tree) × (OutputBy stock n counts bytes s t × (size t ≤ length before))
           room_there h = (_, (output_read s read_whole, omega (arith, output_long, (E.fits h).0)))
 
-          pub too_deep : k ≤ length before → 256 < m → TranslatesBy stock n counts bytes s before after (Refused DeepOutput)
+          pub too_deep : k ≤ length before → 256 < m → TranslatesBy stock n counts bytes s before after (Err DeepOutput)
           too_deep h g = pass tree_there (pass (room_there h) (refuse (λ w. omega (arith, (E.fits h).1, output_levels, w.1.1, ap levels (output_unique w.1.0 (output_read s read_whole)))) (E.deep g)))
 
-          pub all_written : k ≤ length before → m ≤ 256 → TranslatesBy stock n counts bytes s before after (Symbols k)
+          pub all_written : k ≤ length before → m ≤ 256 → TranslatesBy stock n counts bytes s before after (Ok k)
           all_written h g =
               let O = output_read s read_whole in
               pass tree_there (pass (room_there h) (pass (_, (O, omega (arith, (E.fits h).1, output_levels))) (accept (_, (O, (E.fits h).0 ∙ output_long, E.wrote h g ∙ ap (sets before 0) given_code)))))
 
 -- ---- the file: what is answered of its parts is answered of it
 module _ {stock sheet ins counts bytes design : List ℕ} {n : ℕ} (O : Opened stock sheet n ins counts bytes) where
-  pub file_translates : {before after : List ℕ} (r : Translation) → TranslatesBy stock n counts bytes design before after r → Translates stock sheet design before after r
+  pub file_translates : {before after : List ℕ} (r : Result ℕ Refusal) → TranslatesBy stock n counts bytes design before after r → Translates stock sheet design before after r
   unfolding IsJudged Holds
   file_translates {before} {after} r J = go r J.verdict
     where
-      start : (r : Translation) → Judged (after ≡ before) (λ k. (t : Tree) × (Output stock sheet design t × (k ≡ size t) × (after ≡ sets before 0 (code t)))) (tree_check stock design (room_check stock sheet design before (levels_check stock sheet design no_more))) (translated r) → Translates stock sheet design before after r
+      start : (r : Result ℕ Refusal) → Judged (after ≡ before) (λ k. (t : Tree) × (Output stock sheet design t × (k ≡ size t) × (after ≡ sets before 0 (code t)))) (tree_check stock design (room_check stock sheet design before (levels_check stock sheet design no_more))) (outcome_of r) → Translates stock sheet design before after r
       start r j = let w = O.holds in pass w.0 (pass w.1.0 (pass w.1.1.0 j))
 
       room : ((t : Tree) × (OutputBy stock n counts bytes design t × (size t ≤ length before))) → (t : Tree) × (Output stock sheet design t × (size t ≤ length before))
       room (t, (P, l)) = (t, (from_parts (opened_sheet O) P, l))
 
-      go : (r : Translation) → IsJudged (after ≡ before) (λ k. (t : Tree) × (OutputBy stock n counts bytes design t × (k ≡ size t) × (after ≡ sets before 0 (code t)))) (tree_check stock design (check 6 ((t : Tree) × (OutputBy stock n counts bytes design t × (size t ≤ length before))) (check 10 ((t : Tree) × (OutputBy stock n counts bytes design t × (levels t ≤ 256))) no_more))) (translated r) → Translates stock sheet design before after r
+      go : (r : Result ℕ Refusal) → IsJudged (after ≡ before) (λ k. (t : Tree) × (OutputBy stock n counts bytes design t × (k ≡ size t) × (after ≡ sets before 0 (code t)))) (tree_check stock design (check 6 ((t : Tree) × (OutputBy stock n counts bytes design t × (size t ≤ length before))) (check 10 ((t : Tree) × (OutputBy stock n counts bytes design t × (levels t ≤ 256))) no_more))) (outcome_of r) → Translates stock sheet design before after r
       go r (inl (h, q, kept)) = start r (rw q (refuse h kept))
       go r (inr (T, inl (h, q, kept))) = start r (rw q (pass T (refuse (λ w. h (w.0, (to_parts (opened_sheet O) w.1.0, w.1.1))) kept)))
       go r (inr (T, inr (R, inl (h, q, kept)))) = start r (rw q (pass T (pass (room R) (refuse (λ w. h (w.0, (to_parts (opened_sheet O) w.1.0, w.1.1))) kept))))
-      go (Symbols k) (inr (T, inr (R, inr (L, (t, (P, z, a)))))) = start (Symbols k) (pass T (pass (room R) (pass (L.0, (from_parts (opened_sheet O) L.1.0, L.1.1)) (accept (t, (from_parts (opened_sheet O) P, z, a))))))
-      go (Refused x) (inr (T, inr (R, inr (L, u)))) = absurd u
+      go (Ok k) (inr (T, inr (R, inr (L, (t, (P, z, a)))))) = start (Ok k) (pass T (pass (room R) (pass (L.0, (from_parts (opened_sheet O) L.1.0, L.1.1)) (accept (t, (from_parts (opened_sheet O) P, z, a))))))
+      go (Err x) (inr (T, inr (R, inr (L, u)))) = absurd u

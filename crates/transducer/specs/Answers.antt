@@ -1,22 +1,17 @@
 -- What translation answers: the values and numbers of document 01, and the promise about it.
-use Rattle.std.specs.Prelude.{ℕ, ◌≤◌, List, ◌≡◌, length}
+use Rattle.std.specs.Prelude.{Err, None, Ok, Option, Result, Some, ℕ, ◌≤◌, List, ◌≡◌, length}
+use Rattle.trees.specs.declared.refusal.Refusal.{Refusal}
+use Rattle.trees.specs.Refusal.{outcome_of, refusal_number, Outcome, accepted, refused, Checks, done, check, Judged}
 use Rattle.std.proofs.lemmas.List.Edits.{sets}
 use Rattle.theory.specs.Size.{size, levels}
 use Rattle.theory.specs.Term.{Tree}
 use Rattle.trees.specs.Alphabets.{alphabet_check}
 use Rattle.trees.specs.Code.{code}
-use Rattle.trees.specs.Refusal.{refusal_number, Outcome, accepted, refused, Checks, done, check, Judged}
 use Rattle.formats.specs.Sheet.{sheet_check}
 use Rattle.trees.specs.Tree.{tree_check}
 use Rattle.transducer.specs.Output.{Output}
-use Rattle.transducer.specs.declared.translate.Translation.{Translation}
-use Rattle.transducer.specs.declared.translate.Translation.TheVariants as translation
 
 -- ---- translating: the number of symbols of the output tree, with whose code the area then begins; the rest of the area stays
-abbrev pub translated : Translation → Outcome ℕ
-translated (translation.Symbols n) = accepted n
-translated (translation.Refused r) = refused (refusal_number r)
-
 -- refusal 6
 abbrev pub room_check : List ℕ → List ℕ → List ℕ → List ℕ → Checks → Checks
 room_check stock sheet design area rest = check 6 ((t : Tree) × (Output stock sheet design t × (size t ≤ length area))) rest
@@ -25,8 +20,8 @@ room_check stock sheet design area rest = check 6 ((t : Tree) × (Output stock s
 abbrev pub levels_check : List ℕ → List ℕ → List ℕ → Checks → Checks
 levels_check stock sheet design rest = check 10 ((t : Tree) × (Output stock sheet design t × (levels t ≤ 256))) rest
 
-abbrev pub Translates : List ℕ → List ℕ → List ℕ → List ℕ → List ℕ → Translation → Type 0
+abbrev pub Translates : List ℕ → List ℕ → List ℕ → List ℕ → List ℕ → Result ℕ Refusal → Type 0
 Translates stock sheet design before after r =
     Judged (after ≡ before) (λ k. (t : Tree) × (Output stock sheet design t × (k ≡ size t) × (after ≡ sets before 0 (code t))))
     (alphabet_check stock (sheet_check stock sheet (tree_check stock design (room_check stock sheet design before (levels_check stock sheet design done)))))
-    (translated r)
+    (outcome_of r)

@@ -1,4 +1,4 @@
-// Translation (01: sewing): what the transducer of a file gives on an input tree.
+// Result<usize, Refusal> (01: sewing): what the transducer of a file gives on an input tree.
 ghost use Rattle.std.specs.Prelude.{◌≡◌, ◌+◌, ◌/◌, ◌%◌, ◌^◌, ◌≤◌, ◌<◌, min, max, length, get_or, set, take, drop};
 ghost use Rattle.std.proofs.lemmas.List.Edits.{sets};
 ghost use Rattle.formats.specs.Inner.Layout.{body_number};
@@ -9,18 +9,11 @@ ghost use Rattle.transducer.specs.Inner.Written.{applied, walked, applied_levels
 use crate::children::{fill_ends, skip};
 use crate::depth::fill_depths;
 use formats::bodies::fill_starts;
-use formats::file::{FileRead, copy_at, counts_end, read_transducer};
+use formats::file::{copy_at, counts_end, read_transducer};
 use trees::alphabet::{input_ranks, output_ranks};
 use trees::bytes::{larger, number, wide};
 use trees::refusal::Refusal;
 use trees::tree::{Extent, measure_all};
-
-// How many symbols were written, or the refusal.
-#[derive(Drop)]
-pub enum Translation {
-    Symbols(usize),
-    Refused(Refusal),
-}
 
 // Where what was written ends, and how many levels it has, or 257 where there are more.
 #[derive(Drop)]
@@ -395,7 +388,7 @@ fn translate_by(
     marks: &[u8],
     s: &[u8],
     out: &mut [u8],
-) -> Translation
+) -> Result<usize, Refusal>
     requires { Machine stock.now n counts.now marks.now }
     ensures { TranslatesBy stock.now n counts.now marks.now s.now out.old out.new result }
 {
@@ -412,26 +405,26 @@ fn translate_by(
             let to = number(starts[1]);
             let w = emit(ins, &starts, marks, &depths, s, &ends, to, levels, out);
             if w.end > out.len() {
-                return Translation::Refused(Refusal::LongOutput);
+                return Err(Refusal::LongOutput);
             }
             if w.levels > 256 {
-                return Translation::Refused(Refusal::DeepOutput);
+                return Err(Refusal::DeepOutput);
             }
-            Translation::Symbols(w.end)
+            Ok(w.end)
         }
-        Extent::Bad => Translation::Refused(Refusal::BadTree),
+        Extent::Bad => Err(Refusal::BadTree),
     }
 }
 
 // Translates the tree of the file `design` by the transducer of the file `sheet`, into `out`.
-pub fn translate(stock: &[u8], sheet: &[u8], design: &[u8], out: &mut [u8]) -> Translation
+pub fn translate(stock: &[u8], sheet: &[u8], design: &[u8], out: &mut [u8]) -> Result<usize, Refusal>
     ensures { Translates stock.now sheet.now design.now out.old out.new result }
 {
     match read_transducer(stock, sheet) {
-        FileRead::States(n) => {
+        Ok(n) => {
             let from = counts_end(stock, n);
             translate_by(stock, n, &sheet[1..from], &sheet[from..], design, out)
         }
-        FileRead::Refused(r) => Translation::Refused(r),
+        Err(r) => Err(r),
     }
 }

@@ -1,5 +1,6 @@
 -- What the writer and the reader of XML answer, in the terms of their promises.
 -- Assumes nothing.
+use Rattle.std.specs.Prelude.{Err, None, Ok, Option, Result, Some}
 use Prim.Native.Nat.{ℕ, ◌≤◌, ◌<◌}
 use native.Mathlib.Omega.{arith}
 use mathlib.Core.Bool.{Bool}
@@ -24,7 +25,6 @@ use Rattle.xml.specs.Xml.{xml, OutputTree}
 use Rattle.xml.specs.Answers.{InForm, WritesXml, ReadsXml}
 use Rattle.xml.specs.Inner.Kinds.{Collects, Both}
 use Rattle.xml.specs.Inner.Measured.{WholeOutput}
-use Rattle.xml.specs.declared.write.Converted.TheVariants.{Length, Refused}
 use Rattle.xml.proofs.Collecting.{kinds_all}
 
 -- ---- output trees and their codes
@@ -63,14 +63,14 @@ module _ {stock s outs : List ℕ} (o : outs ≡ outputs stock) where
   in_form_whole F = output_whole (rw o F.output) F.is
 
 module _ {stock s outs : List ℕ} (A : Alphabets stock) (o : outs ≡ outputs stock) where
-  pub no_plan : {area : List ℕ} → (WholeOutput outs s → ⊥) → WritesXml stock s area area (Refused BadOutput)
+  pub no_plan : {area : List ℕ} → (WholeOutput outs s → ⊥) → WritesXml stock s area area (Err BadOutput)
   no_plan f = pass A (refuse (λ w. f (in_form_whole o w.1).0) refl)
 
   module _ (W : WholeOutput outs s) {n : ℕ} (e : n ≡ length (xml (tree outs s))) where
-    pub short_text : {area : List ℕ} → length area < n → WritesXml stock s area area (Refused ShortTarget)
+    pub short_text : {area : List ℕ} → length area < n → WritesXml stock s area area (Err ShortTarget)
     short_text h = pass A (pass (tree outs s, whole_in_form o W) (refuse (λ w. omega (arith, w.1.1, ap (λ t. length (xml t)) (in_form_whole o w.1.0).1)) refl))
 
-    pub text_written : {area area' : List ℕ} {r : ℕ} → n ≤ length area → Put (xml (tree outs s)) area area' r → WritesXml stock s area area' (Length r)
+    pub text_written : {area area' : List ℕ} {r : ℕ} → n ≤ length area → Put (xml (tree outs s)) area area' r → WritesXml stock s area area' (Ok r)
     text_written h P = let F = whole_in_form o W in pass A (pass (tree outs s, F) (pass (tree outs s, (F, omega arith)) (accept (tree outs s, (F, P.size, P.wrote)))))
 
 -- ---- the reader
@@ -86,17 +86,17 @@ module _ {stock text outs table : List ℕ} {n : ℕ} (A : Alphabets stock) (o :
   collected : {t : Tree} → InForm xml stock text t → (take n table ≡ code t) × (n ≡ length (code t))
   collected {t} F = kinds_all outs t few (rw o F.output) F.is C
 
-  pub no_text : {area : List ℕ} → (Both outs (take n table) text → ⊥) → ReadsXml stock text area area (Refused BadOutput)
+  pub no_text : {area : List ℕ} → (Both outs (take n table) text → ⊥) → ReadsXml stock text area area (Err BadOutput)
   no_text f = pass A (refuse (λ w. let F = w.1 in f (record { one = w.0; output = rw o F.output; coded = sym (collected F).0; written = F.is })) refl)
 
   module _ (P : Both outs (take n table) text) where
     both_in_form : InForm xml stock text P.one
     both_in_form = record { output = rw o at P.output; is = P.written }
 
-    pub short_area : {area : List ℕ} → length area < n → ReadsXml stock text area area (Refused ShortTarget)
+    pub short_area : {area : List ℕ} → length area < n → ReadsXml stock text area area (Err ShortTarget)
     short_area h = pass A (pass (P.one, both_in_form) (refuse (λ w. omega (arith, w.1.1, (collected w.1.0).1)) refl))
 
-    pub plan_read : {area area' : List ℕ} → n ≤ length area → area' ≡ sets area 0 (take n table) → ReadsXml stock text area area' (Length n)
+    pub plan_read : {area area' : List ℕ} → n ≤ length area → area' ≡ sets area 0 (take n table) → ReadsXml stock text area area' (Ok n)
     plan_read {area} h e =
         let c = collected both_in_form in
         pass A (pass (P.one, both_in_form) (pass (P.one, (both_in_form, omega (arith, c.1))) (accept (P.one, (both_in_form, c.1, e ∙ ap (sets area 0) c.0)))))

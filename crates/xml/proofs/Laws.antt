@@ -1,5 +1,8 @@
 -- What the promises of the writer and the reader of XML come to.
 -- Assumes nothing.
+use Rattle.std.specs.Prelude.{Err, None, Ok, Option, Result, Some}
+use Rattle.trees.specs.declared.refusal.Refusal.{Refusal}
+use Rattle.trees.specs.Refusal.{outcome_of, accepted, done, Holds}
 use Prim.Native.Nat.{ℕ, ◌+◌, ◌*◌, ◌≤◌}
 use native.Mathlib.Omega.{arith}
 use mathlib.Core.List.{List, [], append-nil}
@@ -10,13 +13,10 @@ use Rattle.theory.specs.Size.{size, sizes}
 use Rattle.theory.specs.Term.{Tree, Terms, var, node, none, more, count}
 use Rattle.trees.specs.Alphabets.{Alphabets, outputs, alphabet_check}
 use Rattle.trees.specs.Code.{code}
-use Rattle.trees.specs.Refusal.{accepted, done, Holds}
 use Rattle.trees.proofs.Judging.{pass, accept, accepted_holds, must_accept, one_answer}
 use Rattle.xml.specs.Xml.{xml, xmls, closing, OutputTree}
-use Rattle.xml.specs.Answers.{Form, InForm, forms_check, converted, Converts}
+use Rattle.xml.specs.Answers.{Form, InForm, forms_check, Converts}
 use Rattle.xml.specs.Inner.Kinds.{kinds_in}
-use Rattle.xml.specs.declared.write.Converted.{Converted}
-use Rattle.xml.specs.declared.write.Converted.TheVariants.{Length}
 use Rattle.xml.proofs.Collecting.{kinds_xml}
 use Rattle.xml.proofs.Converting.{output_whole}
 
@@ -38,13 +38,13 @@ xml_distinct outs l t u O P e = code_distinct outs t u O P (sym (code_from outs 
 
 -- ---- any conversion between two forms
 module _ (from to : Form) (stock : List ℕ) (A : Alphabets stock) where
-  -- an output tree is converted where the area is long enough
-  pub conversion : (s area : List ℕ) (t : Tree) → InForm from stock s t → length (to t) ≤ length area → Converts from to stock s area (sets area 0 (to t)) (Length (length (to t)))
+  -- an output tree is outcome_of where the area is long enough
+  pub conversion : (s area : List ℕ) (t : Tree) → InForm from stock s t → length (to t) ≤ length area → Converts from to stock s area (sets area 0 (to t)) (Ok (length (to t)))
   conversion s area t F h = pass A (pass (t, F) (pass (t, (F, h)) (accept (t, (F, refl, refl)))))
 
-  module _ (D : Distinct from (outputs stock)) (s area area' : List ℕ) (r : Converted) (C : Converts from to stock s area area' r) where
+  module _ (D : Distinct from (outputs stock)) (s area area' : List ℕ) (r : Result ℕ Refusal) (C : Converts from to stock s area area' r) where
     -- and every answer that keeps the promise is that
-    pub converted_so : (t : Tree) → InForm from stock s t → length (to t) ≤ length area → (converted r ≡ accepted (length (to t))) × (area' ≡ sets area 0 (to t))
+    pub converted_so : (t : Tree) → InForm from stock s t → length (to t) ≤ length area → (outcome_of r ≡ accepted (length (to t))) × (area' ≡ sets area 0 (to t))
     unfolding Holds
     converted_so t F h =
         let w = must_accept (A, ((t, F), ((t, (F, h)), tt))) C in
@@ -53,9 +53,9 @@ module _ (from to : Form) (stock : List ℕ) (A : Alphabets stock) where
         (w.1.0 ∙ ap (λ n. accepted n) (g.1.1 ∙ ap (λ u. length (to u)) e), g.1.2 ∙ ap (λ u. sets area 0 (to u)) e)
 
     -- the promise determines the answer and the area
-    pub converts_one : (area'' : List ℕ) (r' : Converted) → Converts from to stock s area area'' r' → (area' ≡ area'') × (converted r ≡ converted r')
+    pub converts_one : (area'' : List ℕ) (r' : Result ℕ Refusal) → Converts from to stock s area area'' r' → (area' ≡ area'') × (outcome_of r ≡ outcome_of r')
     converts_one area'' r' C' =
-        one_answer (λ e f. e ∙ sym f) (alphabet_check stock (forms_check from to stock s area done)) (converted r) (converted r')
+        one_answer (λ e f. e ∙ sym f) (alphabet_check stock (forms_check from to stock s area done)) (outcome_of r) (outcome_of r')
         (λ h n n' g g'.
         let e : g.0 ≡ g'.0 = D g.0 g'.0 g.1.0.output g'.1.0.output (g.1.0.is ∙ sym g'.1.0.is) in
         (g.1.2 ∙ ap (λ u. sets area 0 (to u)) e ∙ sym g'.1.2, g.1.1 ∙ ap (λ u. length (to u)) e ∙ sym g'.1.1))
@@ -67,7 +67,7 @@ pub stands_there : (area w : List ℕ) → length w ≤ length area → take (le
 stands_there area w h = ap (take (length w)) (sets-eq w area 0 (omega arith)) ∙ take_at w (drop (0 + length w) area) (length w) refl
 
 -- what was accepted is an output tree, and in the other form it stands in the area that was left
-pub was_formed : (from to : Form) (stock : List ℕ) → Distinct from (outputs stock) → (s area area' : List ℕ) (r : Converted) (n : ℕ) → Converts from to stock s area area' r → converted r ≡ accepted n → (t : Tree) × (InForm from stock s t × (n ≡ length (to t)) × (take n area' ≡ to t))
+pub was_formed : (from to : Form) (stock : List ℕ) → Distinct from (outputs stock) → (s area area' : List ℕ) (r : Result ℕ Refusal) (n : ℕ) → Converts from to stock s area area' r → outcome_of r ≡ accepted n → (t : Tree) × (InForm from stock s t × (n ≡ length (to t)) × (take n area' ≡ to t))
 unfolding Holds
 was_formed from to stock D s area area' r n C e =
     let w = accepted_holds (rw e at C) in

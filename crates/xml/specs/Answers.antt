@@ -1,13 +1,12 @@
 -- What the writer and the reader of XML promise: each turns an output tree from one form into the other.
-use Rattle.std.specs.Prelude.{ℕ, ◌≤◌, List, ◌≡◌, length}
+use Rattle.std.specs.Prelude.{Err, None, Ok, Option, Result, Some, ℕ, ◌≤◌, List, ◌≡◌, length}
+use Rattle.trees.specs.declared.refusal.Refusal.{Refusal}
+use Rattle.trees.specs.Refusal.{outcome_of, refusal_number, Outcome, accepted, refused, Checks, done, check, Judged}
 use Rattle.std.proofs.lemmas.List.Edits.{sets}
 use Rattle.theory.specs.Term.{Tree}
 use Rattle.trees.specs.Alphabets.{outputs, alphabet_check}
 use Rattle.trees.specs.Code.{code}
-use Rattle.trees.specs.Refusal.{refusal_number, Outcome, accepted, refused, Checks, done, check, Judged}
 use Rattle.xml.specs.Xml.{xml, OutputTree}
-use Rattle.xml.specs.declared.write.Converted.{Converted}
-use Rattle.xml.specs.declared.write.Converted.TheVariants as conversion
 
 -- a form of output trees: what each is as bytes
 abbrev pub Form : Type 0
@@ -24,20 +23,16 @@ forms_check from to stock s area others =
     check 11 ((t : Tree) × InForm from stock s t) (check 12 ((t : Tree) × (InForm from stock s t × (length (to t) ≤ length area))) others)
 
 -- the length of the result, or the number of the refusal
-abbrev pub converted : Converted → Outcome ℕ
-converted (conversion.Length n) = accepted n
-converted (conversion.Refused r) = refused (refusal_number r)
-
 -- the area begins with the output tree in the other form, and keeps what stands behind it
-abbrev pub Converts : Form → Form → List ℕ → List ℕ → List ℕ → List ℕ → Converted → Type 0
+abbrev pub Converts : Form → Form → List ℕ → List ℕ → List ℕ → List ℕ → Result ℕ Refusal → Type 0
 Converts from to stock s area area' r =
     Judged (area' ≡ area) (λ n. (t : Tree) × (InForm from stock s t × (n ≡ length (to t)) × (area' ≡ sets area 0 (to t))))
     (alphabet_check stock (forms_check from to stock s area done))
-    (converted r)
+    (outcome_of r)
 
 -- from the code, a byte for each node, to XML, and back
-abbrev pub WritesXml : List ℕ → List ℕ → List ℕ → List ℕ → Converted → Type 0
+abbrev pub WritesXml : List ℕ → List ℕ → List ℕ → List ℕ → Result ℕ Refusal → Type 0
 WritesXml = Converts code xml
 
-abbrev pub ReadsXml : List ℕ → List ℕ → List ℕ → List ℕ → Converted → Type 0
+abbrev pub ReadsXml : List ℕ → List ℕ → List ℕ → List ℕ → Result ℕ Refusal → Type 0
 ReadsXml = Converts xml code

@@ -11,7 +11,6 @@ ghost use Rattle.xml.specs.Inner.Measured.{WholeOutput};
 use crate::measure::measure_output;
 use crate::tag::{tag_size, tag_stands};
 use crate::walk::next_tag;
-use crate::write::Converted;
 use codes::symbol::symbol_of;
 use formats::file::copy_at;
 use trees::alphabet::{alphabets_right, output_ranks};
@@ -89,22 +88,22 @@ fn is_xml(ranks: &[u8], s: &[u8], text: &[u8]) -> bool
 }
 
 // Reads the XML of an output tree, and writes the tree to the start of the area `plan`: how many symbols it has.
-pub fn read_xml(stock: &[u8], text: &[u8], plan: &mut [u8]) -> Converted
+pub fn read_xml(stock: &[u8], text: &[u8], plan: &mut [u8]) -> Result<usize, Refusal>
     ensures { ReadsXml stock.now text.now plan.old plan.new result }
 {
     if !alphabets_right(stock) {
-        return Converted::Refused(Refusal::BadAlphabets);
+        return Err(Refusal::BadAlphabets);
     }
     let mut table = [0u8; 4096];
     let n = collect(text, &mut table);
     let kinds = &table[..n];
     let right = is_xml(output_ranks(stock), kinds, text);
     if !right {
-        return Converted::Refused(Refusal::BadOutput);
+        return Err(Refusal::BadOutput);
     }
     if plan.len() < n {
-        return Converted::Refused(Refusal::ShortTarget);
+        return Err(Refusal::ShortTarget);
     }
     copy_at(kinds, plan, 0);
-    Converted::Length(n)
+    Ok(n)
 }

@@ -14,13 +14,6 @@ use trees::bytes::wide;
 use trees::refusal::Refusal;
 use trees::tree::Extent;
 
-// How long the result of a conversion is, or the refusal.
-#[derive(Clone, Copy)]
-pub enum Converted {
-    Length(usize),
-    Refused(Refusal),
-}
-
 // How many bytes the tags of a node with so many children have.
 fn node_size(rank: usize) -> usize
     ensures { result ≡ node_size rank }
@@ -63,22 +56,22 @@ fn put_xml(ranks: &[u8], s: &[u8], text: &mut [u8]) -> usize
 }
 
 // Writes an output tree as XML to the start of the area `text`: how long its text is.
-pub fn write_xml(stock: &[u8], plan: &[u8], text: &mut [u8]) -> Converted
+pub fn write_xml(stock: &[u8], plan: &[u8], text: &mut [u8]) -> Result<usize, Refusal>
     ensures { WritesXml stock.now plan.now text.old text.new result }
 {
     if !alphabets_right(stock) {
-        return Converted::Refused(Refusal::BadAlphabets);
+        return Err(Refusal::BadAlphabets);
     }
     let ranks = output_ranks(stock);
     match measure_output(ranks, plan) {
         Extent::Tree(_, _) => {
             let n = text_size(ranks, plan);
             if text.len() < n {
-                return Converted::Refused(Refusal::ShortTarget);
+                return Err(Refusal::ShortTarget);
             }
             let size = put_xml(ranks, plan, text);
-            Converted::Length(size)
+            Ok(size)
         }
-        Extent::Bad => Converted::Refused(Refusal::BadOutput),
+        Extent::Bad => Err(Refusal::BadOutput),
     }
 }

@@ -1,5 +1,6 @@
 -- What is answered once the parts of a transducer's file are known to be right.
-use Rattle.std.specs.Prelude.{ℕ, ◌<◌, List, ◌≡◌}
+use Rattle.std.specs.Prelude.{Err, None, Ok, Option, Result, Some, ℕ, ◌<◌, List, ◌≡◌}
+use Rattle.trees.specs.declared.refusal.Refusal.{Refusal}
 use Rattle.theory.specs.Earliest.{Earliest}
 use Rattle.theory.specs.NormalForm.{NormalForm}
 use Rattle.theory.specs.Numbered.{Numbered}
@@ -9,8 +10,6 @@ use Rattle.formats.specs.Sheet.{Encodes}
 use Rattle.forms.specs.Alphabet.{alphabet}
 use Rattle.forms.specs.Inner.Tables.{machine, Layout, Packed}
 use Rattle.earliest.specs.Inner.Loaded.{EarliestOf}
-use Rattle.forms.specs.declared.write.FormSize.{FormSize}
-use Rattle.forms.specs.declared.write.FormSize.TheVariants.{States, Over}
 
 -- a transducer in a table
 pub record Reducible (ins outs starts bytes : List ℕ) (k : ℕ) : Type 0 where
@@ -33,9 +32,9 @@ pub record NormalOf (stock : List ℕ) (n : ℕ) (counts bytes : List ℕ) (k : 
   pub form_coded : Encodes (inputs stock) (outputs stock) k counts' bytes' form
 
 -- the normal form stands in the table; or the earliest form is over the limits of a file
-pub record NormalBy (stock : List ℕ) (n : ℕ) (counts bytes starts out : List ℕ) (r : FormSize) : Type 0 where
-  pub over : r ≡ Over → (k : ℕ) (counts' bytes' : List ℕ) → EarliestOf stock n counts bytes k counts' bytes' → ⊥
-  pub within : (k : ℕ) → r ≡ States k → (k' : ℕ) × ((counts' : List ℕ) × ((bytes' : List ℕ) × EarliestOf stock n counts bytes k' counts' bytes'))
-  pub layout : (k : ℕ) → r ≡ States k → Layout (inputs stock) (outputs stock) starts out k
-  pub packed : (k : ℕ) → r ≡ States k → Packed (inputs stock) starts k
-  pub normal : (k : ℕ) → r ≡ States k → (M : Transducer ℕ) → Encodes (inputs stock) (outputs stock) n counts bytes M → (l : Leaf (inputs stock)) → NormalForm (alphabet (inputs stock) l) M (machine (inputs stock) (outputs stock) starts out k) k
+pub record NormalBy (stock : List ℕ) (n : ℕ) (counts bytes starts out : List ℕ) (r : Option ℕ) : Type 0 where
+  pub over : r ≡ None → (k : ℕ) (counts' bytes' : List ℕ) → EarliestOf stock n counts bytes k counts' bytes' → ⊥
+  pub within : (k : ℕ) → r ≡ Some k → (k' : ℕ) × ((counts' : List ℕ) × ((bytes' : List ℕ) × EarliestOf stock n counts bytes k' counts' bytes'))
+  pub layout : (k : ℕ) → r ≡ Some k → Layout (inputs stock) (outputs stock) starts out k
+  pub packed : (k : ℕ) → r ≡ Some k → Packed (inputs stock) starts k
+  pub normal : (k : ℕ) → r ≡ Some k → (M : Transducer ℕ) → Encodes (inputs stock) (outputs stock) n counts bytes M → (l : Leaf (inputs stock)) → NormalForm (alphabet (inputs stock) l) M (machine (inputs stock) (outputs stock) starts out k) k

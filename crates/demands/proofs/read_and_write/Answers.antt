@@ -3,8 +3,8 @@ use borrow.Author.Rules.{rules}
 use Rattle.demands.proofs.Second.{not_read, written_again}
 use Rattle.demands.proofs.read_and_write.Goals as goal
 
-pub returns-in-States : goal.returns-in-States
-returns-in-States c = search (written_again, rules)
+pub returns-in-Ok : goal.returns-in-Ok
+returns-in-Ok c = search (written_again, rules)
 
-pub returns-in-Refused : goal.returns-in-Refused
-returns-in-Refused c = search (not_read, rules)
+pub returns-in-Err : goal.returns-in-Err
+returns-in-Err c = search (not_read, rules)

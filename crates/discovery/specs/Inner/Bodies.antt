@@ -1,5 +1,6 @@
 -- The bodies of a transducer E whose states are numbers below w, as far as they stand in the table, and when the form is too large.
-use Rattle.std.specs.Prelude.{ℕ, ◌+◌, ◌*◌, ◌%◌, ◌≤◌, ◌<◌, List, ◌⊎◌, ◌≡◌, length, get_or, set}
+use Rattle.std.specs.Prelude.{Err, None, Ok, Option, Result, Some, ℕ, ◌+◌, ◌*◌, ◌%◌, ◌≤◌, ◌<◌, List, ◌⊎◌, ◌≡◌, length, get_or, set}
+use Rattle.trees.specs.declared.refusal.Refusal.{Refusal}
 use Rattle.std.proofs.Math.Option.{some}
 use Rattle.std.proofs.Math.ListN.{get_elem?}
 use Rattle.std.proofs.lemmas.List.Edits.{sets}
@@ -16,8 +17,6 @@ use Rattle.formats.specs.Sheet.{Encodes, mark_bytes}
 use Rattle.forms.specs.Alphabet.{alphabet}
 use Rattle.discovery.specs.Inner.Letters.{spelt}
 use Rattle.discovery.specs.Inner.Queue.{Queue, met_of, marks_by, letter_calls}
-use Rattle.forms.specs.declared.write.FormSize.{FormSize}
-use Rattle.forms.specs.declared.write.FormSize.TheVariants.{States, Over}
 
 -- N is what the reading of E finds, as far as any stage of it says
 pub record AllFollow (G : Grammar) (E : Transducer ℕ) (N : Transducer ℕ) (k : ℕ) : Type 0 where
@@ -48,13 +47,13 @@ pub record BodiesBefore (ins : List ℕ) (E : Transducer ℕ) (w b : ℕ) (start
   pub rhs : (q a : ℕ) → a < length ins → body_number ins q a < b → BodyAt starts out place (body_number ins q a) (E.rhs (get_or list q 0) a)
 
 -- body b, with the letters s, was added; or it, or the states met with it, or all bodies with it are too many
-pub record AddsBody (s : List ℕ) (b : ℕ) (starts out list place : List ℕ) (met : ℕ) (starts' out' list' place' : List ℕ) (r : FormSize) : Type 0 where
-  pub over : r ≡ Over → (64 < length s) ⊎ (8192 < get_or starts b 0 + length s) ⊎ ((L : List ℕ) × (ReadCalls (letter_calls s) (met_of list met) L × (128 < length L)))
-  pub short : (n : ℕ) → r ≡ States n → (length s ≤ 64) × (get_or starts b 0 + length s ≤ 8192) × (n ≤ 128)
-  pub queue : (n : ℕ) → r ≡ States n → Queue list' place' n
-  pub wide : (n : ℕ) → r ≡ States n → length place' ≡ length place
-  pub read : (n : ℕ) → r ≡ States n → ReadCalls (letter_calls s) (met_of list met) (met_of list' n)
-  pub kept : (n : ℕ) → r ≡ States n → (d : ℕ) → 0 < get_or place d 0 → get_or place' d 0 ≡ get_or place d 0
-  pub told : (n : ℕ) → r ≡ States n → (j : ℕ) → j < length s → 65536 ≤ get_or s j 0 → 0 < get_or place' (get_or s j 0 % 65536) 0
-  pub wrote : (n : ℕ) → r ≡ States n → out' ≡ sets out (2 * get_or starts b 0) (mark_bytes (marks_by place' s))
-  pub ended : (n : ℕ) → r ≡ States n → starts' ≡ set starts (b + 1) (get_or starts b 0 + length s)
+pub record AddsBody (s : List ℕ) (b : ℕ) (starts out list place : List ℕ) (met : ℕ) (starts' out' list' place' : List ℕ) (r : Option ℕ) : Type 0 where
+  pub over : r ≡ None → (64 < length s) ⊎ (8192 < get_or starts b 0 + length s) ⊎ ((L : List ℕ) × (ReadCalls (letter_calls s) (met_of list met) L × (128 < length L)))
+  pub short : (n : ℕ) → r ≡ Some n → (length s ≤ 64) × (get_or starts b 0 + length s ≤ 8192) × (n ≤ 128)
+  pub queue : (n : ℕ) → r ≡ Some n → Queue list' place' n
+  pub wide : (n : ℕ) → r ≡ Some n → length place' ≡ length place
+  pub read : (n : ℕ) → r ≡ Some n → ReadCalls (letter_calls s) (met_of list met) (met_of list' n)
+  pub kept : (n : ℕ) → r ≡ Some n → (d : ℕ) → 0 < get_or place d 0 → get_or place' d 0 ≡ get_or place d 0
+  pub told : (n : ℕ) → r ≡ Some n → (j : ℕ) → j < length s → 65536 ≤ get_or s j 0 → 0 < get_or place' (get_or s j 0 % 65536) 0
+  pub wrote : (n : ℕ) → r ≡ Some n → out' ≡ sets out (2 * get_or starts b 0) (mark_bytes (marks_by place' s))
+  pub ended : (n : ℕ) → r ≡ Some n → starts' ≡ set starts (b + 1) (get_or starts b 0 + length s)

@@ -1,5 +1,6 @@
 -- What is asked of a transducer whose states are numbers, and what stands in the table after its bodies were added one by one.
-use Rattle.std.specs.Prelude.{ℕ, ◌≤◌, ◌<◌, List, ◌≡◌, length, get_or}
+use Rattle.std.specs.Prelude.{Err, None, Ok, Option, Result, Some, ℕ, ◌≤◌, ◌<◌, List, ◌≡◌, length, get_or}
+use Rattle.trees.specs.declared.refusal.Refusal.{Refusal}
 use Rattle.std.proofs.Math.Seq.{slice}
 use Rattle.theory.specs.Discovered.{ReadStates, Discovered}
 use Rattle.theory.specs.Listing.{Indexes, listed}
@@ -10,8 +11,6 @@ use Rattle.trees.specs.Code.{Ranked}
 use Rattle.formats.specs.Inner.Layout.{body_number}
 use Rattle.forms.specs.Alphabet.{alphabet}
 use Rattle.forms.specs.Inner.Tables.{machine, Layout, Packed}
-use Rattle.forms.specs.declared.write.FormSize.{FormSize}
-use Rattle.forms.specs.declared.write.FormSize.TheVariants.{States, Over}
 use Rattle.discovery.specs.Inner.Letters.{spelt}
 use Rattle.discovery.specs.Inner.Queue.{Queue, met_of}
 use Rattle.discovery.specs.Inner.Bodies.{BodiesBefore, TooLarge}
@@ -53,14 +52,14 @@ pub record Found (ins : List ℕ) (E : Transducer ℕ) (w p : ℕ) (starts out l
   pub read : (l : Leaf ins) → ReadStates (alphabet ins l) E p (met_of list met)
 
 -- they were added, or the form is over the limits of a file
-pub record Adds (ins outs : List ℕ) (E : Transducer ℕ) (w p : ℕ) (starts out list place : List ℕ) (r : FormSize) : Type 0 where
-  pub over : r ≡ Over → TooLarge ins outs E
-  pub found : (n : ℕ) → r ≡ States n → Found ins E w p starts out list place n
+pub record Adds (ins outs : List ℕ) (E : Transducer ℕ) (w p : ℕ) (starts out list place : List ℕ) (r : Option ℕ) : Type 0 where
+  pub over : r ≡ None → TooLarge ins outs E
+  pub found : (n : ℕ) → r ≡ Some n → Found ins E w p starts out list place n
 
 -- and so were the right-hand sides of all states met
-pub record AddsAll (ins outs : List ℕ) (E : Transducer ℕ) (w : ℕ) (starts out list place : List ℕ) (r : FormSize) : Type 0 where
-  pub over : r ≡ Over → TooLarge ins outs E
-  pub found : (n : ℕ) → r ≡ States n → Found ins E w n starts out list place n
+pub record AddsAll (ins outs : List ℕ) (E : Transducer ℕ) (w : ℕ) (starts out list place : List ℕ) (r : Option ℕ) : Type 0 where
+  pub over : r ≡ None → TooLarge ins outs E
+  pub found : (n : ℕ) → r ≡ Some n → Found ins E w n starts out list place n
 
 -- the states of E, in the order of first meeting, and their numbers; N is E by these numbers
 pub record Met (ins : List ℕ) (E N : Transducer ℕ) (n : ℕ) : Type 0 where
@@ -71,8 +70,8 @@ pub record Met (ins : List ℕ) (E N : Transducer ℕ) (n : ℕ) : Type 0 where
   pub form : (l : Leaf ins) → Identical (alphabet ins l) N (listed E states index) n (length states)
 
 -- E by these numbers stands in the table; or it is over the limits of a file
-pub record Discovers (ins outs : List ℕ) (E : Transducer ℕ) (starts out : List ℕ) (r : FormSize) : Type 0 where
-  pub over : r ≡ Over → TooLarge ins outs E
-  pub layout : (n : ℕ) → r ≡ States n → Layout ins outs starts out n
-  pub packed : (n : ℕ) → r ≡ States n → Packed ins starts n
-  pub met : (n : ℕ) → r ≡ States n → Met ins E (machine ins outs starts out n) n
+pub record Discovers (ins outs : List ℕ) (E : Transducer ℕ) (starts out : List ℕ) (r : Option ℕ) : Type 0 where
+  pub over : r ≡ None → TooLarge ins outs E
+  pub layout : (n : ℕ) → r ≡ Some n → Layout ins outs starts out n
+  pub packed : (n : ℕ) → r ≡ Some n → Packed ins starts n
+  pub met : (n : ℕ) → r ≡ Some n → Met ins E (machine ins outs starts out n) n

@@ -1,16 +1,15 @@
 -- What is answered once the parts of a transducer's file are known to be right.
-use Rattle.std.specs.Prelude.{ℕ, ◌<◌, List, ◌≡◌}
+use Rattle.std.specs.Prelude.{Err, None, Ok, Option, Result, Some, ℕ, ◌<◌, List, ◌≡◌}
+use Rattle.trees.specs.declared.refusal.Refusal.{Refusal}
+use Rattle.forms.specs.declared.write.Form.{Form}
+use Rattle.trees.specs.Refusal.{outcome_of, done, check, Judged}
 use Rattle.theory.specs.Transducer.{Transducer}
 use Rattle.theory.specs.Trimmed.{Trimmed}
 use Rattle.trees.specs.Alphabets.{Leaf, Alphabets, inputs, outputs}
-use Rattle.trees.specs.Refusal.{done, check, Judged}
 use Rattle.formats.specs.Sheet.{Encodes}
 use Rattle.forms.specs.Alphabet.{alphabet}
 use Rattle.forms.specs.Inner.Tables.{machine, Layout, Packed}
-use Rattle.forms.specs.Answers.{form_of, FileOf}
-use Rattle.forms.specs.declared.write.FormSize.{FormSize}
-use Rattle.forms.specs.declared.write.FormSize.TheVariants.{States, Over}
-use Rattle.forms.specs.declared.write.Formed.{Formed}
+use Rattle.forms.specs.Answers.{FileOf}
 
 -- k, the counts and the marks are those of the earliest form of the transducer with n states and these counts and marks
 pub record EarliestOf (stock : List ℕ) (n : ℕ) (counts bytes : List ℕ) (k : ℕ) (counts' bytes' : List ℕ) : Type 0 where
@@ -22,15 +21,15 @@ pub record EarliestOf (stock : List ℕ) (n : ℕ) (counts bytes : List ℕ) (k 
   pub form_coded : Encodes (inputs stock) (outputs stock) k counts' bytes' form
 
 -- the earliest form stands in the table; or it is over the limits of a file
-pub record FormOfParts (stock : List ℕ) (n : ℕ) (counts bytes starts out : List ℕ) (r : FormSize) : Type 0 where
-  pub over : r ≡ Over → (k : ℕ) (counts' bytes' : List ℕ) → EarliestOf stock n counts bytes k counts' bytes' → ⊥
-  pub layout : (k : ℕ) → r ≡ States k → Layout (inputs stock) (outputs stock) starts out k
-  pub packed : (k : ℕ) → r ≡ States k → Packed (inputs stock) starts k
-  pub trimmed : (k : ℕ) → r ≡ States k → (M : Transducer ℕ) → Encodes (inputs stock) (outputs stock) n counts bytes M → (l : Leaf (inputs stock)) → Trimmed (alphabet (inputs stock) l) M (λ q. q < n) (machine (inputs stock) (outputs stock) starts out k) k
+pub record FormOfParts (stock : List ℕ) (n : ℕ) (counts bytes starts out : List ℕ) (r : Option ℕ) : Type 0 where
+  pub over : r ≡ None → (k : ℕ) (counts' bytes' : List ℕ) → EarliestOf stock n counts bytes k counts' bytes' → ⊥
+  pub layout : (k : ℕ) → r ≡ Some k → Layout (inputs stock) (outputs stock) starts out k
+  pub packed : (k : ℕ) → r ≡ Some k → Packed (inputs stock) starts k
+  pub trimmed : (k : ℕ) → r ≡ Some k → (M : Transducer ℕ) → Encodes (inputs stock) (outputs stock) n counts bytes M → (l : Leaf (inputs stock)) → Trimmed (alphabet (inputs stock) l) M (λ q. q < n) (machine (inputs stock) (outputs stock) starts out k) k
 
 -- a form of the transducer with n states and these counts and marks, as a file: Form says which k, counts and marks are the form's
-abbrev pub FormsFile : (ℕ → List ℕ → List ℕ → Type 0) → List ℕ → ℕ → List ℕ → List ℕ → List ℕ → List ℕ → Formed → Type 0
+abbrev pub FormsFile : (ℕ → List ℕ → List ℕ → Type 0) → List ℕ → ℕ → List ℕ → List ℕ → List ℕ → List ℕ → Result Form Refusal → Type 0
 FormsFile Form stock n counts bytes before after r =
     Judged (after ≡ before) (λ v. (counts' : List ℕ) × ((bytes' : List ℕ) × (Form v.0 counts' bytes' × FileOf v counts' bytes' before after)))
     (check 7 ((k : ℕ) × ((counts' : List ℕ) × ((bytes' : List ℕ) × EarliestOf stock n counts bytes k counts' bytes'))) done)
-    (form_of r)
+    (outcome_of r)

@@ -1,11 +1,12 @@
 -- `caplune_earliest_form` meets its contract. Assumes nothing.
+use Rattle.trees.specs.Refusal.{outcome_of}
 use mathlib.Core.Path.{refl, ap}
-use Rattle.forms.specs.Answers.{form_of}
+
 use Rattle.exports.proofs.Telling.{tells_accepted, tells_refused}
 use Rattle.exports.proofs.caplune_earliest_form.Goals as goal
 
-pub returns-in-Form : goal.returns-in-Form
-returns-in-Form c = tells_accepted c.earliest_form.result c.earliest_form.ensures (ap form_of c.in-Form.is) refl refl
+pub returns-in-Ok : goal.returns-in-Ok
+returns-in-Ok c = tells_accepted c.earliest_form.result c.earliest_form.ensures (ap outcome_of c.in-Ok.is) refl refl
 
-pub returns-in-Refused : goal.returns-in-Refused
-returns-in-Refused c = tells_refused c.earliest_form.result c.earliest_form.ensures (ap form_of c.in-Refused.is) c.number_of.ensures refl
+pub returns-in-Err : goal.returns-in-Err
+returns-in-Err c = tells_refused c.earliest_form.result c.earliest_form.ensures (ap outcome_of c.in-Err.is) c.number_of.ensures refl

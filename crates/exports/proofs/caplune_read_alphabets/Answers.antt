@@ -4,8 +4,8 @@ use Rattle.trees.specs.Answers.{alphabets_read}
 use Rattle.exports.proofs.Telling.{tells_accepted, tells_refused}
 use Rattle.exports.proofs.caplune_read_alphabets.Goals as goal
 
-pub returns-in-Symbols : goal.returns-in-Symbols
-returns-in-Symbols c = tells_accepted c.read_alphabets.result c.read_alphabets.ensures (ap alphabets_read c.in-Symbols.is) refl refl
+pub returns-in-Ok : goal.returns-in-Ok
+returns-in-Ok c = tells_accepted c.read_alphabets.result c.read_alphabets.ensures (ap alphabets_read c.in-Ok.is) refl refl
 
-pub returns-in-Refused : goal.returns-in-Refused
-returns-in-Refused c = tells_refused c.read_alphabets.result c.read_alphabets.ensures (ap alphabets_read c.in-Refused.is) c.number_of.ensures refl
+pub returns-in-Err : goal.returns-in-Err
+returns-in-Err c = tells_refused c.read_alphabets.result c.read_alphabets.ensures (ap alphabets_read c.in-Err.is) c.number_of.ensures refl

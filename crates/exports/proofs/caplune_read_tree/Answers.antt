@@ -4,8 +4,8 @@ use Rattle.trees.specs.Answers.{tree_read}
 use Rattle.exports.proofs.Telling.{tells_accepted, tells_refused}
 use Rattle.exports.proofs.caplune_read_tree.Goals as goal
 
-pub returns-in-Tree : goal.returns-in-Tree
-returns-in-Tree c = tells_accepted c.read_tree.result c.read_tree.ensures (ap tree_read c.in-Tree.is) refl refl
+pub returns-in-Some : goal.returns-in-Some
+returns-in-Some c = tells_accepted c.read_tree.result c.read_tree.ensures (ap tree_read c.in-Some.is) refl refl
 
-pub returns-in-Refused : goal.returns-in-Refused
-returns-in-Refused c = tells_refused c.read_tree.result c.read_tree.ensures (ap tree_read c.in-Refused.is) c.number_of.ensures refl
+pub returns-in-Err : goal.returns-in-Err
+returns-in-Err c = tells_refused c.read_tree.result c.read_tree.ensures (ap tree_read c.in-Err.is) c.number_of.ensures refl

@@ -1,5 +1,7 @@
 -- A form in a table of starts and marks, and the file of it.
-use Rattle.std.specs.Prelude.{ℕ, ◌+◌, ◌-◌, ◌*◌, ◌≤◌, ◌<◌, List, ◌≡◌, length, get_or}
+use Rattle.std.specs.Prelude.{Err, None, Ok, Option, Result, Some, ℕ, ◌+◌, ◌-◌, ◌*◌, ◌≤◌, ◌<◌, List, ◌≡◌, length, get_or}
+use Rattle.trees.specs.declared.refusal.Refusal.{Refusal}
+use Rattle.forms.specs.declared.write.Form.{Form}
 use Rattle.std.proofs.lemmas.List.Edits.{sets}
 use Rattle.theory.specs.NormalForm.{Identical}
 use Rattle.theory.specs.Transducer.{Transducer}
@@ -9,10 +11,6 @@ use Rattle.formats.specs.Sheet.{longest, file, Encodes}
 use Rattle.trees.specs.declared.refusal.Refusal.TheVariants.{OverLimits}
 use Rattle.forms.specs.Alphabet.{alphabet}
 use Rattle.forms.specs.Inner.Tables.{machine, Layout, Packed}
-use Rattle.forms.specs.declared.write.FormSize.{FormSize}
-use Rattle.forms.specs.declared.write.FormSize.TheVariants.{States, Over}
-use Rattle.forms.specs.declared.write.Formed.{Formed}
-use Rattle.forms.specs.declared.write.Formed.TheVariants.{Form, Refused}
 
 -- the counts of m bodies by the table of their starts
 pub record FillsCounts (starts : List ℕ) (m : ℕ) (counts : List ℕ) : Type 0 where
@@ -37,11 +35,11 @@ pub record WritesForm (stock starts bytes : List ℕ) (k : ℕ) (before after : 
   pub wrote : after ≡ sets before 0 (file k counts marks)
 
 -- what writing the form that was found asks: it stands in the table
-pub record FoundWritable (stock : List ℕ) (found : FormSize) (starts bytes area : List ℕ) : Type 0 where
-  pub each : (k : ℕ) → found ≡ States k → Writable stock starts bytes k area
+pub record FoundWritable (stock : List ℕ) (found : Option ℕ) (starts bytes area : List ℕ) : Type 0 where
+  pub each : (k : ℕ) → found ≡ Some k → Writable stock starts bytes k area
 
 -- the form with k states was written: r says how many states and marks it has, and how long its file is
-pub record FormWritten (stock : List ℕ) (k : ℕ) (starts bytes before after : List ℕ) (r : Formed) : Type 0 where
+pub record FormWritten (stock : List ℕ) (k : ℕ) (starts bytes before after : List ℕ) (r : Result Form Refusal) : Type 0 where
   pub marks : ℕ
   pub size : ℕ
   pub answer : r ≡ Form k marks size
@@ -49,6 +47,6 @@ pub record FormWritten (stock : List ℕ) (k : ℕ) (starts bytes before after :
   pub written : WritesForm stock starts bytes k before after size
 
 -- what it does: the form that was found is written; refusal 7 where it is over the limits
-pub record WritesFound (stock : List ℕ) (found : FormSize) (starts bytes before after : List ℕ) (r : Formed) : Type 0 where
-  pub over : found ≡ Over → (r ≡ Refused OverLimits) × (after ≡ before)
-  pub form : (k : ℕ) → found ≡ States k → FormWritten stock k starts bytes before after r
+pub record WritesFound (stock : List ℕ) (found : Option ℕ) (starts bytes before after : List ℕ) (r : Result Form Refusal) : Type 0 where
+  pub over : found ≡ None → (r ≡ Err OverLimits) × (after ≡ before)
+  pub form : (k : ℕ) → found ≡ Some k → FormWritten stock k starts bytes before after r

@@ -1,15 +1,14 @@
 -- Following an address through the output, which is never built.
-use Rattle.std.specs.Prelude.{ℕ, List, get_or}
+use Rattle.std.specs.Prelude.{Err, None, Ok, Option, Result, Some, ℕ, List, get_or}
+use Rattle.trees.specs.declared.refusal.Refusal.{Refusal}
 use Rattle.std.proofs.Math.Option.{Option, some, none as nothing}
 use Rattle.theory.specs.Term.{Symbol}
 use Rattle.trees.specs.Inner.Symbols.{IsTree}
 use Rattle.formats.specs.Inner.Layout.{InBounds, Wholes}
 use Rattle.transducer.specs.Inner.Written.{Input}
-use Rattle.queries.specs.declared.address.Found.{Found}
-use Rattle.queries.specs.declared.address.Found.TheVariants as finding
 
 -- the symbol at an address, or that there is none
-unfoldable pub placed : Option Symbol → Found
+unfoldable pub placed : Option Symbol → Result (Option ℕ) Refusal
 placed nothing = finding.Nowhere
 placed (some b) = finding.Symbol b.0
 

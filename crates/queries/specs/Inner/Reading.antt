@@ -1,5 +1,6 @@
 -- Reading the bodies of a table, as long as none calls a child twice: the states called are entered into a list, and the list says which bodies are next.
-use Rattle.std.specs.Prelude.{ℕ, suc, ◌+◌, ◌*◌, ◌<◌, Bool, true, false, List, [], ◌∷◌, ◌⊎◌, ◌≡◌, length}
+use Rattle.std.specs.Prelude.{Err, None, Ok, Option, Result, Some, ℕ, suc, ◌+◌, ◌*◌, ◌<◌, Bool, true, false, List, [], ◌∷◌, ◌⊎◌, ◌≡◌, length}
+use Rattle.trees.specs.declared.refusal.Refusal.{Refusal}
 use Rattle.std.proofs.Math.Option.{some}
 use Rattle.std.proofs.Math.ListN.{get_elem?}
 use Rattle.theory.specs.Inner.ReadCalls.{ReadCalls}
@@ -7,8 +8,6 @@ use Rattle.trees.specs.Code.{Mark}
 use Rattle.formats.specs.Inner.Layout.{body}
 use Rattle.discovery.specs.Inner.Queue.{Queue, met_of}
 use Rattle.queries.specs.Inner.Uses.{Once}
-use Rattle.queries.specs.declared.linear.CallsRead.{CallsRead}
-use Rattle.queries.specs.declared.linear.CallsRead.TheVariants.{Met, Twice}
 
 -- the calls among the marks
 unfoldable pub mark_calls : List Mark → List (ℕ × ℕ)
@@ -35,10 +34,10 @@ abbrev pub NotOnce : (ℕ → ℕ) → List ℕ → ℕ → ℕ → Type 0
 NotOnce start bytes b k = ((j : ℕ) → j < k → Once (body start bytes (b + j))) → ⊥
 
 -- what a reading answers: how many states have been met, and then Read holds of them; or that a child is called twice, and then Stop
-pub record Reads (Stop : Type 0) (Read : List ℕ → Type 0) (list place : List ℕ) (r : CallsRead) : Type 0 where
-  pub stop : r ≡ Twice → Stop
-  pub read : (n : ℕ) → r ≡ Met n → Read (met_of list n)
-  pub queue : (n : ℕ) → r ≡ Met n → Queue list place n
+pub record Reads (Stop : Type 0) (Read : List ℕ → Type 0) (list place : List ℕ) (r : Option ℕ) : Type 0 where
+  pub stop : r ≡ None → Stop
+  pub read : (n : ℕ) → r ≡ Some n → Read (met_of list n)
+  pub queue : (n : ℕ) → r ≡ Some n → Queue list place n
 
 -- reading came to a state of the list of which a body calls a child twice
 pub record Stopped (P : ℕ) (start : ℕ → ℕ) (bytes : List ℕ) : Type 0 where

@@ -1,5 +1,6 @@
 -- What the steps of an entry and of making answer.
-use Rattle.std.specs.Prelude.{ℕ, ◌+◌, ◌≤◌, ◌<◌, Bool, true, false, List, ◌⊎◌, ◌≡◌, eqb, length}
+use Rattle.std.specs.Prelude.{Err, None, Ok, Option, Result, Some, ℕ, ◌+◌, ◌≤◌, ◌<◌, Bool, true, false, List, ◌⊎◌, ◌≡◌, eqb, length}
+use Rattle.records.specs.declared.book.Foretold.{Foretold}
 use Rattle.std.proofs.lemmas.List.Edits.{sets}
 use Rattle.trees.specs.Refusal.{done, Holds}
 use Rattle.formats.specs.Sheet.{longest, sheet_check}
@@ -12,20 +13,12 @@ use Rattle.records.specs.Inner.Writes.{added}
 use Rattle.records.specs.declared.book.Asked.{Asked}
 use Rattle.records.specs.declared.book.Claim.{Claim}
 use Rattle.records.specs.declared.book.Claim.TheVariants as claiming
-use Rattle.records.specs.declared.book.Entered.{Entered}
-use Rattle.records.specs.declared.book.Entered.TheVariants as entering
 use Rattle.records.specs.declared.book.Entry.{Entry}
 use Rattle.records.specs.declared.book.Head.{Head}
 use Rattle.records.specs.declared.book.Located.{Located}
-use Rattle.records.specs.declared.book.Made.{Made}
-use Rattle.records.specs.declared.book.Made.TheVariants as making
 use Rattle.records.specs.declared.book.Record.{Record}
-use Rattle.records.specs.declared.book.Reply.{Reply}
-use Rattle.records.specs.declared.book.Reply.TheVariants as replying
 use Rattle.records.specs.declared.book.Started.{Started}
 use Rattle.records.specs.declared.book.Submission.{Submission}
-use Rattle.records.specs.declared.book.Verdict.{Verdict}
-use Rattle.records.specs.declared.book.Verdict.TheVariants as deciding
 
 -- ---- the search
 -- the records from 1 to `held` are there, and their bodies end within the area
@@ -39,11 +32,11 @@ abbrev pub Finds : ℕ → List Record → List ℕ → List ℕ → Located →
 Finds held rs area x f = ((f.number ≡ 0) × NotHeld held rs area x) ⊎ (Lowest held rs area x f.number × (f.its ≡ record_at rs f.number))
 
 -- ---- before the search: a registry and a clean file, or the refusal
-abbrev pub clean : Verdict
-clean = deciding.Clean
+abbrev pub clean : Result (Unit {0}) Refusal
+clean = (Ok tt)
 
 abbrev pub refused_ask : Refusal → Asked
-refused_ask r = record { verdict = deciding.Refused r; held = 0; size = 0 }
+refused_ask r = record { verdict = Err r; held = 0; size = 0 }
 
 -- x is the clean file of s under the alphabets of a registry
 pub record Cleaned (s : List ℕ) (h : Head) (rs : List Record) (area x : List ℕ) (a : Asked) : Type 0 where
@@ -56,7 +49,7 @@ pub record Cleaned (s : List ℕ) (h : Head) (rs : List Record) (area x : List �
 pub record TurnedDown (s : List ℕ) (h : Head) (rs : List Record) (area : List ℕ) (a : Asked) : Type 0 where
   pub refusal : Refusal
   pub ask : a ≡ refused_ask refusal
-  pub enters : Enters s h rs area h rs area (entering.Refused refusal)
+  pub enters : Enters s h rs area h rs area (Err refusal)
 
 abbrev pub Asks : List ℕ → Head → List Record → List ℕ → List ℕ → Asked → Type 0
 Asks s h rs area x a = Cleaned s h rs area x a ⊎ TurnedDown s h rs area a
@@ -68,9 +61,9 @@ pub record Ready (h : Head) (room : ℕ) : Type 0 where
   pub inside : h.used ≤ room
 
 -- the number that x would get, or refusal 8
-abbrev pub Numbers : Head → List Record → List ℕ → List ℕ → Entered → Type 0
-Numbers h rs area x (entering.Number n) = Gets h rs area x n
-Numbers h rs area x (entering.Refused q) = (q ≡ refusing.FullRegistry) × (HasPlace h rs area x → ⊥)
+abbrev pub Numbers : Head → List Record → List ℕ → List ℕ → Result ℕ Refusal → Type 0
+Numbers h rs area x (Ok n) = Gets h rs area x n
+Numbers h rs area x (Err q) = (q ≡ refusing.FullRegistry) × (HasPlace h rs area x → ⊥)
 
 -- n is the number that the clean file x of s would get, and r the record of n where x is held
 pub record Granted (s : List ℕ) (h : Head) (rs : List Record) (area x : List ℕ) (r : Record) (n : ℕ) : Type 0 where
@@ -81,9 +74,9 @@ pub record Granted (s : List ℕ) (h : Head) (rs : List Record) (area x : List �
   pub its : n ≤ h.held → r ≡ record_at rs n
 
 -- that number, or the refusal of an entry of s
-abbrev pub Decided : List ℕ → Head → List Record → List ℕ → List ℕ → Record → Entered → Type 0
-Decided s h rs area x r (entering.Number n) = Granted s h rs area x r n
-Decided s h rs area x r (entering.Refused q) = Enters s h rs area h rs area (entering.Refused q)
+abbrev pub Decided : List ℕ → Head → List Record → List ℕ → List ℕ → Record → Result ℕ Refusal → Type 0
+Decided s h rs area x r (Ok n) = Granted s h rs area x r n
+Decided s h rs area x r (Err q) = Enters s h rs area h rs area (Err q)
 
 -- ---- the claim
 -- what an entry says, which may get any number, and a commit, which has to get this one
@@ -93,15 +86,15 @@ any_number = record { claim = claiming.Any }
 abbrev pub this_number : ℕ → Submission
 this_number m = record { claim = claiming.Number m }
 
-abbrev pub chosen : Bool → Entered → Entered → Entered
+abbrev pub chosen : Bool → Result ℕ Refusal → Result ℕ Refusal → Result ℕ Refusal
 chosen true a b = a
 chosen false a b = b
 
-abbrev pub only_number : ℕ → Entered → Entered
-only_number m (entering.Number n) = chosen (eqb n m) (entering.Number n) (entering.Refused refusing.OtherNumber)
-only_number m (entering.Refused q) = entering.Refused q
+abbrev pub only_number : ℕ → Result ℕ Refusal → Result ℕ Refusal
+only_number m (Ok n) = chosen (eqb n m) (Ok n) (Err refusing.OtherNumber)
+only_number m (Err q) = Err q
 
-abbrev pub claimed_by : Claim → Entered → Entered
+abbrev pub claimed_by : Claim → Result ℕ Refusal → Result ℕ Refusal
 claimed_by claiming.Any a = a
 claimed_by (claiming.Number m) a = only_number m a
 
@@ -112,9 +105,9 @@ pub record Fits (h : Head) (n : ℕ) (r : Record) (area x : List ℕ) : Type 0 w
   pub count : n ≤ h.held → r.count < too_many
   pub room : h.held < n → Room h area x
 
-abbrev pub Fit : Head → Entered → Record → List ℕ → List ℕ → Type 0
-Fit h (entering.Number n) r area x = Fits h n r area x
-Fit h (entering.Refused q) r area x = Unit {0}
+abbrev pub Fit : Head → Result ℕ Refusal → Record → List ℕ → List ℕ → Type 0
+Fit h (Ok n) r area x = Fits h n r area x
+Fit h (Err q) r area x = Unit {0}
 
 -- x is put behind what is held, with the next number
 pub record Adds (h : Head) (area x : List ℕ) (r : Entry) (area' : List ℕ) : Type 0 where
@@ -122,29 +115,29 @@ pub record Adds (h : Head) (area x : List ℕ) (r : Entry) (area' : List ℕ) : 
   pub number : r.number ≡ h.held + 1
   pub new : r.new ≡ body_record h.used (length x)
   pub bodies : area' ≡ sets area h.used x
-  pub answer : r.answer ≡ entering.Number (h.held + 1)
+  pub answer : r.answer ≡ Ok (h.held + 1)
 
 -- the answer n is counted, in the head and in its record r, and nothing else changes
 pub record Counts (h : Head) (n : ℕ) (r : Record) (e : Entry) : Type 0 where
   pub head : e.head ≡ counted_head h
   pub number : e.number ≡ n
   pub new : e.new ≡ counted_record r
-  pub answer : e.answer ≡ entering.Number n
+  pub answer : e.answer ≡ Ok n
 
 abbrev pub Puts : Head → ℕ → Record → List ℕ → List ℕ → Entry → List ℕ → Type 0
 Puts h n r area x e area' = ((n ≤ h.held) × Counts h n r e × (area' ≡ area)) ⊎ ((h.held < n) × Adds h area x e area')
 
 -- a refusal as an answer, which changes nothing
-abbrev pub refused_by : Refusal → Entered
-refused_by r = entering.Refused r
+abbrev pub refused_by : Refusal → Result ℕ Refusal
+refused_by r = Err r
 
-abbrev pub unchanged : Head → Entered → Entry
+abbrev pub unchanged : Head → Result ℕ Refusal → Entry
 unchanged h a = record { head = h; number = 0; new = no_record; answer = a }
 
 -- the commit of a number, or of a refusal
-abbrev pub Settled : Head → Entered → Record → List ℕ → List ℕ → Entry → List ℕ → Type 0
-Settled h (entering.Number n) r area x e area' = Puts h n r area x e area'
-Settled h (entering.Refused q) r area x e area' = (e ≡ unchanged h (entering.Refused q)) × (area' ≡ area)
+abbrev pub Settled : Head → Result ℕ Refusal → Record → List ℕ → List ℕ → Entry → List ℕ → Type 0
+Settled h (Ok n) r area x e area' = Puts h n r area x e area'
+Settled h (Err q) r area x e area' = (e ≡ unchanged h (Err q)) × (area' ≡ area)
 
 -- after the search for x, which found f
 pub record Searched (h : Head) (a : Asked) (f : Located) (area x : List ℕ) : Type 0 where
@@ -159,16 +152,16 @@ pub record Places (s : List ℕ) (u : Submission) (h : Head) (rs : List Record) 
   pub inside : 0 < r.number → r.number < length rs
 
 -- ---- the end of a question
-abbrev pub Gave : Entered → List ℕ → List ℕ → List ℕ → Reply → Type 0
-Gave (entering.Number n) x before after r = (r ≡ replying.Number n (length x)) × (after ≡ sets before 0 x)
-Gave (entering.Refused q) x before after r = (r ≡ replying.Refused q) × (after ≡ before)
+abbrev pub Gave : Result ℕ Refusal → List ℕ → List ℕ → List ℕ → Result Foretold Refusal → Type 0
+Gave (Ok n) x before after r = (r ≡ replying.Number n (length x)) × (after ≡ sets before 0 x)
+Gave (Err q) x before after r = (r ≡ Err q) × (after ≡ before)
 
-abbrev pub Delivered : Entered → List ℕ → List ℕ → List ℕ → Reply → Type 0
-Delivered e x before after r = ((length before < longest) × (r ≡ replying.Refused refusing.ShortArea) × (after ≡ before)) ⊎ ((longest ≤ length before) × Gave e x before after r)
+abbrev pub Delivered : Result ℕ Refusal → List ℕ → List ℕ → List ℕ → Result Foretold Refusal → Type 0
+Delivered e x before after r = ((length before < longest) × (r ≡ Err refusing.ShortArea) × (after ≡ before)) ⊎ ((longest ≤ length before) × Gave e x before after r)
 
 -- ---- making
-abbrev pub refused_made : Refusal → Made
-refused_made r = making.Refused r
+abbrev pub refused_made : Refusal → Result (Unit {0}) Refusal
+refused_made r = Err r
 
-abbrev pub not_started : Head → Made → Started
+abbrev pub not_started : Head → Result (Unit {0}) Refusal → Started
 not_started h a = record { head = h; fresh = 0; answer = a }

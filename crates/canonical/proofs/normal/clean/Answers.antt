@@ -13,22 +13,22 @@ pub returns-then-area-lt20483 : goal.returns-then-area-lt20483
 returns-then-area-lt20483 c = refuse (λ h. omega (arith, c.if-area-lt20483.true)) refl
 
 pub counts_end-from-requires : goal.counts_end-from-requires
-counts_end-from-requires c = (accepted_alphabets c.args.stock.now c.args.sheet.now c.in-States.n c.read_transducer.ensures c.in-States.is, omega (arith, accepted_states c.args.stock.now c.args.sheet.now c.in-States.n c.read_transducer.ensures c.in-States.is))
+counts_end-from-requires c = (accepted_alphabets c.args.stock.now c.args.sheet.now c.in-Ok.n c.read_transducer.ensures c.in-Ok.is, omega (arith, accepted_states c.args.stock.now c.args.sheet.now c.in-Ok.n c.read_transducer.ensures c.in-Ok.is))
 
 pub slice_bounds-clean_file-end : goal.slice_bounds-clean_file-end
-slice_bounds-clean_file-end c = omega (arith, c.counts_end-from.ensures, accepted_long c.args.stock.now c.args.sheet.now c.in-States.n c.read_transducer.ensures c.in-States.is)
+slice_bounds-clean_file-end c = omega (arith, c.counts_end-from.ensures, accepted_long c.args.stock.now c.args.sheet.now c.in-Ok.n c.read_transducer.ensures c.in-Ok.is)
 
-pub slice_bounds-clean_file-count-in-States : goal.slice_bounds-clean_file-count-in-States
-slice_bounds-clean_file-count-in-States c = omega (arith, c.counts_end-from.ensures, accepted_long c.args.stock.now c.args.sheet.now c.in-States.n c.read_transducer.ensures c.in-States.is)
+pub slice_bounds-clean_file-count-in-Ok : goal.slice_bounds-clean_file-count-in-Ok
+slice_bounds-clean_file-count-in-Ok c = omega (arith, c.counts_end-from.ensures, accepted_long c.args.stock.now c.args.sheet.now c.in-Ok.n c.read_transducer.ensures c.in-Ok.is)
 
-pub slice_bounds-clean_file-start-in-States : goal.slice_bounds-clean_file-start-in-States
-slice_bounds-clean_file-start-in-States c = omega (arith, c.counts_end-from.ensures, accepted_long c.args.stock.now c.args.sheet.now c.in-States.n c.read_transducer.ensures c.in-States.is)
+pub slice_bounds-clean_file-start-in-Ok : goal.slice_bounds-clean_file-start-in-Ok
+slice_bounds-clean_file-start-in-Ok c = omega (arith, c.counts_end-from.ensures, accepted_long c.args.stock.now c.args.sheet.now c.in-Ok.n c.read_transducer.ensures c.in-Ok.is)
 
 pub clean_file-requires : goal.clean_file-requires
-clean_file-requires c = (opened_machine (opened_at c.args.stock.now c.args.sheet.now c.in-States.n c.read_transducer.ensures c.in-States.is c.counts_end-from.result c.counts_end-from.ensures refl), omega (arith, c.if-area-lt20483.false))
+clean_file-requires c = (opened_machine (opened_at c.args.stock.now c.args.sheet.now c.in-Ok.n c.read_transducer.ensures c.in-Ok.is c.counts_end-from.result c.counts_end-from.ensures refl), omega (arith, c.if-area-lt20483.false))
 
-pub returns-in-States : goal.returns-in-States
-returns-in-States c = file_cleaned (opened_at c.args.stock.now c.args.sheet.now c.in-States.n c.read_transducer.ensures c.in-States.is c.counts_end-from.result c.counts_end-from.ensures refl) (omega (arith, c.if-area-lt20483.false)) c.clean_file.result c.clean_file.ensures
+pub returns-in-Ok : goal.returns-in-Ok
+returns-in-Ok c = file_cleaned (opened_at c.args.stock.now c.args.sheet.now c.in-Ok.n c.read_transducer.ensures c.in-Ok.is c.counts_end-from.result c.counts_end-from.ensures refl) (omega (arith, c.if-area-lt20483.false)) c.clean_file.result c.clean_file.ensures
 
-pub returns-in-Refused : goal.returns-in-Refused
-returns-in-Refused c = pass (omega (arith, c.if-area-lt20483.false)) (not_opened c.args.stock.now c.args.sheet.now (form_check c.args.stock.now c.args.sheet.now done) refl c.read_transducer.ensures c.in-Refused.is)
+pub returns-in-Err : goal.returns-in-Err
+returns-in-Err c = pass (omega (arith, c.if-area-lt20483.false)) (not_opened c.args.stock.now c.args.sheet.now (form_check c.args.stock.now c.args.sheet.now done) refl c.read_transducer.ensures c.in-Err.is)

@@ -17,37 +17,37 @@ pub returns-then-address-lt16128 : goal.returns-then-address-lt16128
 returns-then-address-lt16128 c = refuse (λ h. omega (arith, c.if-address-lt16128.true, h.1)) (refl, refl)
 
 pub counts_end-from1-requires : goal.counts_end-from1-requires
-counts_end-from1-requires c = (accepted_alphabets c.args.stock.now c.args.first.now c.in-States.n1 c.read_transducer.ensures c.in-States.is, omega (arith, accepted_states c.args.stock.now c.args.first.now c.in-States.n1 c.read_transducer.ensures c.in-States.is))
+counts_end-from1-requires c = (accepted_alphabets c.args.stock.now c.args.first.now c.in-Ok.n1 c.read_transducer.ensures c.in-Ok.is, omega (arith, accepted_states c.args.stock.now c.args.first.now c.in-Ok.n1 c.read_transducer.ensures c.in-Ok.is))
 
 pub counts_end-from2-requires : goal.counts_end-from2-requires
-counts_end-from2-requires c = (accepted_alphabets c.args.stock.now c.args.second.now c.in-States-read_transducer.n2 c.read_transducer-in-States.ensures c.in-States-read_transducer.is, omega (arith, accepted_states c.args.stock.now c.args.second.now c.in-States-read_transducer.n2 c.read_transducer-in-States.ensures c.in-States-read_transducer.is))
+counts_end-from2-requires c = (accepted_alphabets c.args.stock.now c.args.second.now c.in-Ok-read_transducer.n2 c.read_transducer-in-Ok.ensures c.in-Ok-read_transducer.is, omega (arith, accepted_states c.args.stock.now c.args.second.now c.in-Ok-read_transducer.n2 c.read_transducer-in-Ok.ensures c.in-Ok-read_transducer.is))
 
 pub slice_bounds-compare_parts-end : goal.slice_bounds-compare_parts-end
-slice_bounds-compare_parts-end c = omega (arith, c.counts_end-from1.ensures, accepted_long c.args.stock.now c.args.first.now c.in-States.n1 c.read_transducer.ensures c.in-States.is)
+slice_bounds-compare_parts-end c = omega (arith, c.counts_end-from1.ensures, accepted_long c.args.stock.now c.args.first.now c.in-Ok.n1 c.read_transducer.ensures c.in-Ok.is)
 
-pub slice_bounds-compare_parts-count-in-States-read_transducer : goal.slice_bounds-compare_parts-count-in-States-read_transducer
-slice_bounds-compare_parts-count-in-States-read_transducer c = omega (arith, c.counts_end-from1.ensures, accepted_long c.args.stock.now c.args.first.now c.in-States.n1 c.read_transducer.ensures c.in-States.is)
+pub slice_bounds-compare_parts-count-in-Ok-read_transducer : goal.slice_bounds-compare_parts-count-in-Ok-read_transducer
+slice_bounds-compare_parts-count-in-Ok-read_transducer c = omega (arith, c.counts_end-from1.ensures, accepted_long c.args.stock.now c.args.first.now c.in-Ok.n1 c.read_transducer.ensures c.in-Ok.is)
 
-pub slice_bounds-compare_parts-start-in-States-read_transducer : goal.slice_bounds-compare_parts-start-in-States-read_transducer
-slice_bounds-compare_parts-start-in-States-read_transducer c = omega (arith, c.counts_end-from1.ensures, accepted_long c.args.stock.now c.args.first.now c.in-States.n1 c.read_transducer.ensures c.in-States.is)
+pub slice_bounds-compare_parts-start-in-Ok-read_transducer : goal.slice_bounds-compare_parts-start-in-Ok-read_transducer
+slice_bounds-compare_parts-start-in-Ok-read_transducer c = omega (arith, c.counts_end-from1.ensures, accepted_long c.args.stock.now c.args.first.now c.in-Ok.n1 c.read_transducer.ensures c.in-Ok.is)
 
-pub slice_bounds-compare_parts-end-in-States-read_transducer-2 : goal.slice_bounds-compare_parts-end-in-States-read_transducer-2
-slice_bounds-compare_parts-end-in-States-read_transducer-2 c = omega (arith, c.counts_end-from2.ensures, accepted_long c.args.stock.now c.args.second.now c.in-States-read_transducer.n2 c.read_transducer-in-States.ensures c.in-States-read_transducer.is)
+pub slice_bounds-compare_parts-end-in-Ok-read_transducer-2 : goal.slice_bounds-compare_parts-end-in-Ok-read_transducer-2
+slice_bounds-compare_parts-end-in-Ok-read_transducer-2 c = omega (arith, c.counts_end-from2.ensures, accepted_long c.args.stock.now c.args.second.now c.in-Ok-read_transducer.n2 c.read_transducer-in-Ok.ensures c.in-Ok-read_transducer.is)
 
-pub slice_bounds-compare_parts-count-in-States-read_transducer-3 : goal.slice_bounds-compare_parts-count-in-States-read_transducer-3
-slice_bounds-compare_parts-count-in-States-read_transducer-3 c = omega (arith, c.counts_end-from2.ensures, accepted_long c.args.stock.now c.args.second.now c.in-States-read_transducer.n2 c.read_transducer-in-States.ensures c.in-States-read_transducer.is)
+pub slice_bounds-compare_parts-count-in-Ok-read_transducer-3 : goal.slice_bounds-compare_parts-count-in-Ok-read_transducer-3
+slice_bounds-compare_parts-count-in-Ok-read_transducer-3 c = omega (arith, c.counts_end-from2.ensures, accepted_long c.args.stock.now c.args.second.now c.in-Ok-read_transducer.n2 c.read_transducer-in-Ok.ensures c.in-Ok-read_transducer.is)
 
-pub slice_bounds-compare_parts-start-in-States-read_transducer-3 : goal.slice_bounds-compare_parts-start-in-States-read_transducer-3
-slice_bounds-compare_parts-start-in-States-read_transducer-3 c = omega (arith, c.counts_end-from2.ensures, accepted_long c.args.stock.now c.args.second.now c.in-States-read_transducer.n2 c.read_transducer-in-States.ensures c.in-States-read_transducer.is)
+pub slice_bounds-compare_parts-start-in-Ok-read_transducer-3 : goal.slice_bounds-compare_parts-start-in-Ok-read_transducer-3
+slice_bounds-compare_parts-start-in-Ok-read_transducer-3 c = omega (arith, c.counts_end-from2.ensures, accepted_long c.args.stock.now c.args.second.now c.in-Ok-read_transducer.n2 c.read_transducer-in-Ok.ensures c.in-Ok-read_transducer.is)
 
 pub compare_parts-requires : goal.compare_parts-requires
-compare_parts-requires c = (opened_machine (opened_at c.args.stock.now c.args.first.now c.in-States.n1 c.read_transducer.ensures c.in-States.is c.counts_end-from1.result c.counts_end-from1.ensures refl), opened_machine (opened_at c.args.stock.now c.args.second.now c.in-States-read_transducer.n2 c.read_transducer-in-States.ensures c.in-States-read_transducer.is c.counts_end-from2.result c.counts_end-from2.ensures refl), omega (arith, c.if-tree-lt1536.false), omega (arith, c.if-address-lt16128.false))
+compare_parts-requires c = (opened_machine (opened_at c.args.stock.now c.args.first.now c.in-Ok.n1 c.read_transducer.ensures c.in-Ok.is c.counts_end-from1.result c.counts_end-from1.ensures refl), opened_machine (opened_at c.args.stock.now c.args.second.now c.in-Ok-read_transducer.n2 c.read_transducer-in-Ok.ensures c.in-Ok-read_transducer.is c.counts_end-from2.result c.counts_end-from2.ensures refl), omega (arith, c.if-tree-lt1536.false), omega (arith, c.if-address-lt16128.false))
 
-pub returns-in-States-read_transducer : goal.returns-in-States-read_transducer
-returns-in-States-read_transducer c = files_compared (opened_at c.args.stock.now c.args.first.now c.in-States.n1 c.read_transducer.ensures c.in-States.is c.counts_end-from1.result c.counts_end-from1.ensures refl) (opened_at c.args.stock.now c.args.second.now c.in-States-read_transducer.n2 c.read_transducer-in-States.ensures c.in-States-read_transducer.is c.counts_end-from2.result c.counts_end-from2.ensures refl) (omega (arith, c.if-tree-lt1536.false)) (omega (arith, c.if-address-lt16128.false)) c.compare_parts.result c.compare_parts.ensures
+pub returns-in-Ok-read_transducer : goal.returns-in-Ok-read_transducer
+returns-in-Ok-read_transducer c = files_compared (opened_at c.args.stock.now c.args.first.now c.in-Ok.n1 c.read_transducer.ensures c.in-Ok.is c.counts_end-from1.result c.counts_end-from1.ensures refl) (opened_at c.args.stock.now c.args.second.now c.in-Ok-read_transducer.n2 c.read_transducer-in-Ok.ensures c.in-Ok-read_transducer.is c.counts_end-from2.result c.counts_end-from2.ensures refl) (omega (arith, c.if-tree-lt1536.false)) (omega (arith, c.if-address-lt16128.false)) c.compare_parts.result c.compare_parts.ensures
 
-pub returns-in-Refused-read_transducer : goal.returns-in-Refused-read_transducer
-returns-in-Refused-read_transducer c = pass (omega (arith, c.if-tree-lt1536.false), omega (arith, c.if-address-lt16128.false)) (second_refused (opened_at c.args.stock.now c.args.first.now c.in-States.n1 c.read_transducer.ensures c.in-States.is _ refl refl) c.args.second.now (form_check c.args.stock.now c.args.first.now (form_check c.args.stock.now c.args.second.now done)) (refl, refl) c.read_transducer-in-States.ensures c.in-Refused-read_transducer.is)
+pub returns-in-Err-read_transducer : goal.returns-in-Err-read_transducer
+returns-in-Err-read_transducer c = pass (omega (arith, c.if-tree-lt1536.false), omega (arith, c.if-address-lt16128.false)) (second_refused (opened_at c.args.stock.now c.args.first.now c.in-Ok.n1 c.read_transducer.ensures c.in-Ok.is _ refl refl) c.args.second.now (form_check c.args.stock.now c.args.first.now (form_check c.args.stock.now c.args.second.now done)) (refl, refl) c.read_transducer-in-Ok.ensures c.in-Err-read_transducer.is)
 
-pub returns-in-Refused : goal.returns-in-Refused
-returns-in-Refused c = pass (omega (arith, c.if-tree-lt1536.false), omega (arith, c.if-address-lt16128.false)) (not_opened c.args.stock.now c.args.first.now (sheet_check c.args.stock.now c.args.second.now (form_check c.args.stock.now c.args.first.now (form_check c.args.stock.now c.args.second.now done))) (refl, refl) c.read_transducer.ensures c.in-Refused.is)
+pub returns-in-Err : goal.returns-in-Err
+returns-in-Err c = pass (omega (arith, c.if-tree-lt1536.false), omega (arith, c.if-address-lt16128.false)) (not_opened c.args.stock.now c.args.first.now (sheet_check c.args.stock.now c.args.second.now (form_check c.args.stock.now c.args.first.now (form_check c.args.stock.now c.args.second.now done))) (refl, refl) c.read_transducer.ensures c.in-Err.is)

@@ -3,10 +3,10 @@ use Rattle.comparison.proofs.Comparing.{parts_over, early_form, parts_with}
 use Rattle.comparison.proofs.compare.compare_parts.Goals as goal
 
 pub compare_with-requires : goal.compare_with-requires
-compare_with-requires c = (early_form c.requires.0 c.form_of_parts.ensures c.in-States.is, c.requires.1, c.requires.2, c.requires.3)
+compare_with-requires c = (early_form c.requires.0 c.form_of_parts.ensures c.in-Ok.is, c.requires.1, c.requires.2, c.requires.3)
 
-pub returns-in-States : goal.returns-in-States
-returns-in-States c = parts_with c.requires.0 c.form_of_parts.ensures c.in-States.is c.compare_with.result c.compare_with.ensures
+pub returns-in-Ok : goal.returns-in-Ok
+returns-in-Ok c = parts_with c.requires.0 c.form_of_parts.ensures c.in-Ok.is c.compare_with.result c.compare_with.ensures
 
-pub returns-in-Over : goal.returns-in-Over
-returns-in-Over c = parts_over c.requires.0 c.form_of_parts.ensures c.in-Over.is
+pub returns-in-None : goal.returns-in-None
+returns-in-None c = parts_over c.requires.0 c.form_of_parts.ensures c.in-None.is

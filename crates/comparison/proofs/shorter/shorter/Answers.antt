@@ -14,5 +14,5 @@ returns-else-right-left c = shorter_left c.compare.ensures c.in-Alike.is c.trans
 pub returns-in-Differ : goal.returns-in-Differ
 returns-in-Differ c = shorter_differ c.compare.ensures c.in-Differ.is
 
-pub returns-in-Refused : goal.returns-in-Refused
-returns-in-Refused c = shorter_refused c.compare.ensures (omega (arith, length-replicate {A = ℕ} 1536 0)) (omega (arith, length-replicate {A = ℕ} 16128 0)) c.in-Refused.is
+pub returns-in-Err : goal.returns-in-Err
+returns-in-Err c = shorter_refused c.compare.ensures (omega (arith, length-replicate {A = ℕ} 1536 0)) (omega (arith, length-replicate {A = ℕ} 16128 0)) c.in-Err.is

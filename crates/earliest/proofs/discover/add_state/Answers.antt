@@ -36,23 +36,23 @@ overflow_add-p-in-loop-a c = omega (arith, stage_room (by_numbers c.requires.0.e
 pub add_body-requires : goal.add_body-requires
 add_body-requires c = stage_ready (by_numbers c.requires.0.expanding) c.requires.0.leaf c.loop-a.invariant.4 c.loop-a-test.true c.find_rhs-span.ensures
 
-pub shape_of-letters-in-Over : goal.shape_of-letters-in-Over
-shape_of-letters-in-Over c = c.find_rhs-span.auto.letters ∙ c.loop-a.invariant.1
+pub shape_of-letters-in-None : goal.shape_of-letters-in-None
+shape_of-letters-in-None c = c.find_rhs-span.auto.letters ∙ c.loop-a.invariant.1
 
-pub shape_of-starts2-in-Over : goal.shape_of-starts2-in-Over
-shape_of-starts2-in-Over c = c.add_body.auto.starts ∙ c.loop-a.invariant.2
+pub shape_of-starts2-in-None : goal.shape_of-starts2-in-None
+shape_of-starts2-in-None c = c.add_body.auto.starts ∙ c.loop-a.invariant.2
 
-pub shape_of-out-in-Over : goal.shape_of-out-in-Over
-shape_of-out-in-Over c = c.add_body.auto.out ∙ (c.loop-a.invariant.4.bodies.room ∙ sym c.requires.1.bodies.room)
+pub shape_of-out-in-None : goal.shape_of-out-in-None
+shape_of-out-in-None c = c.add_body.auto.out ∙ (c.loop-a.invariant.4.bodies.room ∙ sym c.requires.1.bodies.room)
 
-pub shape_of-list-in-Over : goal.shape_of-list-in-Over
-shape_of-list-in-Over c = c.add_body.auto.list ∙ c.loop-a.invariant.3
+pub shape_of-list-in-None : goal.shape_of-list-in-None
+shape_of-list-in-None c = c.add_body.auto.list ∙ c.loop-a.invariant.3
 
-pub shape_of-place-in-Over : goal.shape_of-place-in-Over
-shape_of-place-in-Over c = c.add_body.auto.place ∙ (c.loop-a.invariant.4.bodies.wide ∙ sym c.requires.1.bodies.wide)
+pub shape_of-place-in-None : goal.shape_of-place-in-None
+shape_of-place-in-None c = c.add_body.auto.place ∙ (c.loop-a.invariant.4.bodies.wide ∙ sym c.requires.1.bodies.wide)
 
-pub returns-in-Over : goal.returns-in-Over
-returns-in-Over c = adds_none (stage_over (by_numbers c.requires.0.expanding) c.loop-a.invariant.4 c.loop-a-test.true (found_spelt c.find_rhs-span.ensures) (c.add_body.ensures.over c.in-Over.is))
+pub returns-in-None : goal.returns-in-None
+returns-in-None c = adds_none (stage_over (by_numbers c.requires.0.expanding) c.loop-a.invariant.4 c.loop-a-test.true (found_spelt c.find_rhs-span.ensures) (c.add_body.ensures.over c.in-None.is))
 
 pub overflow_add-a : goal.overflow_add-a
 overflow_add-a c = omega (arith, c.loop-a-test.true, c.well_formed.0.0)
@@ -62,7 +62,7 @@ loop-a-preserved c =
     let G = c.requires.0 in
     let T = c.loop-a.invariant in
     let k = c.add_body in
-    (omega (arith, c.loop-a-test.true), c.find_rhs-span.auto.letters ∙ T.1, k.auto.starts ∙ T.2, k.auto.list ∙ T.3, stage_next (by_numbers G.expanding) G.leaf T.4 c.loop-a-test.true k.ensures c.in-States.is (found_spelt c.find_rhs-span.ensures))
+    (omega (arith, c.loop-a-test.true), c.find_rhs-span.auto.letters ∙ T.1, k.auto.starts ∙ T.2, k.auto.list ∙ T.3, stage_next (by_numbers G.expanding) G.leaf T.4 c.loop-a-test.true k.ensures c.in-Ok.is (found_spelt c.find_rhs-span.ensures))
 
 pub shape_of-letters : goal.shape_of-letters
 shape_of-letters c = c.loop-a.invariant.1

@@ -14,23 +14,23 @@ add_state-requires c =
     let T = c.loop-p.invariant in
     (record { expanding = G.expanding; leaf = G.leaf; room = omega (arith, G.room, T.0) }, T.3, c.loop-p-test.true)
 
-pub shape_of-letters-in-Over : goal.shape_of-letters-in-Over
-shape_of-letters-in-Over c = c.add_state.auto.letters ∙ c.loop-p.invariant.0
+pub shape_of-letters-in-None : goal.shape_of-letters-in-None
+shape_of-letters-in-None c = c.add_state.auto.letters ∙ c.loop-p.invariant.0
 
-pub shape_of-starts2-in-Over : goal.shape_of-starts2-in-Over
-shape_of-starts2-in-Over c = c.add_state.auto.starts2 ∙ c.loop-p.invariant.1
+pub shape_of-starts2-in-None : goal.shape_of-starts2-in-None
+shape_of-starts2-in-None c = c.add_state.auto.starts2 ∙ c.loop-p.invariant.1
 
-pub shape_of-out-in-Over : goal.shape_of-out-in-Over
-shape_of-out-in-Over c = c.add_state.auto.out ∙ (c.loop-p.invariant.3.bodies.room ∙ sym c.requires.1.bodies.room)
+pub shape_of-out-in-None : goal.shape_of-out-in-None
+shape_of-out-in-None c = c.add_state.auto.out ∙ (c.loop-p.invariant.3.bodies.room ∙ sym c.requires.1.bodies.room)
 
-pub shape_of-list-in-Over : goal.shape_of-list-in-Over
-shape_of-list-in-Over c = c.add_state.auto.list ∙ c.loop-p.invariant.2
+pub shape_of-list-in-None : goal.shape_of-list-in-None
+shape_of-list-in-None c = c.add_state.auto.list ∙ c.loop-p.invariant.2
 
-pub shape_of-place-in-Over : goal.shape_of-place-in-Over
-shape_of-place-in-Over c = c.add_state.auto.place ∙ (c.loop-p.invariant.3.bodies.wide ∙ sym c.requires.1.bodies.wide)
+pub shape_of-place-in-None : goal.shape_of-place-in-None
+shape_of-place-in-None c = c.add_state.auto.place ∙ (c.loop-p.invariant.3.bodies.wide ∙ sym c.requires.1.bodies.wide)
 
-pub returns-in-Over : goal.returns-in-Over
-returns-in-Over c = none_all (c.add_state.ensures.over c.in-Over.is)
+pub returns-in-None : goal.returns-in-None
+returns-in-None c = none_all (c.add_state.ensures.over c.in-None.is)
 
 pub overflow_add-p : goal.overflow_add-p
 overflow_add-p c = omega (arith, c.loop-p-test.true, c.loop-p.invariant.3.bodies.few)
@@ -42,7 +42,7 @@ pub loop-p-preserved : goal.loop-p-preserved
 loop-p-preserved c =
     let T = c.loop-p.invariant in
     let k = c.add_state in
-    (k.auto.letters ∙ T.0, k.auto.starts2 ∙ T.1, k.auto.list ∙ T.2, k.ensures.found c.in-States.m c.in-States.is)
+    (k.auto.letters ∙ T.0, k.auto.starts2 ∙ T.1, k.auto.list ∙ T.2, k.ensures.found c.in-Ok.m c.in-Ok.is)
 
 pub shape_of-letters : goal.shape_of-letters
 shape_of-letters c = c.loop-p.invariant.0

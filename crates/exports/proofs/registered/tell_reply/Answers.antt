@@ -1,11 +1,12 @@
 -- `tell_reply` meets its contract. Assumes nothing.
+use Rattle.trees.specs.Refusal.{outcome_of}
 use mathlib.Core.Path.{refl, ap}
-use Rattle.records.specs.Answers.{reply_of}
+
 use Rattle.exports.proofs.Telling.{tells_accepted, tells_refused}
 use Rattle.exports.proofs.registered.tell_reply.Goals as goal
 
-pub returns-in-Number : goal.returns-in-Number
-returns-in-Number c = tells_accepted c.args.answer refl (ap reply_of c.in-Number.is) refl refl
+pub returns-in-Ok : goal.returns-in-Ok
+returns-in-Ok c = tells_accepted c.args.answer refl (ap outcome_of c.in-Ok.is) refl refl
 
-pub returns-in-Refused : goal.returns-in-Refused
-returns-in-Refused c = tells_refused c.args.answer refl (ap reply_of c.in-Refused.is) c.number_of.ensures refl
+pub returns-in-Err : goal.returns-in-Err
+returns-in-Err c = tells_refused c.args.answer refl (ap outcome_of c.in-Err.is) c.number_of.ensures refl

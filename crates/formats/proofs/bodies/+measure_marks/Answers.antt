@@ -63,10 +63,10 @@ loop-left-init t c =
     first_child_lem here (letter_symbol a.outs.now a.n a.r w.result v.result (omega arith) c.if-x-outs.false ∙ ap (symbol v.result) (sym c.wide-left.ensures)) (omega arith)
 
 pub loop-left-preserved : goal.loop-left-preserved
-loop-left-preserved t c = next_child c.loop-left.invariant c.loop-left-test.true c.measure_marks.ensures (0, 0) c.in-Tree.is c.larger-deep.ensures
+loop-left-preserved t c = next_child c.loop-left.invariant c.loop-left-test.true c.measure_marks.ensures (0, 0) c.in-Some.is c.larger-deep.ensures
 
-pub returns-in-Bad : goal.returns-in-Bad
-returns-in-Bad t c = no_child c.loop-left.invariant c.loop-left-test.true c.measure_marks.ensures c.in-Bad.is
+pub returns-in-None : goal.returns-in-None
+returns-in-None t c = no_child c.loop-left.invariant c.loop-left-test.true c.measure_marks.ensures c.in-None.is
 
 pub returns : goal.returns
 returns t c = node_done c.loop-left.invariant (omega arith)

@@ -8,13 +8,13 @@ use Rattle.formats.proofs.file.transducer_counts.Goals as goal
 pub counts_end-to-requires : goal.counts_end-to-requires
 counts_end-to-requires c =
     let J = c.read_transducer.ensures in
-    (accepted_alphabets c.args.stock.now c.args.sheet.now c.in-States.n J c.in-States.is, omega (arith, accepted_states c.args.stock.now c.args.sheet.now c.in-States.n J c.in-States.is))
+    (accepted_alphabets c.args.stock.now c.args.sheet.now c.in-Ok.n J c.in-Ok.is, omega (arith, accepted_states c.args.stock.now c.args.sheet.now c.in-Ok.n J c.in-Ok.is))
 
 pub slice_bounds-result-end : goal.slice_bounds-result-end
-slice_bounds-result-end c = omega (arith, c.counts_end-to.ensures, accepted_long c.args.stock.now c.args.sheet.now c.in-States.n c.read_transducer.ensures c.in-States.is)
+slice_bounds-result-end c = omega (arith, c.counts_end-to.ensures, accepted_long c.args.stock.now c.args.sheet.now c.in-Ok.n c.read_transducer.ensures c.in-Ok.is)
 
-pub returns-in-States : goal.returns-in-States
-returns-in-States c = counts_handed c.args.stock.now c.args.sheet.now c.in-States.n c.read_transducer.ensures c.in-States.is c.counts_end-to.result c.counts_end-to.ensures
+pub returns-in-Ok : goal.returns-in-Ok
+returns-in-Ok c = counts_handed c.args.stock.now c.args.sheet.now c.in-Ok.n c.read_transducer.ensures c.in-Ok.is c.counts_end-to.result c.counts_end-to.ensures
 
-pub returns-in-Refused : goal.returns-in-Refused
-returns-in-Refused c = inr (none_handed c.args.stock.now c.args.sheet.now c.in-Refused.field-0 c.read_transducer.ensures c.in-Refused.is, refl)
+pub returns-in-Err : goal.returns-in-Err
+returns-in-Err c = inr (none_handed c.args.stock.now c.args.sheet.now c.in-Err.field-0 c.read_transducer.ensures c.in-Err.is, refl)

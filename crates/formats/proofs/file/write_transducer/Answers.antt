@@ -17,11 +17,11 @@ judge_parts-requires c = held c.alphabets_right.ensures c.if-not-alphabets_right
 
 pub put_file-size-requires : goal.put_file-size-requires
 put_file-size-requires c =
-    let w = file_fits c.args.stock.now c.args.n c.args.counts.now c.args.marks.now (held c.alphabets_right.ensures c.if-not-alphabets_right.false-raw) c.judge_parts.ensures c.in-States.m c.in-States.is in
+    let w = file_fits c.args.stock.now c.args.n c.args.counts.now c.args.marks.now (held c.alphabets_right.ensures c.if-not-alphabets_right.false-raw) c.judge_parts.ensures c.in-Ok.m c.in-Ok.is in
     (w.0, omega (arith, w.1, c.if-area-lt20483.false))
 
-pub returns-in-States : goal.returns-in-States
-returns-in-States c = file_written_lem c.args.stock.now c.args.n c.args.counts.now c.args.marks.now (held c.alphabets_right.ensures c.if-not-alphabets_right.false-raw) c.judge_parts.ensures c.in-States.m c.in-States.is (omega (arith, c.if-area-lt20483.false)) c.put_file-size.ensures
+pub returns-in-Ok : goal.returns-in-Ok
+returns-in-Ok c = file_written_lem c.args.stock.now c.args.n c.args.counts.now c.args.marks.now (held c.alphabets_right.ensures c.if-not-alphabets_right.false-raw) c.judge_parts.ensures c.in-Ok.m c.in-Ok.is (omega (arith, c.if-area-lt20483.false)) c.put_file-size.ensures
 
-pub returns-in-Refused : goal.returns-in-Refused
-returns-in-Refused c = not_written c.args.stock.now c.args.n c.args.counts.now c.args.marks.now (held c.alphabets_right.ensures c.if-not-alphabets_right.false-raw) c.judge_parts.ensures c.in-Refused.r c.in-Refused.is (omega (arith, c.if-area-lt20483.false))
+pub returns-in-Err : goal.returns-in-Err
+returns-in-Err c = not_written c.args.stock.now c.args.n c.args.counts.now c.args.marks.now (held c.alphabets_right.ensures c.if-not-alphabets_right.false-raw) c.judge_parts.ensures c.in-Err.r c.in-Err.is (omega (arith, c.if-area-lt20483.false))

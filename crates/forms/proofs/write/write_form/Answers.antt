@@ -35,12 +35,12 @@ slice_bounds-write_transducer-end c = omega (arith, (form_bounds c.requires c.in
 pub slice_bounds-write_transducer-end-2 : goal.slice_bounds-write_transducer-end-2
 slice_bounds-write_transducer-end-2 c = omega (arith, c.number-end.ensures, (form_bounds c.requires c.input_ranks.ensures).3)
 
-pub returns-in-Bytes : goal.returns-in-Bytes
-returns-in-Bytes c =
+pub returns-in-Ok : goal.returns-in-Ok
+returns-in-Ok c =
     let f = c.fill_counts in
-    form_written c.requires c.input_ranks.ensures f.new.counts (f.auto.counts ∙ length-replicate {A = ℕ} 4098 0) f.ensures c.number-end.ensures c.write_transducer.result c.write_transducer.ensures c.in-Bytes.size c.in-Bytes.is
+    form_written c.requires c.input_ranks.ensures f.new.counts (f.auto.counts ∙ length-replicate {A = ℕ} 4098 0) f.ensures c.number-end.ensures c.write_transducer.result c.write_transducer.ensures c.in-Ok.size c.in-Ok.is
 
-pub returns-in-Refused : goal.returns-in-Refused
-returns-in-Refused c =
+pub returns-in-Err : goal.returns-in-Err
+returns-in-Err c =
     let f = c.fill_counts in
-    absurd (form_refused c.requires c.input_ranks.ensures f.new.counts (f.auto.counts ∙ length-replicate {A = ℕ} 4098 0) f.ensures c.number-end.ensures c.write_transducer.result c.write_transducer.ensures c.in-Refused.field-0 c.in-Refused.is)
+    absurd (form_refused c.requires c.input_ranks.ensures f.new.counts (f.auto.counts ∙ length-replicate {A = ℕ} 4098 0) f.ensures c.number-end.ensures c.write_transducer.result c.write_transducer.ensures c.in-Err.field-0 c.in-Err.is)

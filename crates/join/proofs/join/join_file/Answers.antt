@@ -8,10 +8,10 @@ pub slice_bounds-write_found-end : goal.slice_bounds-write_found-end
 slice_bounds-write_found-end c = omega (arith, c.join_stocks-size.ensures.inside)
 
 pub write_found-requires : goal.write_found-requires
-write_found-requires c = found_writes c.requires.0 c.join_stocks-size.ensures c.join_parts.ensures c.in-States.is c.requires.1
+write_found-requires c = found_writes c.requires.0 c.join_stocks-size.ensures c.join_parts.ensures c.in-Ok.is c.requires.1
 
-pub returns-in-States : goal.returns-in-States
-returns-in-States c = found_joined c.requires.0 c.join_stocks-size.ensures c.join_parts.ensures c.in-States.is c.write_found.ensures
+pub returns-in-Ok : goal.returns-in-Ok
+returns-in-Ok c = found_joined c.requires.0 c.join_stocks-size.ensures c.join_parts.ensures c.in-Ok.is c.write_found.ensures
 
-pub returns-in-Over : goal.returns-in-Over
-returns-in-Over c = file_over c.join_parts.ensures c.requires.0 c.in-Over.is
+pub returns-in-None : goal.returns-in-None
+returns-in-None c = file_over c.join_parts.ensures c.requires.0 c.in-None.is

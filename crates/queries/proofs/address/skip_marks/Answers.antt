@@ -21,15 +21,15 @@ pub loop-left-preserved : goal.loop-left-preserved
 loop-left-preserved c =
     let a = c.args in
     let l = c.loop-left in
-    let w = next_mark (mark_of a.outs.now a.n a.r) (take a.to (pairs a.marks.now)) (a.to - l.p) l.p l.left _ _ c.loop-left-test.true l.invariant.0 (sym c.measure_marks.ensures ∙ c.in-Tree.is) in
+    let w = next_mark (mark_of a.outs.now a.n a.r) (take a.to (pairs a.marks.now)) (a.to - l.p) l.p l.left _ _ c.loop-left-test.true l.invariant.0 (sym c.measure_marks.ensures ∙ c.in-Some.is) in
     (w.0, w.1 ∙ l.invariant.1)
 
-pub returns-in-Bad : goal.returns-in-Bad
-returns-in-Bad c =
+pub returns-in-None : goal.returns-in-None
+returns-in-None c =
     let a = c.args in
     let l = c.loop-left in
     let z = marks_length a.marks.now a.to c.requires.0 in
-    absurd (enough_room (mark_of a.outs.now a.n a.r) (0, 0) (take a.to (pairs a.marks.now)) l.p (a.to - l.p) (omega (arith, l.invariant.0)) (omega arith) (sym c.measure_marks.ensures ∙ c.in-Bad.is))
+    absurd (enough_room (mark_of a.outs.now a.n a.r) (0, 0) (take a.to (pairs a.marks.now)) l.p (a.to - l.p) (omega (arith, l.invariant.0)) (omega arith) (sym c.measure_marks.ensures ∙ c.in-None.is))
 
 pub returns : goal.returns
 unfolding rests

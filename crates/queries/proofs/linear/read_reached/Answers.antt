@@ -15,17 +15,17 @@ few T e h = omega (arith, queue_few T.queue)
 pub read_bodies-requires : goal.read_bodies-requires
 read_bodies-requires c = (c.requires.1, low_fewer c.requires.0 _ (omega arith))
 
-pub shape_of-list-in-Twice : goal.shape_of-list-in-Twice
-shape_of-list-in-Twice c = c.read_bodies.auto.list
+pub shape_of-list-in-None : goal.shape_of-list-in-None
+shape_of-list-in-None c = c.read_bodies.auto.list
 
-pub shape_of-place-in-Twice : goal.shape_of-place-in-Twice
-shape_of-place-in-Twice c = c.read_bodies.auto.place
+pub shape_of-place-in-None : goal.shape_of-place-in-None
+shape_of-place-in-None c = c.read_bodies.auto.place
 
-pub returns-in-Twice : goal.returns-in-Twice
-returns-in-Twice c = initial_stop c.read_bodies.ensures c.in-Twice.is
+pub returns-in-None : goal.returns-in-None
+returns-in-None c = initial_stop c.read_bodies.ensures c.in-None.is
 
 pub loop-p-init : goal.loop-p-init
-loop-p-init c = (refl, refl, initial_read c.read_bodies.ensures c.in-Met.is)
+loop-p-init c = (refl, refl, initial_read c.read_bodies.ensures c.in-Some.is)
 
 pub offset_bounds-list-p : goal.offset_bounds-list-p
 offset_bounds-list-p c = omega (arith, few c.loop-p.invariant.2 (c.loop-p.invariant.1 ∙ c.read_bodies.auto.place) c.requires.0.few, c.loop-p-test.true)
@@ -42,14 +42,14 @@ overflow_add-q c = omega (arith, (state_fits c.loop-p.invariant.2 c.loop-p-test.
 pub read_bodies-requires-in-loop-p : goal.read_bodies-requires-in-loop-p
 read_bodies-requires-in-loop-p c = (c.loop-p.invariant.2.queue, rw (c.loop-p.invariant.1 ∙ c.read_bodies.auto.place) (low_fewer c.requires.0 _ (state_fits c.loop-p.invariant.2 c.loop-p-test.true c.number-q.ensures (c.loop-p.invariant.1 ∙ c.read_bodies.auto.place)).1))
 
-pub shape_of-list-in-Twice-read_bodies : goal.shape_of-list-in-Twice-read_bodies
-shape_of-list-in-Twice-read_bodies c = c.read_bodies-in-loop-p.auto.list ∙ (c.loop-p.invariant.0 ∙ c.read_bodies.auto.list)
+pub shape_of-list-in-None-read_bodies : goal.shape_of-list-in-None-read_bodies
+shape_of-list-in-None-read_bodies c = c.read_bodies-in-loop-p.auto.list ∙ (c.loop-p.invariant.0 ∙ c.read_bodies.auto.list)
 
-pub shape_of-place-in-Twice-read_bodies : goal.shape_of-place-in-Twice-read_bodies
-shape_of-place-in-Twice-read_bodies c = c.read_bodies-in-loop-p.auto.place ∙ (c.loop-p.invariant.1 ∙ c.read_bodies.auto.place)
+pub shape_of-place-in-None-read_bodies : goal.shape_of-place-in-None-read_bodies
+shape_of-place-in-None-read_bodies c = c.read_bodies-in-loop-p.auto.place ∙ (c.loop-p.invariant.1 ∙ c.read_bodies.auto.place)
 
-pub returns-in-Twice-read_bodies : goal.returns-in-Twice-read_bodies
-returns-in-Twice-read_bodies c = state_stop c.loop-p.invariant.2 c.loop-p-test.true c.number-q.ensures c.read_bodies-in-loop-p.ensures c.in-Twice-read_bodies.is
+pub returns-in-None-read_bodies : goal.returns-in-None-read_bodies
+returns-in-None-read_bodies c = state_stop c.loop-p.invariant.2 c.loop-p-test.true c.number-q.ensures c.read_bodies-in-loop-p.ensures c.in-None-read_bodies.is
 
 pub overflow_add-p : goal.overflow_add-p
 overflow_add-p c = omega (arith, few c.loop-p.invariant.2 (c.loop-p.invariant.1 ∙ c.read_bodies.auto.place) c.requires.0.few, c.loop-p-test.true)
@@ -61,7 +61,7 @@ pub loop-p-preserved : goal.loop-p-preserved
 loop-p-preserved c =
     let l = c.loop-p.invariant in
     let r = c.read_bodies-in-loop-p in
-    (r.auto.list ∙ l.0, r.auto.place ∙ l.1, state_read l.2 c.loop-p-test.true c.number-q.ensures r.ensures c.in-Met-read_bodies.is)
+    (r.auto.list ∙ l.0, r.auto.place ∙ l.1, state_read l.2 c.loop-p-test.true c.number-q.ensures r.ensures c.in-Some-read_bodies.is)
 
 pub shape_of-list : goal.shape_of-list
 shape_of-list c = c.loop-p.invariant.0 ∙ c.read_bodies.auto.list

@@ -3,10 +3,10 @@ use mathlib.Core.Path.{refl}
 use Rattle.records.proofs.entry.settle.Goals as goal
 
 pub put-requires : goal.put-requires
-put-requires c = rw c.in-Number.is at c.requires
+put-requires c = rw c.in-Ok.is at c.requires
 
-pub returns-in-Number : goal.returns-in-Number
-returns-in-Number c = rw c.in-Number.is c.put.ensures
+pub returns-in-Ok : goal.returns-in-Ok
+returns-in-Ok c = rw c.in-Ok.is c.put.ensures
 
-pub returns-in-Refused : goal.returns-in-Refused
-returns-in-Refused c = rw c.in-Refused.is (c.refuse.ensures, refl)
+pub returns-in-Err : goal.returns-in-Err
+returns-in-Err c = rw c.in-Err.is (c.refuse.ensures, refl)

@@ -36,5 +36,5 @@ returns-in-Alike c = alike_reported c.compare.ensures c.in-Alike.is (omega (arit
 pub returns-in-Differ : goal.returns-in-Differ
 returns-in-Differ c = differ_reported c.compare.ensures c.in-Differ.is (omega (arith, length-replicate {A = ℕ} 1536 0)) (omega (arith, length-replicate {A = ℕ} 16128 0)) (omega (arith, c.if-area-lt36911.false)) c.write_both-at-in-Differ.ensures c.write_differ.ensures
 
-pub returns-in-Refused : goal.returns-in-Refused
-returns-in-Refused c = refusal_reported c.compare.ensures c.in-Refused.is (omega (arith, length-replicate {A = ℕ} 1536 0)) (omega (arith, length-replicate {A = ℕ} 16128 0)) (omega (arith, c.if-area-lt36911.false)) c.write_refused.ensures
+pub returns-in-Err : goal.returns-in-Err
+returns-in-Err c = refusal_reported c.compare.ensures c.in-Err.is (omega (arith, length-replicate {A = ℕ} 1536 0)) (omega (arith, length-replicate {A = ℕ} 16128 0)) (omega (arith, c.if-area-lt36911.false)) c.write_refused.ensures

@@ -10,24 +10,24 @@ use Rattle.transducer.proofs.Translating.{file_translates}
 use Rattle.transducer.proofs.translate.translate.Goals as goal
 
 pub counts_end-from-requires : goal.counts_end-from-requires
-counts_end-from-requires c = (accepted_alphabets c.args.stock.now c.args.sheet.now c.in-States.n c.read_transducer.ensures c.in-States.is, omega (arith, accepted_states c.args.stock.now c.args.sheet.now c.in-States.n c.read_transducer.ensures c.in-States.is))
+counts_end-from-requires c = (accepted_alphabets c.args.stock.now c.args.sheet.now c.in-Ok.n c.read_transducer.ensures c.in-Ok.is, omega (arith, accepted_states c.args.stock.now c.args.sheet.now c.in-Ok.n c.read_transducer.ensures c.in-Ok.is))
 
 pub slice_bounds-translate_by-end : goal.slice_bounds-translate_by-end
-slice_bounds-translate_by-end c = omega (arith, c.counts_end-from.ensures, accepted_long c.args.stock.now c.args.sheet.now c.in-States.n c.read_transducer.ensures c.in-States.is)
+slice_bounds-translate_by-end c = omega (arith, c.counts_end-from.ensures, accepted_long c.args.stock.now c.args.sheet.now c.in-Ok.n c.read_transducer.ensures c.in-Ok.is)
 
-pub slice_bounds-translate_by-count-in-States : goal.slice_bounds-translate_by-count-in-States
-slice_bounds-translate_by-count-in-States c = omega (arith, c.counts_end-from.ensures, accepted_long c.args.stock.now c.args.sheet.now c.in-States.n c.read_transducer.ensures c.in-States.is)
+pub slice_bounds-translate_by-count-in-Ok : goal.slice_bounds-translate_by-count-in-Ok
+slice_bounds-translate_by-count-in-Ok c = omega (arith, c.counts_end-from.ensures, accepted_long c.args.stock.now c.args.sheet.now c.in-Ok.n c.read_transducer.ensures c.in-Ok.is)
 
-pub slice_bounds-translate_by-start-in-States : goal.slice_bounds-translate_by-start-in-States
-slice_bounds-translate_by-start-in-States c = omega (arith, c.counts_end-from.ensures, accepted_long c.args.stock.now c.args.sheet.now c.in-States.n c.read_transducer.ensures c.in-States.is)
+pub slice_bounds-translate_by-start-in-Ok : goal.slice_bounds-translate_by-start-in-Ok
+slice_bounds-translate_by-start-in-Ok c = omega (arith, c.counts_end-from.ensures, accepted_long c.args.stock.now c.args.sheet.now c.in-Ok.n c.read_transducer.ensures c.in-Ok.is)
 
 pub translate_by-requires : goal.translate_by-requires
-translate_by-requires c = opened_machine (opened_at c.args.stock.now c.args.sheet.now c.in-States.n c.read_transducer.ensures c.in-States.is c.counts_end-from.result c.counts_end-from.ensures refl)
+translate_by-requires c = opened_machine (opened_at c.args.stock.now c.args.sheet.now c.in-Ok.n c.read_transducer.ensures c.in-Ok.is c.counts_end-from.result c.counts_end-from.ensures refl)
 
-pub returns-in-States : goal.returns-in-States
-returns-in-States c = file_translates (opened_at c.args.stock.now c.args.sheet.now c.in-States.n c.read_transducer.ensures c.in-States.is c.counts_end-from.result c.counts_end-from.ensures refl) c.translate_by.result c.translate_by.ensures
+pub returns-in-Ok : goal.returns-in-Ok
+returns-in-Ok c = file_translates (opened_at c.args.stock.now c.args.sheet.now c.in-Ok.n c.read_transducer.ensures c.in-Ok.is c.counts_end-from.result c.counts_end-from.ensures refl) c.translate_by.result c.translate_by.ensures
 
-pub returns-in-Refused : goal.returns-in-Refused
-returns-in-Refused c =
+pub returns-in-Err : goal.returns-in-Err
+returns-in-Err c =
     let a = c.args in
-    not_opened a.stock.now a.sheet.now (tree_check a.stock.now a.design.now (room_check a.stock.now a.sheet.now a.design.now a.out.now (levels_check a.stock.now a.sheet.now a.design.now no_more))) refl c.read_transducer.ensures c.in-Refused.is
+    not_opened a.stock.now a.sheet.now (tree_check a.stock.now a.design.now (room_check a.stock.now a.sheet.now a.design.now a.out.now (levels_check a.stock.now a.sheet.now a.design.now no_more))) refl c.read_transducer.ensures c.in-Err.is
