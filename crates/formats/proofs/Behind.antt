@@ -12,7 +12,8 @@ use Rattle.trees.specs.Inner.Decode.{symbol, Whole}
 use Rattle.trees.specs.Inner.Measured.{MeasuredWhole, noted, most}
 use Rattle.trees.specs.Refusal.{Decides}
 use Rattle.trees.specs.declared.tree.Extent.{Extent}
-use Rattle.trees.specs.declared.tree.Extent.TheVariants.{Tree, Bad}
+use Rattle.trees.specs.Inner.Measured.{some_extent}
+use Rattle.std.specs.Prelude.{Option, None}
 use Rattle.trees.proofs.Deciding.{decides_no}
 use Rattle.trees.proofs.Forest.{all_drop}
 use Rattle.trees.proofs.Standing.{Standing, Broken, no_letter, not_known, one_call, too_few, one_symbol, no_tree, none_standing, measured_standing}
@@ -51,10 +52,10 @@ module _ {outs bytes table : List ℕ} {n r from to j k : ℕ} (S : BodyStanding
     all_trees : Standing (mark_of outs n r) (part bytes from to) table k
     all_trees = rw at_start at S.trees
 
-    pub not_one_body : (k ≡ 1 → ⊥) → MeasuredWhole (mark_of outs n r) (part bytes from to) from Bad
+    pub not_one_body : (k ≡ 1 → ⊥) → MeasuredWhole (mark_of outs n r) (part bytes from to) from None
     not_one_body f = none_standing all_trees f
 
-    pub one_measured : {l : ℕ} → k ≡ 1 → l ≡ get_or table 0 0 → MeasuredWhole (mark_of outs n r) (part bytes from to) from (Tree to l)
+    pub one_measured : {l : ℕ} → k ≡ 1 → l ≡ get_or table 0 0 → MeasuredWhole (mark_of outs n r) (part bytes from to) from (some_extent to l)
     one_measured {l} o e =
         let p : from + length (part bytes from to) ≡ to = omega (arith, ap (λ i. length (part bytes i to)) at_start, part_long, S.high, at_start) in
         rw p at (measured_standing all_trees {at = from} {l = l} o e)
@@ -68,7 +69,7 @@ module _ {outs bytes table : List ℕ} {n r from to j k : ℕ} (S : BodyStanding
     one_more_lem l T = record { inside = S.inside; low = omega arith; high = omega (arith, S.high); short = S.short; long = l ∙ S.long; trees = rw in_front T }
 
     -- where not all can be read from there on, the body is no tree
-    broken : Broken (mark_of outs n r) ((i, x) ∷ part bytes j to) → MeasuredWhole (mark_of outs n r) (part bytes from to) from Bad
+    broken : Broken (mark_of outs n r) ((i, x) ∷ part bytes j to) → MeasuredWhole (mark_of outs n r) (part bytes from to) from None
     broken b =
         let g : from + (j - 1 - from) ≡ j - 1 = omega arith in
         no_tree (λ W. b (rw (drop-drop, g, in_front) at (all_drop (mark_of outs n r) (part bytes from to) (j - 1 - from) W.all)))
@@ -76,17 +77,17 @@ module _ {outs bytes table : List ℕ} {n r from to j k : ℕ} (S : BodyStanding
     pub call_read : 0 < i → i ≤ r → x < n → BodyStanding outs n r bytes from to (set table k 0) (j - 1) (k + 1)
     call_read z l g = one_more_lem (length-set table k 0) (one_call (mark_of outs n r) (i, x) S.trees (i, x) (letter_call outs n r i x z l g) (omega (arith, few_behind, S.long)))
 
-    pub call_refused : 0 < i → (r < i) ⊎ ((i ≤ r) × (n ≤ x)) → MeasuredWhole (mark_of outs n r) (part bytes from to) from Bad
+    pub call_refused : 0 < i → (r < i) ⊎ ((i ≤ r) × (n ≤ x)) → MeasuredWhole (mark_of outs n r) (part bytes from to) from None
     call_refused z o = broken (not_known (mark_of outs n r) (i, x) (part bytes j to) (⊎_elim (λ g. letter_far outs n r i x z g) (λ g. letter_no_state outs n r i x z g.0 g.1) o))
 
-    pub symbol_refused : i ≡ 0 → length outs ≤ x → MeasuredWhole (mark_of outs n r) (part bytes from to) from Bad
+    pub symbol_refused : i ≡ 0 → length outs ≤ x → MeasuredWhole (mark_of outs n r) (part bytes from to) from None
     symbol_refused z g = broken (not_known (mark_of outs n r) (i, x) (part bytes j to) (letter_no_symbol outs n r i x z g))
 
     module _ {m : ℕ} (z : i ≡ 0) (g : x < length outs) (q : m ≡ get_or outs x 0) where
       its_letter : mark_of outs n r (i, x) ≡ symbol x m
       its_letter = letter_symbol outs n r i x z g ∙ ap (symbol x) (sym q)
 
-      pub children_missing : k < m → MeasuredWhole (mark_of outs n r) (part bytes from to) from Bad
+      pub children_missing : k < m → MeasuredWhole (mark_of outs n r) (part bytes from to) from None
       children_missing l = broken (too_few (mark_of outs n r) (i, x) S.trees x m its_letter l)
 
       pub few_levels_lem : {deep : ℕ} → deep ≡ most m (noted table k) → deep ≤ 64
@@ -96,9 +97,9 @@ module _ {outs bytes table : List ℕ} {n r from to j k : ℕ} (S : BodyStanding
       symbol_read {deep} l d = one_more_lem (length-set table (k - m) (deep + 1)) (one_symbol (mark_of outs n r) (i, x) S.trees x m its_letter l (omega (arith, few_behind, S.long)) d)
 
 -- ---- what was measured decides whether it is one
-module _ (outs bytes : List ℕ) (n r from to : ℕ) {x : Extent} (M : MeasuredWhole (mark_of outs n r) (part bytes from to) from x) where
-  pub is_body : {e l : ℕ} → x ≡ Tree e l → Decides (Whole (mark_of outs n r) (part bytes from to)) true
+module _ (outs bytes : List ℕ) (n r from to : ℕ) {x : Option Extent} (M : MeasuredWhole (mark_of outs n r) (part bytes from to) from x) where
+  pub is_body : {e l : ℕ} → x ≡ some_extent e l → Decides (Whole (mark_of outs n r) (part bytes from to)) true
   is_body q = record { sound = λ t. (M.whole _ _ q).0; complete = λ W. refl }
 
-  pub no_body : x ≡ Bad → Decides (Whole (mark_of outs n r) (part bytes from to)) false
-  no_body q = decides_no (M.bad q)
+  pub no_body : x ≡ None → Decides (Whole (mark_of outs n r) (part bytes from to)) false
+  no_body q = decides_no (M.none q)

@@ -1,6 +1,6 @@
 -- From the answers of the inner readers to the answers about a transducer's file: refusal 4, then 5, then N.
 -- Assumes nothing.
-use Rattle.std.specs.Prelude.{Err, None, Ok, Option, Result, Some}
+use Rattle.std.specs.Prelude.{Err, Ok, Result}
 use Rattle.trees.specs.Refusal.{outcome_of, done, Holds, IsJudged}
 use Prim.Native.Nat.{ℕ, ◌+◌, ◌-◌, ◌*◌, ◌≤◌, ◌<◌}
 use native.Mathlib.Nat.{mul-le-mul}

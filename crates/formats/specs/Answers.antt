@@ -1,7 +1,7 @@
 -- What the reader and the writer of a transducer's file answer: for each enum the values and numbers of document 01, and the promise about it.
-use Rattle.std.specs.Prelude.{Err, None, Ok, Option, Result, Some, ℕ, ◌≤◌, List, ◌≡◌, length}
+use Rattle.std.specs.Prelude.{Result, ℕ, ◌≤◌, List, ◌≡◌, length}
 use Rattle.trees.specs.declared.refusal.Refusal.{Refusal}
-use Rattle.trees.specs.Refusal.{outcome_of, refusal_number, Outcome, accepted, refused, done, check, Judged, Handed}
+use Rattle.trees.specs.Refusal.{outcome_of, done, check, Judged, Handed}
 use Rattle.std.proofs.lemmas.List.Edits.{sets}
 use Rattle.theory.specs.Transducer.{Transducer}
 use Rattle.trees.specs.Alphabets.{inputs, outputs, alphabet_check}

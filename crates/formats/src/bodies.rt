@@ -6,7 +6,7 @@ ghost use Rattle.trees.specs.Inner.Measured.{measured, MeasuredWhole};
 ghost use Rattle.formats.specs.Inner.Marked.{part};
 ghost use Rattle.trees.specs.Refusal.{Decides};
 
-use trees::bytes::{larger, number, wide};
+use trees::bytes::{number, wide};
 use trees::levels::most_levels;
 use trees::tree::Extent;
 
@@ -60,51 +60,58 @@ pub fn measure_marks(
     at: usize,
     to: usize,
     room: usize,
-) -> Extent
+) -> Option<Extent>
     requires { 2 * to ≤ length marks.now }
     ensures { result ≡ measured room at (forest (mark_of outs.now n r) (part marks.now at to)) }
 {
     if at >= to {
-        return Extent::Bad;
+        return None;
     }
     let i = wide(marks[2 * at]);
     let x = wide(marks[2 * at + 1]);
     if i > 0 {
         if i > r {
-            return Extent::Bad;
+            return None;
         }
         if x >= n {
-            return Extent::Bad;
+            return None;
         }
-        return Extent::Tree(at + 1, 0);
+        return Some(Extent {
+            end: at + 1,
+            levels: 0,
+        });
     }
     if room == 0 {
-        return Extent::Bad;
+        return None;
     }
     if x >= outs.len() {
-        return Extent::Bad;
+        return None;
     }
     let mut left = wide(outs[x]);
     let mut p = at + 1;
     let mut deep = 0;
     while left > 0 {
-        match measure_marks(outs, n, r, marks, p, to, room - 1) {
-            Extent::Tree(e, l) => {
-                p = e;
-                deep = larger(deep, l);
-                left -= 1;
-            }
-            Extent::Bad => {
-                return Extent::Bad;
-            }
-        }
+        let child = measure_marks(outs, n, r, marks, p, to, room - 1)?;
+        p = child.end;
+        deep = deep.max(child.levels);
+        left -= 1;
     }
-    Extent::Tree(p, deep + 1)
+    Some(Extent {
+        end: p,
+        levels: deep + 1,
+    })
 }
 
 // Measures the marks number `from` up to `to` as one tree: where it ends and how many levels it has. From the last mark back, each symbol takes its children from the trees
 // behind it, whose levels the table has; a call has none.
-fn measure_body(outs: &[u8], n: usize, r: usize, marks: &[u8], from: usize, to: usize) -> Extent
+fn measure_body(
+    outs: &[u8],
+    n: usize,
+    r: usize,
+    marks: &[u8],
+    from: usize,
+    to: usize,
+) -> Option<Extent>
     requires { (from ≤ to) × (to ≤ from + 64) × (2 * to ≤ length marks.now) }
     ensures { MeasuredWhole (mark_of outs.now n r) (part marks.now from to) from result }
 {
@@ -117,16 +124,16 @@ fn measure_body(outs: &[u8], n: usize, r: usize, marks: &[u8], from: usize, to: 
         let x = wide(marks[2 * j + 1]);
         if i > 0 {
             if i > r || x >= n {
-                return Extent::Bad;
+                return None;
             }
             levels[behind] = 0;
         } else {
             if x >= outs.len() {
-                return Extent::Bad;
+                return None;
             }
             let m = wide(outs[x]);
             if m > behind {
-                return Extent::Bad;
+                return None;
             }
             let deep = most_levels(&levels, behind, m);
             behind -= m;
@@ -135,9 +142,12 @@ fn measure_body(outs: &[u8], n: usize, r: usize, marks: &[u8], from: usize, to: 
         behind += 1;
     }
     if behind != 1 {
-        return Extent::Bad;
+        return None;
     }
-    Extent::Tree(to, number(levels[0]))
+    Some(Extent {
+        end: to,
+        levels: number(levels[0]),
+    })
 }
 
 // Whether the marks number `from` up to `to` are one tree.
@@ -146,8 +156,8 @@ fn one_body(outs: &[u8], n: usize, r: usize, marks: &[u8], from: usize, to: usiz
     ensures { Decides (Whole (mark_of outs.now n r) (part marks.now from to)) result }
 {
     match measure_body(outs, n, r, marks, from, to) {
-        Extent::Tree(_, _) => true,
-        Extent::Bad => false,
+        Some(_) => true,
+        None => false,
     }
 }
 

@@ -23,7 +23,12 @@ pub fn counts_end(stock: &[u8], n: usize) -> usize
 }
 
 // Whether N, the counts and the marks are those of a transducer; else the refusal, 4 before 5.
-pub(crate) fn judge_parts(stock: &[u8], n: usize, counts: &[u8], marks: &[u8]) -> Result<usize, Refusal>
+pub(crate) fn judge_parts(
+    stock: &[u8],
+    n: usize,
+    counts: &[u8],
+    marks: &[u8],
+) -> Result<usize, Refusal>
     requires { Alphabets stock.now }
     ensures { JudgesParts stock.now n counts.now marks.now result }
 {

@@ -1,12 +1,11 @@
 -- What judging the parts of a transducer's file answers, once the alphabets are known to be right.
-use Rattle.std.specs.Prelude.{Option, Result, ℕ, List, ◌≡◌, length}
+use Rattle.std.specs.Prelude.{Result, ℕ, List, ◌≡◌, length}
 use Rattle.trees.specs.declared.refusal.Refusal.{Refusal}
 use Rattle.trees.specs.Refusal.{outcome_of, done, Judged}
 use Rattle.std.proofs.lemmas.List.Edits.{sets}
 use Rattle.theory.specs.Transducer.{Transducer}
 use Rattle.trees.specs.Alphabets.{inputs, outputs}
 use Rattle.trees.specs.Answers.{Nothing}
-
 use Rattle.formats.specs.Sheet.{Encodes, Sheet, sheet_check, parts_check}
 
 abbrev pub JudgesParts : List ℕ → ℕ → List ℕ → List ℕ → Result ℕ Refusal → Type 0

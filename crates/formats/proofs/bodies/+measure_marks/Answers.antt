@@ -7,6 +7,7 @@ use Rattle.trees.proofs.Extents.{past_end, no_letter, one_call, no_room, first_c
 use Rattle.formats.specs.Inner.Layout.{mark_of, pairs}
 use Rattle.formats.proofs.Letters.{call_made}
 use Rattle.formats.proofs.Marks.{letter_far, letter_no_state, letter_call, letter_no_symbol, letter_symbol, marks_length, next_mark}
+use Rattle.trees.proofs.Numbers.{max_is}
 use Rattle.formats.proofs.bodies.+measure_marks.Goals as goal
 
 pub returns-then-at-to : goal.returns-then-at-to
@@ -63,10 +64,10 @@ loop-left-init t c =
     first_child_lem here (letter_symbol a.outs.now a.n a.r w.result v.result (omega arith) c.if-x-outs.false ∙ ap (symbol v.result) (sym c.wide-left.ensures)) (omega arith)
 
 pub loop-left-preserved : goal.loop-left-preserved
-loop-left-preserved t c = next_child c.loop-left.invariant c.loop-left-test.true c.measure_marks.ensures (0, 0) c.in-Some.is c.larger-deep.ensures
+loop-left-preserved t c = next_child c.loop-left.invariant c.loop-left-test.true c.measure_marks.ensures (0, 0) c.in_ok-child.was (c.max-deep.ensures ∙ max_is _ _)
 
-pub returns-in-None : goal.returns-in-None
-returns-in-None t c = no_child c.loop-left.invariant c.loop-left-test.true c.measure_marks.ensures c.in-None.is
+pub returns-in_err-child : goal.returns-in_err-child
+returns-in_err-child t c = c.from_residual.ensures ∙ no_child c.loop-left.invariant c.loop-left-test.true c.measure_marks.ensures c.in_err-child.was
 
 pub returns : goal.returns
 returns t c = node_done c.loop-left.invariant (omega arith)
