@@ -22,7 +22,7 @@ use Rattle.formats.proofs.Pairs.{number_less}
 use Rattle.formats.proofs.Sheets.{sheet_unique, counted_right, encodes_counted, encodes_wholes, encodes_unique, wholes_encodes, transducer_over}
 use Rattle.transducer.proofs.Outputs.{ranked_vars}
 use Rattle.forms.specs.Alphabet.{alphabet, children_inside, children_of_lem}
-use Rattle.forms.specs.Answers.{FileOf}
+use Rattle.forms.specs.Answers.{form, FileOf}
 use Rattle.forms.specs.Inner.Tables.{Layout, Bounded}
 
 -- ---- the transducer of whole bodies is well-formed over the alphabet
@@ -101,8 +101,8 @@ module _ {ins outs : List ℕ} where
   file_same l E E' i = let w = parts_same l E E' i in rw (w.0, w.1, w.2) refl
 
 -- what is answered of one file, and the area that is left, are one
-pub file_one : {k k' m m' n n' : ℕ} {counts counts' bytes bytes' before after after' : List ℕ} → FileOf (k, m, n) counts bytes before after → FileOf (k', m', n') counts' bytes' before after'
-    → (k ≡ k') × (counts ≡ counts') × (bytes ≡ bytes') → (after ≡ after') × (◌≡◌ {A = ℕ × ℕ × ℕ} (k, m, n) (k', m', n'))
+pub file_one : {k k' m m' n n' : ℕ} {counts counts' bytes bytes' before after after' : List ℕ} → FileOf (form k m n) counts bytes before after → FileOf (form k' m' n') counts' bytes' before after'
+    → (k ≡ k') × (counts ≡ counts') × (bytes ≡ bytes') → (after ≡ after') × (form k m n ≡ form k' m' n')
 file_one {k} {k'} {m} {m'} {n} {n'} {counts} {counts'} {bytes} {bytes'} {before} O O' w =
     let f : file k counts bytes ≡ file k' counts' bytes' = rw (w.0, w.1, w.2) refl in
     let x : k ≡ k' = w.0 in

@@ -1,9 +1,11 @@
 -- A form written as a file: the counts that the table of starts gives, and that the file is the one of the form.
 -- Assumes nothing.
 use Rattle.std.specs.Prelude.{Err, None, Ok, Option, Result, Some}
-use Rattle.trees.specs.Refusal.{outcome_of, accepted, Holds}
+use Rattle.trees.specs.Refusal.{Holds}
+use mathlib.Core.Bool.{true}
+use Rattle.std.specs.Result.{is_ok}
 use Prim.Native.Nat.{ℕ, suc, ◌+◌, ◌-◌, ◌*◌, ◌/◌, ◌%◌, ◌≤◌, ◌<◌}
-use native.Mathlib.Nat.{div-add-mod, mul-le-mul, sub-zero}
+use native.Mathlib.Nat.{div-add-mod, mul-le-mul}
 use native.Mathlib.Numerals.{add-one}
 use native.Mathlib.Omega.{arith}
 use mathlib.Core.List.{List, [], ◌∷◌}
@@ -21,12 +23,13 @@ use Rattle.formats.specs.Inner.Layout.{pairs, offset, mark_of, body, body_number
 use Rattle.formats.specs.Sheet.{longest, file, Encodes}
 use Rattle.trees.specs.declared.refusal.Refusal.{Refusal}
 use Rattle.trees.specs.declared.refusal.Refusal.TheVariants.{OverLimits}
-use Rattle.trees.proofs.Judging.{must_accept}
+use Rattle.trees.proofs.Judging.{must_answer}
 use Rattle.formats.proofs.Offsets.{offset_next}
 use Rattle.formats.proofs.Pairs.{number_less}
 use Rattle.formats.proofs.Sheets.{right_counted, wholes_encodes}
 use Rattle.forms.specs.Alphabet.{alphabet, children_inside}
 use Rattle.forms.specs.Inner.Tables.{machine, Layout, Packed}
+use Rattle.forms.specs.Answers.{form}
 use Rattle.forms.specs.Inner.Writing.{FillsCounts, Writable, WritesForm, FoundWritable, WritesFound}
 
 -- ---- the counts
@@ -158,7 +161,7 @@ module _ {stock starts bytes area ins : List ℕ} {k : ℕ} (A : Writable stock 
 
   -- the counts and the marks as they are lent
   module _ (counts : List ℕ) (long : length counts ≡ 4098) (F : FillsCounts starts (body_count ins k) counts) {total : ℕ} (t : total ≡ get_or starts (body_count ins k) 0) {after : List ℕ} (r : Result ℕ Refusal)
-      (J : WritesFile stock k (take (2 * body_count ins k - 0) counts) (take (2 * total - 0) bytes) area after r) where
+      (J : WritesFile stock k (take (2 * body_count ins k) counts) (take (2 * total) bytes) area after r) where
     abbrev counted : List ℕ
     counted = take (2 * body_count (inputs stock) k) counts
 
@@ -172,17 +175,17 @@ module _ {stock starts bytes area ins : List ℕ} {k : ℕ} (A : Writable stock 
     filled = counts_cut (body_count (inputs stock) k) (rw i at F)
 
     judged_form : WritesFile stock k counted marked area after r
-    judged_form = rw (sub-zero (2 * total), sub-zero (2 * body_count ins k), t, i) at J
+    judged_form = rw (t, i) at J
 
     encoded : Encodes (inputs stock) (outputs stock) k counted marked (transducer (inputs stock) (outputs stock) k (offset counted) marked)
     encoded = form_encodes A.layout A.packed counted long_counted filled
 
     -- every check holds
-    form_accepted : (a : ℕ) × ((outcome_of r ≡ accepted a) × ((a ≡ length (file k counted marked)) × (after ≡ sets area 0 (file k counted marked))))
+    form_accepted : (a : ℕ) × ((r ≡ Ok a) × ((a ≡ length (file k counted marked)) × (after ≡ sets area 0 (file k counted marked))))
     unfolding Holds
-    form_accepted = must_accept (A.room, (A.alphabets, (right_counted (inputs stock) k counted marked (form_right A.layout A.packed counted long_counted filled), ((_, encoded), tt)))) judged_form
+    form_accepted = must_answer (A.room, (A.alphabets, (right_counted (inputs stock) k counted marked (form_right A.layout A.packed counted long_counted filled), ((_, encoded), tt)))) judged_form
 
-    -- so what was written is the file of the form
+    -- so there was no refusal, and what was written is the file of the form
     pub form_written : (n : ℕ) → r ≡ Ok n → WritesForm stock starts bytes k area after n
     form_written n e =
         let w = form_accepted in
@@ -198,9 +201,8 @@ module _ {stock starts bytes area ins : List ℕ} {k : ℕ} (A : Writable stock 
           wrote = w.1.1.1;
         }
 
-    -- and there was no refusal
-    pub form_refused : (x : Refusal) → r ≡ Err x → ⊥
-    form_refused x e = let w = form_accepted in conflict (cc)
+    pub form_accepted_lem : is_ok r ≡ true
+    form_accepted_lem = rw form_accepted.1.0 refl
 
 -- ---- the file that a table can be written as
 -- some counts for the table of starts
@@ -229,5 +231,5 @@ module _ {stock starts bytes area : List ℕ} {found : Option ℕ} where
   pub writes_over : found ≡ None → WritesFound stock found starts bytes area area (Err OverLimits)
   writes_over e = record { over = λ z. (refl, refl); form = λ k z. conflict (cc) }
 
-  pub writes_form : {k : ℕ} → found ≡ Some k → {ins after : List ℕ} {m size : ℕ} → ins ≡ inputs stock → m ≡ get_or starts (body_count ins k) 0 → WritesForm stock starts bytes k area after size → WritesFound stock found starts bytes area after (Form k m size)
+  pub writes_form : {k : ℕ} → found ≡ Some k → {ins after : List ℕ} {m size : ℕ} → ins ≡ inputs stock → m ≡ get_or starts (body_count ins k) 0 → WritesForm stock starts bytes k area after size → WritesFound stock found starts bytes area after (Ok (form k m size))
   writes_form {k} e i t W = record { over = λ z. conflict (cc); form = λ k' z. let h : k ≡ k' = cc in rw (← h) (record { marks = _; size = _; answer = refl; many = rw i at t; written = W }) }

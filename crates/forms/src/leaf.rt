@@ -7,9 +7,5 @@ pub fn leaf_symbol(ins: &[u8]) -> usize
     requires { Leaf ins.now }
     ensures { (result < length ins.now) × (get_or ins.now result 0 ≡ 0) × ((l : Leaf ins.now) → result ≤ l.symbol) }
 {
-    let mut a = 0;
-    while ins[a] != 0 {
-        a += 1;
-    }
-    a
+    ins.iter().position(|rank| *rank == 0).unwrap()
 }

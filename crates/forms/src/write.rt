@@ -4,20 +4,25 @@ ghost use Rattle.forms.specs.Inner.Writing.{FillsCounts, Writable, WritesForm, F
 
 use formats::file::write_transducer;
 use trees::alphabet::input_ranks;
-use trees::bytes::number;
 use trees::refusal::Refusal;
+
+// How many states and marks a form has, and how long its file is.
+#[derive(Clone, Copy, Debug, PartialEq, Eq)]
+pub struct Form {
+    pub states: usize,
+    pub marks: usize,
+    pub bytes: usize,
+}
 
 // Writes the counts of m bodies, two bytes each, the high byte first.
 fn fill_counts(starts: &[u16], m: usize, counts: &mut [u8])
     requires { (m < length starts.now) × (2 * m ≤ length counts.old) × ((j : ℕ) → j < m → get_or starts.now j 0 ≤ get_or starts.now (j + 1) 0) }
     ensures { FillsCounts starts.now m counts.new }
 {
-    let mut j = 0;
-    while j < m {
-        let size = number(starts[j + 1]) - number(starts[j]);
+    for j in 0..m {
+        let size = starts[j + 1] - starts[j];
         counts[2 * j] = (size / 256) as u8;
         counts[2 * j + 1] = (size % 256) as u8;
-        j += 1;
     }
 }
 
@@ -29,11 +34,8 @@ fn write_form(stock: &[u8], starts: &[u16], marks: &[u8], k: usize, area: &mut [
     let m = 1 + k * input_ranks(stock).len();
     let mut counts = [0u8; 4098];
     fill_counts(starts, m, &mut counts);
-    let end = 2 * number(starts[m]);
-    match write_transducer(stock, k, &counts[0..2 * m], &marks[0..end], area) {
-        Ok(size) => size,
-        Err(_) => 0,
-    }
+    let end = 2 * usize::from(starts[m]);
+    write_transducer(stock, k, &counts[..2 * m], &marks[..end], area).unwrap()
 }
 
 // Writes the file of the form that was found, whose bodies start in `marks` where `starts` says; refusal 7 where it is over the limits.
@@ -47,12 +49,12 @@ pub fn write_found(
     requires { FoundWritable stock.now found starts.now marks.now area.old }
     ensures { WritesFound stock.now found starts.now marks.now area.old area.new result }
 {
-    match found {
-        Some(k) => {
-            let bytes = write_form(stock, starts, marks, k, area);
-            let bodies = 1 + k * input_ranks(stock).len();
-            Formed::Form(k, number(starts[bodies]), bytes)
-        }
-        None => Err(Refusal::OverLimits),
-    }
+    let states = found.ok_or(Refusal::OverLimits)?;
+    let bytes = write_form(stock, starts, marks, states, area);
+    let bodies = 1 + states * input_ranks(stock).len();
+    Ok(Form {
+        states,
+        marks: usize::from(starts[bodies]),
+        bytes,
+    })
 }

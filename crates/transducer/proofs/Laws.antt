@@ -1,6 +1,6 @@
 -- What the promise of translation comes to. Read this file first: it cites the promise and nothing of the code.
 -- Assumes nothing.
-use Rattle.std.specs.Prelude.{Err, None, Ok, Option, Result, Some}
+use Rattle.std.specs.Prelude.{Err, Ok, Result}
 use Rattle.trees.specs.declared.refusal.Refusal.{Refusal}
 use Rattle.trees.specs.Refusal.{outcome_of, accepted, refused, done, Holds}
 use Prim.Native.Nat.{ℕ, ◌≤◌, ◌<◌}

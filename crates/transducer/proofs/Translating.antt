@@ -1,6 +1,6 @@
 -- From the parts of a file to what the translation asks, and to what it answers.
 -- Assumes nothing.
-use Rattle.std.specs.Prelude.{Err, None, Ok, Option, Result, Some}
+use Rattle.std.specs.Prelude.{Err, None, Ok, Option, Result}
 use Rattle.trees.specs.declared.refusal.Refusal.{Refusal}
 use Rattle.trees.specs.Refusal.{outcome_of, done as no_more, check, IsJudged, Judged, Holds}
 use Prim.Native.Nat.{ℕ, suc, ◌+◌, ◌-◌, ◌*◌, ◌/◌, ◌%◌, ◌≤◌, ◌<◌}
@@ -23,7 +23,7 @@ use Rattle.trees.specs.Inner.Measured.{WholeTree, MeasuredAll}
 use Rattle.trees.specs.Tree.{InputTree, tree_check}
 use Rattle.trees.specs.declared.refusal.Refusal.TheVariants.{BadTree, LongOutput, DeepOutput}
 use Rattle.trees.specs.declared.tree.Extent.{Extent}
-use Rattle.trees.specs.declared.tree.Extent.TheVariants as extent
+use Rattle.trees.specs.Inner.Measured.{some_extent}
 use Rattle.formats.proofs.Counts.{few_bodies, in_bounds}
 use Rattle.trees.proofs.Judging.{refuse, pass, accept}
 use Rattle.formats.proofs.Lines.{row_of}
@@ -143,11 +143,11 @@ module _ {stock : List ℕ} {n : ℕ} {counts bytes : List ℕ} (X : Machine sto
   pub output_read : (s : List ℕ) → WholeTree (inputs stock) s → OutputBy stock n counts bytes s (translate (transducer (inputs stock) (outputs stock) n (offset counts) bytes) (tree (inputs stock) s))
   output_read s T = record { machine = transducer (inputs stock) (outputs stock) n (offset counts) bytes; input = tree (inputs stock) s; encodes = wholes_encodes (inputs stock) (outputs stock) n counts bytes machine_right machine_wholes; is_tree = whole_input T; given = refl }
 
-  module _ {ins : List ℕ} (e : ins ≡ inputs stock) {s : List ℕ} {r : Extent} (M : MeasuredAll ins s r) where
-    pub not_tree : {before : List ℕ} → r ≡ extent.Bad → TranslatesBy stock n counts bytes s before before (Err BadTree)
+  module _ {ins : List ℕ} (e : ins ≡ inputs stock) {s : List ℕ} {r : Option Extent} (M : MeasuredAll ins s r) where
+    pub not_tree : {before : List ℕ} → r ≡ None → TranslatesBy stock n counts bytes s before before (Err BadTree)
     not_tree q = refuse (measured_none (rw e at M) q) refl
 
-    module _ {d l : ℕ} (q : r ≡ extent.Tree d l) where
+    module _ {d l : ℕ} (q : r ≡ some_extent d l) where
       pub read_whole : WholeTree (inputs stock) s
       read_whole = rw e at (M.whole d l q).0
 

@@ -13,7 +13,7 @@ use formats::file::{copy_at, counts_end, read_transducer};
 use trees::alphabet::{input_ranks, output_ranks};
 use trees::bytes::{larger, number, wide};
 use trees::refusal::Refusal;
-use trees::tree::{Extent, measure_all};
+use trees::tree::measure_all;
 
 // Where what was written ends, and how many levels it has, or 257 where there are more.
 #[derive(Drop)]
@@ -398,33 +398,30 @@ fn translate_by(
     let mut starts = [0u16; 2050];
     let mut depths = [0u8; 8192];
     fill_starts(counts, bodies, &mut starts);
-    match measure_all(ins, s) {
-        Extent::Tree(_, levels) => {
-            fill_ends(ins, s, &mut ends);
-            fill_depths(output_ranks(stock), &starts, bodies, marks, &mut depths);
-            let to = number(starts[1]);
-            let w = emit(ins, &starts, marks, &depths, s, &ends, to, levels, out);
-            if w.end > out.len() {
-                return Err(Refusal::LongOutput);
-            }
-            if w.levels > 256 {
-                return Err(Refusal::DeepOutput);
-            }
-            Ok(w.end)
-        }
-        Extent::Bad => Err(Refusal::BadTree),
+    let tree = measure_all(ins, s).ok_or(Refusal::BadTree)?;
+    fill_ends(ins, s, &mut ends);
+    fill_depths(output_ranks(stock), &starts, bodies, marks, &mut depths);
+    let to = number(starts[1]);
+    let w = emit(ins, &starts, marks, &depths, s, &ends, to, tree.levels, out);
+    if w.end > out.len() {
+        return Err(Refusal::LongOutput);
     }
+    if w.levels > 256 {
+        return Err(Refusal::DeepOutput);
+    }
+    Ok(w.end)
 }
 
 // Translates the tree of the file `design` by the transducer of the file `sheet`, into `out`.
-pub fn translate(stock: &[u8], sheet: &[u8], design: &[u8], out: &mut [u8]) -> Result<usize, Refusal>
+pub fn translate(
+    stock: &[u8],
+    sheet: &[u8],
+    design: &[u8],
+    out: &mut [u8],
+) -> Result<usize, Refusal>
     ensures { Translates stock.now sheet.now design.now out.old out.new result }
 {
-    match read_transducer(stock, sheet) {
-        Ok(n) => {
-            let from = counts_end(stock, n);
-            translate_by(stock, n, &sheet[1..from], &sheet[from..], design, out)
-        }
-        Err(r) => Err(r),
-    }
+    let n = read_transducer(stock, sheet)?;
+    let from = counts_end(stock, n);
+    translate_by(stock, n, &sheet[1..from], &sheet[from..], design, out)
 }

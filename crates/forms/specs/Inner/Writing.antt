@@ -2,6 +2,7 @@
 use Rattle.std.specs.Prelude.{Err, None, Ok, Option, Result, Some, ℕ, ◌+◌, ◌-◌, ◌*◌, ◌≤◌, ◌<◌, List, ◌≡◌, length, get_or}
 use Rattle.trees.specs.declared.refusal.Refusal.{Refusal}
 use Rattle.forms.specs.declared.write.Form.{Form}
+use Rattle.forms.specs.Answers.{form}
 use Rattle.std.proofs.lemmas.List.Edits.{sets}
 use Rattle.theory.specs.NormalForm.{Identical}
 use Rattle.theory.specs.Transducer.{Transducer}
@@ -42,7 +43,7 @@ pub record FoundWritable (stock : List ℕ) (found : Option ℕ) (starts bytes a
 pub record FormWritten (stock : List ℕ) (k : ℕ) (starts bytes before after : List ℕ) (r : Result Form Refusal) : Type 0 where
   pub marks : ℕ
   pub size : ℕ
-  pub answer : r ≡ Form k marks size
+  pub answer : r ≡ Ok (form k marks size)
   pub many : marks ≡ get_or starts (body_count (inputs stock) k) 0
   pub written : WritesForm stock starts bytes k before after size
 

@@ -1,5 +1,5 @@
 -- What translation answers once the parts of a transducer's file are known to be right.
-use Rattle.std.specs.Prelude.{Option, Result, ℕ, ◌≤◌, List, ◌≡◌, length}
+use Rattle.std.specs.Prelude.{Result, ℕ, ◌≤◌, List, ◌≡◌, length}
 use Rattle.trees.specs.declared.refusal.Refusal.{Refusal}
 use Rattle.trees.specs.Refusal.{outcome_of, done, check, Judged}
 use Rattle.std.proofs.lemmas.List.Edits.{sets}

@@ -3,7 +3,7 @@ use Prim.Native.Nat.{ℕ}
 use native.Mathlib.Omega.{arith}
 use mathlib.Core.Path.{◌∙◌}
 use lib.ListN.{length-replicate}
-use Rattle.forms.proofs.Filing.{form_layout, form_bounds, form_written, form_refused}
+use Rattle.forms.proofs.Filing.{form_layout, form_bounds, form_written, form_accepted_lem}
 use Rattle.forms.proofs.write.write_form.Goals as goal
 
 pub overflow_mul-m : goal.overflow_mul-m
@@ -24,23 +24,14 @@ pub bounds-starts-m : goal.bounds-starts-m
 bounds-starts-m c = (form_bounds c.requires c.input_ranks.ensures).1
 
 pub overflow_mul-end : goal.overflow_mul-end
-overflow_mul-end c = omega (arith, c.number-end.ensures, (form_bounds c.requires c.input_ranks.ensures).2)
+overflow_mul-end c = omega (arith, c.from-end.ensures, (form_bounds c.requires c.input_ranks.ensures).2)
 
-pub overflow_mul-m-2 : goal.overflow_mul-m-2
-overflow_mul-m-2 c = omega (arith, (form_bounds c.requires c.input_ranks.ensures).0)
-
-pub slice_bounds-write_transducer-end : goal.slice_bounds-write_transducer-end
-slice_bounds-write_transducer-end c = omega (arith, (form_bounds c.requires c.input_ranks.ensures).0, c.fill_counts.auto.counts, length-replicate {A = ℕ} 4098 0)
-
-pub slice_bounds-write_transducer-end-2 : goal.slice_bounds-write_transducer-end-2
-slice_bounds-write_transducer-end-2 c = omega (arith, c.number-end.ensures, (form_bounds c.requires c.input_ranks.ensures).3)
-
-pub returns-in-Ok : goal.returns-in-Ok
-returns-in-Ok c =
+pub unwrap-requires : goal.unwrap-requires
+unwrap-requires c =
     let f = c.fill_counts in
-    form_written c.requires c.input_ranks.ensures f.new.counts (f.auto.counts ∙ length-replicate {A = ℕ} 4098 0) f.ensures c.number-end.ensures c.write_transducer.result c.write_transducer.ensures c.in-Ok.size c.in-Ok.is
+    form_accepted_lem c.requires c.input_ranks.ensures f.new.counts (f.auto.counts ∙ length-replicate {A = ℕ} 4098 0) f.ensures c.from-end.ensures c.write_transducer.result c.write_transducer.ensures
 
-pub returns-in-Err : goal.returns-in-Err
-returns-in-Err c =
+pub returns : goal.returns
+returns c =
     let f = c.fill_counts in
-    absurd (form_refused c.requires c.input_ranks.ensures f.new.counts (f.auto.counts ∙ length-replicate {A = ℕ} 4098 0) f.ensures c.number-end.ensures c.write_transducer.result c.write_transducer.ensures c.in-Err.field-0 c.in-Err.is)
+    form_written c.requires c.input_ranks.ensures f.new.counts (f.auto.counts ∙ length-replicate {A = ℕ} 4098 0) f.ensures c.from-end.ensures c.write_transducer.result c.write_transducer.ensures _ c.unwrap.ensures
