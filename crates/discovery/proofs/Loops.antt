@@ -1,7 +1,6 @@
 -- What the loops answer that add the bodies of a transducer: how many states have been met, or that the form is over the limits of a file.
 -- Assumes nothing.
-use Rattle.std.specs.Prelude.{Err, None, Ok, Option, Result, Some}
-use Rattle.trees.specs.declared.refusal.Refusal.{Refusal}
+use Rattle.std.specs.Prelude.{None, Option, Some}
 use Prim.Native.Nat.{ℕ, ◌≤◌}
 use native.Mathlib.Omega.{arith}
 use mathlib.Core.List.{List}

@@ -1,9 +1,8 @@
 // A transducer, body by body: its states are numbered as they are met.
 ghost use Rattle.std.specs.Prelude.{◌+◌, ◌*◌, ◌≤◌, ◌<◌, [], ◌∷◌, ◌≡◌, length, get_or};
-ghost use Rattle.discovery.specs.Inner.Queue.{Queue, Result<usize, Refusal>, Sayable, Copied};
+ghost use Rattle.discovery.specs.Inner.Queue.{Queue, Entered, Sayable, Copied};
 ghost use Rattle.discovery.specs.Inner.Bodies.{AddsBody};
 
-use trees::refusal::Refusal;
 use trees::bytes::number;
 
 // The letters of the calls on a child.
@@ -19,7 +18,7 @@ pub fn letter(x: u32) -> usize
 // Gives state c the next number, unless it has one, and says how many states have one.
 pub fn enter(list: &mut [u16], place: &mut [u8], met: usize, c: usize) -> usize
     requires { Queue list.old place.old met × (met < 192) × (c < length place.old) × (c < 65536) }
-    ensures { Result<usize, Refusal> list.old place.old met c list.new place.new result }
+    ensures { Entered list.old place.old met c list.new place.new result }
 {
     if place[c] > 0 {
         return met;

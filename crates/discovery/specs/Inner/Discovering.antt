@@ -1,6 +1,5 @@
 -- What is asked of a transducer whose states are numbers, and what stands in the table after its bodies were added one by one.
-use Rattle.std.specs.Prelude.{Err, None, Ok, Option, Result, Some, ℕ, ◌≤◌, ◌<◌, List, ◌≡◌, length, get_or}
-use Rattle.trees.specs.declared.refusal.Refusal.{Refusal}
+use Rattle.std.specs.Prelude.{None, Option, Some, ℕ, ◌≤◌, ◌<◌, List, ◌≡◌, length, get_or}
 use Rattle.std.proofs.Math.Seq.{slice}
 use Rattle.theory.specs.Discovered.{ReadStates, Discovered}
 use Rattle.theory.specs.Listing.{Indexes, listed}
