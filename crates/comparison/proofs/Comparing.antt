@@ -8,7 +8,7 @@ use native.Mathlib.Nat.{sub-zero}
 use native.Mathlib.Omega.{arith}
 use mathlib.Core.List.{List, []}
 use mathlib.Core.Logic.{inl, inr}
-use mathlib.Core.Option.{Option, some, none as nothing}
+use mathlib.Core.Option.{Option as Maybe, some}
 use mathlib.Core.Path.{◌≡◌, refl, ap, ◌∙◌}
 use lib.ListN.{length, length-replicate, replicate, take}
 use lib.Seq.{length-take-le}
@@ -59,18 +59,18 @@ module _ {ins outs starts bytes starts' bytes' : List ℕ} {k k' : ℕ} (C : Com
   forms_searched S = rw (zeros_long k C.left.few_states, zeros_long k' C.right.few_states) at S
 
   -- the search ends with all pairs joined
-  pub forms_same : {P tree address : List ℕ} {v : Verdict} → Searches (sides ins starts bytes starts' bytes') k k' P v → v ≡ verdict.Same → ComparesForms ins outs starts bytes k starts' bytes' k' tree tree address address compared.Alike
+  pub forms_same : {P tree address : List ℕ} {v : Verdict} → Searches (sides ins starts bytes starts' bytes') k k' P v → v ≡ verdict.Same → ComparesForms ins outs starts bytes k starts' bytes' k' tree tree address address (Ok None)
   forms_same S e = record {
     same = λ z. ((λ l. S.same e outs l C.left C.right (machine_wf l C.left.wholes) (machine_wf l C.right.wholes)), refl, refl);
-    differ = λ m n b b' z. conflict (cc);
+    differ = λ v z. conflict (cc);
     answered = λ x z. absurd (conflict (cc));
   }
 
   -- or with a clash, from which a difference is shown
-  pub forms_differ : {tree tree' address address' : List ℕ} {m n b b' : ℕ} → Shows ins outs (machine ins outs starts bytes k) (machine ins outs starts' bytes' k') tree tree' address address' m n b b' → ComparesForms ins outs starts bytes k starts' bytes' k' tree tree' address address' (compared.Differ m n b b')
-  forms_differ {tree} {tree'} {address} {address'} {m} {n} {b} {b'} S = record {
+  pub forms_differ : {tree tree' address address' : List ℕ} {v : Shown} → Shows ins outs (machine ins outs starts bytes k) (machine ins outs starts' bytes' k') tree tree' address address' v.nodes v.numbers v.left v.right → ComparesForms ins outs starts bytes k starts' bytes' k' tree tree' address address' (Ok (Some v))
+  forms_differ {tree} {tree'} {address} {address'} {v} S = record {
     same = λ z. conflict (cc);
-    differ = λ m₁ n₁ b₁ b₁' z. let h : m ≡ m₁ = cc in let i : n ≡ n₁ = cc in let j : b ≡ b₁ = cc in let j' : b' ≡ b₁' = cc in rw (← h, ← i, ← j, ← j') S;
+    differ = λ v' z. let h : v ≡ v' = cc in rw (← h) S;
     answered = λ x z. absurd (conflict (cc));
   }
 
@@ -142,11 +142,11 @@ module _ {stock counts bytes starts out counts' bytes' starts' out' : List ℕ} 
 
       -- and forms are equivalent exactly if the transducers are
       parts_answered : {tree tree' address address' : List ℕ} (x : Result (Option Shown) Refusal) → ComparesForms (inputs stock) (outputs stock) starts out k starts' out' k' tree tree' address address' x → Judged ((tree' ≡ tree) × (address' ≡ address)) (FoundParts stock n counts bytes n' counts' bytes' tree tree' address address') done (outcome_of x)
-      parts_answered compared.Alike F =
+      parts_answered (Ok None) F =
           let w = F.same refl in
           let l = X.alphabets.leaf in
           accept ((λ M M' E E'. (equivalent_alike l).0 (equivalent_trans (early_same X B e E l) (equivalent_trans (w.0 l) (equivalent_sym (early_same X' B' e' E' l))))), w.1, w.2)
-      parts_answered (compared.Differ m p b b') F = let S = F.differ m p b b' refl in accept (S.shown, (S.place, (S.written, λ M M' E E'. parts_difference S.difference E E')))
+      parts_answered (Ok (Some v)) F = let S = F.differ v refl in accept (S.shown, (S.place, (S.written, λ M M' E E'. parts_difference S.difference E E')))
       parts_answered (Err x) F = absurd (F.answered x refl)
 
       pub parts_compared : {ins outs tree tree' address address' : List ℕ} → ins ≡ inputs stock → outs ≡ outputs stock → (x : Result (Option Shown) Refusal) → ComparesForms ins outs starts out k starts' out' k' tree tree' address address' x → ComparesParts stock n counts bytes n' counts' bytes' tree tree' address address' x
@@ -184,12 +184,12 @@ module _ {stock s s' ins ins' counts counts' bytes bytes' : List ℕ} {n n' : �
       let u = sheet_unique (inputs stock) (outputs stock) t m' m M Q.machine S (opened_sheet Q) in
       rw (← u.0, ← u.1, ← u.2) S.encodes
 
-  files_found : (tree tree' address address' : List ℕ) (v : Option (ℕ × ℕ × ℕ × ℕ)) → FoundParts stock n counts bytes n' counts' bytes' tree tree' address address' v → Found stock s s' tree tree' address address' v
-  files_found tree tree' address address' nothing F =
+  files_found : (tree tree' address address' : List ℕ) (v : Option Shown) → FoundParts stock n counts bytes n' counts' bytes' tree tree' address address' v → Found stock s s' tree tree' address address' v
+  files_found tree tree' address address' None F =
       let S = opened_sheet O in
       let S' = opened_sheet O' in
       (record { states = n; machine = O.machine; sheet = S; states' = n'; machine' = O'.machine; sheet' = S'; alike = F.0 O.machine O'.machine (sheet_parts O S) (sheet_parts O' S') }, F.1, F.2)
-  files_found tree tree' address address' (some v) F = record { shown = F.0; place = F.1.0; written = F.1.1.0; differ = λ m m' M M' S S'. F.1.1.1 M M' (sheet_parts O S) (sheet_parts O' S') }
+  files_found tree tree' address address' (Some v) F = record { shown = F.0; place = F.1.0; written = F.1.1.0; differ = λ m m' M M' S S'. F.1.1.1 M M' (sheet_parts O S) (sheet_parts O' S') }
 
   pub files_compared : {tree tree' address address' : List ℕ} → tree_area ≤ length tree → address_area ≤ length address → (x : Result (Option Shown) Refusal) → ComparesParts stock n counts bytes n' counts' bytes' tree tree' address address' x → Compares stock s s' tree tree' address address' x
   unfolding IsJudged
@@ -198,20 +198,20 @@ module _ {stock s s' ins ins' counts counts' bytes bytes' : List ℕ} {n n' : �
       Kept : Type 0
       Kept = (tree' ≡ tree) × (address' ≡ address)
 
-      last : (y : Outcome (Option (ℕ × ℕ × ℕ × ℕ))) → IsJudged Kept (FoundParts stock n counts bytes n' counts' bytes' tree tree' address address') done y → Judged Kept (Found stock s s' tree tree' address address') done y
+      last : (y : Outcome (Option Shown)) → IsJudged Kept (FoundParts stock n counts bytes n' counts' bytes' tree tree' address address') done y → Judged Kept (Found stock s s' tree tree' address address') done y
       last (accepted v) G = accept (files_found tree tree' address address' v G)
       last (refused k) G = absurd G
 
-      second : (y : Outcome (Option (ℕ × ℕ × ℕ × ℕ))) → IsJudged Kept (FoundParts stock n counts bytes n' counts' bytes' tree tree' address address') (check 7 ((k : ℕ) × ((cs : List ℕ) × ((bs : List ℕ) × EarliestOf stock n' counts' bytes' k cs bs))) done) y → Judged Kept (Found stock s s' tree tree' address address') (form_check stock s' done) y
+      second : (y : Outcome (Option Shown)) → IsJudged Kept (FoundParts stock n counts bytes n' counts' bytes' tree tree' address address') (check 7 ((k : ℕ) × ((cs : List ℕ) × ((bs : List ℕ) × EarliestOf stock n' counts' bytes' k cs bs))) done) y → Judged Kept (Found stock s s' tree tree' address address') (form_check stock s' done) y
       second y (inl (f, q, kept)) = rw q (refuse (λ w. f (w.0, (w.1.0, (w.1.1.0, to_parts O' w.1.1.1)))) kept)
       second y (inr (R, G)) = pass (R.0, (R.1.0, (R.1.1.0, from_parts O' R.1.1.1))) (last y G)
 
-      first : (y : Outcome (Option (ℕ × ℕ × ℕ × ℕ))) → IsJudged Kept (FoundParts stock n counts bytes n' counts' bytes' tree tree' address address') (check 7 ((k : ℕ) × ((cs : List ℕ) × ((bs : List ℕ) × EarliestOf stock n counts bytes k cs bs))) (check 7 ((k : ℕ) × ((cs : List ℕ) × ((bs : List ℕ) × EarliestOf stock n' counts' bytes' k cs bs))) done)) y → Judged Kept (Found stock s s' tree tree' address address') (form_check stock s (form_check stock s' done)) y
+      first : (y : Outcome (Option Shown)) → IsJudged Kept (FoundParts stock n counts bytes n' counts' bytes' tree tree' address address') (check 7 ((k : ℕ) × ((cs : List ℕ) × ((bs : List ℕ) × EarliestOf stock n counts bytes k cs bs))) (check 7 ((k : ℕ) × ((cs : List ℕ) × ((bs : List ℕ) × EarliestOf stock n' counts' bytes' k cs bs))) done)) y → Judged Kept (Found stock s s' tree tree' address address') (form_check stock s (form_check stock s' done)) y
       first y (inl (f, q, kept)) = rw q (refuse (λ w. f (w.0, (w.1.0, (w.1.1.0, to_parts O w.1.1.1)))) kept)
       first y (inr (R, G)) = pass (R.0, (R.1.0, (R.1.1.0, from_parts O R.1.1.1))) (second y G)
 
 -- equal trees have one symbol at an address
-symbols_same : {x y : Option (ℕ × ℕ)} {b b' r r' : ℕ} → x ≡ some (b, r) → y ≡ some (b', r') → x ≡ y → b ≡ b'
+symbols_same : {x y : Maybe (ℕ × ℕ)} {b b' r r' : ℕ} → x ≡ some (b, r) → y ≡ some (b', r') → x ≡ y → b ≡ b'
 symbols_same {b = b} {b'} {r} {r'} p q e = let w : ◌≡◌ {A = ℕ × ℕ} (b, r) (b', r') = cc in ap (λ (z : ℕ × ℕ). z.0) w
 
 -- files that differ do not sew alike: two output trees have two symbols at one address
@@ -223,7 +223,7 @@ differ_unlike D A =
 -- ---- the marks of the alike one with fewer
 module _ {stock s s' tree tree' address address' : List ℕ} {r : Result (Option Shown) Refusal} (J : Compares stock s s' tree tree' address address' r) where
   -- the two are alike, and these are their marks
-  module _ (e : r ≡ compared.Alike) {left right : List ℕ} (B : HandsMarks stock s left) (B' : HandsMarks stock s' right) where
+  module _ (e : r ≡ Ok None) {left right : List ℕ} (B : HandsMarks stock s left) (B' : HandsMarks stock s' right) where
     alike_holds : Holds (pair_check stock s s') × SewAlike stock s s'
     unfolding Holds
     alike_holds = let w = accepted_holds (rw e at J) in (w.0.1, w.1.0)
@@ -260,7 +260,7 @@ module _ {stock s s' tree tree' address address' : List ℕ} {r : Result (Option
     shorter_right h = alike_fewer (λ l. absurd (omega arith)) (λ l. refl)
 
   -- they differ
-  pub shorter_differ : {m n b b' : ℕ} → r ≡ compared.Differ m n b b' → HandsShorter stock s s' []
+  pub shorter_differ : {v : Shown} → r ≡ Ok (Some v) → HandsShorter stock s s' []
   unfolding Holds
   shorter_differ e = let w = accepted_holds (rw e at J) in inl (w.0.1, inr (differ_unlike w.1, refl))
 

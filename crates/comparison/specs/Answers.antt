@@ -3,7 +3,6 @@ use Rattle.std.specs.Prelude.{Err, None, Ok, Option, Result, Some, ℕ, ◌≤�
 use Rattle.trees.specs.declared.refusal.Refusal.{Refusal}
 use Rattle.witness.specs.declared.witness.Shown.{Shown}
 use Rattle.trees.specs.Refusal.{outcome_of, refusal_number, Outcome, accepted, refused, Checks, done, check, Judged, Handed}
-use Rattle.std.proofs.Math.Option.{Option, some, none as nothing}
 use Rattle.theory.specs.Term.{Tree}
 use Rattle.theory.specs.Transducer.{Transducer}
 use Rattle.trees.specs.Alphabets.{inputs, outputs, alphabet_check}
@@ -19,10 +18,10 @@ pub record Differ (stock s s' tree tree' address address' : List ℕ) (nodes num
   pub written : Written shown place tree tree' address address' nodes numbers
   pub differ : (n n' : ℕ) (M M' : Transducer ℕ) → Sheet (inputs stock) (outputs stock) s n M → Sheet (inputs stock) (outputs stock) s' n' M' → Difference (inputs stock) (outputs stock) M M' shown place b b'
 
--- alike, or the numbers of nodes and of address numbers and the two symbols
-abbrev pub Found : List ℕ → List ℕ → List ℕ → List ℕ → List ℕ → List ℕ → List ℕ → Option (ℕ × ℕ × ℕ × ℕ) → Type 0
-Found stock s s' tree tree' address address' nothing = SewAlike stock s s' × (tree' ≡ tree) × (address' ≡ address)
-Found stock s s' tree tree' address address' (some v) = Differ stock s s' tree tree' address address' v.0 v.1 v.2 v.3
+-- None where they are alike, or what is shown: the numbers of nodes and of address numbers and the two symbols
+abbrev pub Found : List ℕ → List ℕ → List ℕ → List ℕ → List ℕ → List ℕ → List ℕ → Option Shown → Type 0
+Found stock s s' tree tree' address address' None = SewAlike stock s s' × (tree' ≡ tree) × (address' ≡ address)
+Found stock s s' tree tree' address address' (Some v) = Differ stock s s' tree tree' address address' v.nodes v.numbers v.left v.right
 
 -- refusals 2, 4, 5 and 7 of two files
 abbrev pub pair_check : List ℕ → List ℕ → List ℕ → Checks

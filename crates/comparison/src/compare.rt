@@ -7,10 +7,10 @@ ghost use Rattle.comparison.specs.Inner.Verdicts.{ComparesForms, EarlyForm, Comp
 
 use earliest::earliest::form_of_parts;
 use formats::file::{counts_end, read_transducer};
-use pairs::pairs::{Verdict, search};
+use pairs::pairs::search;
 use trees::alphabet::{input_ranks, output_ranks};
 use trees::refusal::Refusal;
-use witness::witness::show;
+use witness::witness::{Shown, show};
 
 // Compares two earliest forms.
 fn compare_forms(
@@ -41,12 +41,12 @@ fn compare_forms(
         &mut classes2[0..n2],
         &mut pairs,
     ) {
-        Verdict::Same => Comparison::Alike,
-        Verdict::Clash(q, a, m) => {
-            let s = show(
-                ins, outs, starts1, marks1, n1, starts2, marks2, n2, &pairs, q, a, m, tree, address,
+        Ok(()) => Ok(None),
+        Err(clash) => {
+            let shown = show(
+                ins, outs, starts1, marks1, n1, starts2, marks2, n2, &pairs, clash, tree, address,
             );
-            Comparison::Differ(s.nodes, s.numbers, s.left, s.right)
+            Ok(Some(shown))
         }
     }
 }
@@ -68,21 +68,20 @@ fn compare_with(
 {
     let mut starts2 = [0u16; 2050];
     let mut form2 = [0u8; 16384];
-    match form_of_parts(stock, n2, counts2, marks2, &mut starts2, &mut form2) {
-        Some(k2) => compare_forms(
-            input_ranks(stock),
-            output_ranks(stock),
-            starts1,
-            form1,
-            k1,
-            &starts2,
-            &form2,
-            k2,
-            tree,
-            address,
-        ),
-        None => Err(Refusal::OverLimits),
-    }
+    let k2 = form_of_parts(stock, n2, counts2, marks2, &mut starts2, &mut form2)
+        .ok_or(Refusal::OverLimits)?;
+    compare_forms(
+        input_ranks(stock),
+        output_ranks(stock),
+        starts1,
+        form1,
+        k1,
+        &starts2,
+        &form2,
+        k2,
+        tree,
+        address,
+    )
 }
 
 // Compares the earliest forms of the transducers whose n, counts and marks these are.
@@ -102,12 +101,11 @@ fn compare_parts(
 {
     let mut starts = [0u16; 2050];
     let mut form = [0u8; 16384];
-    match form_of_parts(stock, n1, counts1, marks1, &mut starts, &mut form) {
-        Some(k) => compare_with(
-            stock, &starts, &form, k, n2, counts2, marks2, tree, address,
-        ),
-        None => Err(Refusal::OverLimits),
-    }
+    let k1 = form_of_parts(stock, n1, counts1, marks1, &mut starts, &mut form)
+        .ok_or(Refusal::OverLimits)?;
+    compare_with(
+        stock, &starts, &form, k1, n2, counts2, marks2, tree, address,
+    )
 }
 
 // Compares the transducers of two files: where they differ, `tree` begins with an input tree (01: design) and `address` with an address (01: place).
@@ -126,25 +124,19 @@ pub fn compare(
     if address.len() < 16128 {
         return Err(Refusal::ShortArea);
     }
-    match read_transducer(stock, first) {
-        Ok(n1) => match read_transducer(stock, second) {
-            Ok(n2) => {
-                let from1 = counts_end(stock, n1);
-                let from2 = counts_end(stock, n2);
-                compare_parts(
-                    stock,
-                    n1,
-                    &first[1..from1],
-                    &first[from1..],
-                    n2,
-                    &second[1..from2],
-                    &second[from2..],
-                    tree,
-                    address,
-                )
-            }
-            Err(r) => Err(r),
-        },
-        Err(r) => Err(r),
-    }
+    let n1 = read_transducer(stock, first)?;
+    let n2 = read_transducer(stock, second)?;
+    let from1 = counts_end(stock, n1);
+    let from2 = counts_end(stock, n2);
+    compare_parts(
+        stock,
+        n1,
+        &first[1..from1],
+        &first[from1..],
+        n2,
+        &second[1..from2],
+        &second[from2..],
+        tree,
+        address,
+    )
 }

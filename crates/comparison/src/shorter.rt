@@ -11,7 +11,7 @@ pub fn shorter<'a>(stock: &[u8], first: &'a [u8], second: &'a [u8]) -> &'a [u8]
     let mut tree = [0u8; 1536];
     let mut address = [0u8; 16128];
     match compare(stock, first, second, &mut tree, &mut address) {
-        Comparison::Alike => {
+        Ok(None) => {
             let left = transducer_marks(stock, first);
             let right = transducer_marks(stock, second);
             if right.len() < left.len() {
@@ -20,7 +20,7 @@ pub fn shorter<'a>(stock: &[u8], first: &'a [u8], second: &'a [u8]) -> &'a [u8]
                 left
             }
         }
-        Comparison::Differ(_, _, _, _) => &first[0..0],
-        Err(_) => &first[0..0],
+        Ok(Some(_)) => &first[..0],
+        Err(_) => &first[..0],
     }
 }

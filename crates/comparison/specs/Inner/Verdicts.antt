@@ -2,7 +2,6 @@
 use Rattle.std.specs.Prelude.{Err, None, Ok, Option, Result, Some, ℕ, List, ◌≡◌}
 use Rattle.witness.specs.declared.witness.Shown.{Shown}
 use Rattle.trees.specs.Refusal.{outcome_of, done, check, Judged}
-use Rattle.std.proofs.Math.Option.{Option, some, none as nothing}
 use Rattle.theory.specs.Equivalent.{Equivalent}
 use Rattle.theory.specs.Term.{Tree}
 use Rattle.theory.specs.Transducer.{Transducer}
@@ -19,16 +18,16 @@ use Rattle.witness.specs.Inner.Forms.{Shows}
 
 -- what is answered of two earliest forms: they are equivalent, or a difference
 pub record ComparesForms (ins outs starts bytes : List ℕ) (k : ℕ) (starts' bytes' : List ℕ) (k' : ℕ) (tree tree' address address' : List ℕ) (r : Result (Option Shown) Refusal) : Type 0 where
-  pub same : r ≡ compared.Alike → ((l : Leaf ins) → Equivalent (alphabet ins l) (machine ins outs starts bytes k) (machine ins outs starts' bytes' k')) × (tree' ≡ tree) × (address' ≡ address)
-  pub differ : (nodes numbers b b' : ℕ) → r ≡ compared.Differ nodes numbers b b' → Shows ins outs (machine ins outs starts bytes k) (machine ins outs starts' bytes' k') tree tree' address address' nodes numbers b b'
+  pub same : r ≡ Ok None → ((l : Leaf ins) → Equivalent (alphabet ins l) (machine ins outs starts bytes k) (machine ins outs starts' bytes' k')) × (tree' ≡ tree) × (address' ≡ address)
+  pub differ : (v : Shown) → r ≡ Ok (Some v) → Shows ins outs (machine ins outs starts bytes k) (machine ins outs starts' bytes' k') tree tree' address address' v.nodes v.numbers v.left v.right
   pub answered : (x : Refusal) → r ≡ Err x → ⊥
 
 -- what is answered of the parts of two files
-abbrev pub FoundParts : List ℕ → ℕ → List ℕ → List ℕ → ℕ → List ℕ → List ℕ → List ℕ → List ℕ → List ℕ → List ℕ → Option (ℕ × ℕ × ℕ × ℕ) → Type 0
-FoundParts stock n counts bytes n' counts' bytes' tree tree' address address' nothing =
+abbrev pub FoundParts : List ℕ → ℕ → List ℕ → List ℕ → ℕ → List ℕ → List ℕ → List ℕ → List ℕ → List ℕ → List ℕ → Option Shown → Type 0
+FoundParts stock n counts bytes n' counts' bytes' tree tree' address address' None =
     ((M M' : Transducer ℕ) → Encodes (inputs stock) (outputs stock) n counts bytes M → Encodes (inputs stock) (outputs stock) n' counts' bytes' M' → Alike (inputs stock) M M') × (tree' ≡ tree) × (address' ≡ address)
-FoundParts stock n counts bytes n' counts' bytes' tree tree' address address' (some v) =
-    (d : Tree) × ((place : List ℕ) × (Written d place tree tree' address address' v.0 v.1 × ((M M' : Transducer ℕ) → Encodes (inputs stock) (outputs stock) n counts bytes M → Encodes (inputs stock) (outputs stock) n' counts' bytes' M' → Difference (inputs stock) (outputs stock) M M' d place v.2 v.3)))
+FoundParts stock n counts bytes n' counts' bytes' tree tree' address address' (Some v) =
+    (d : Tree) × ((place : List ℕ) × (Written d place tree tree' address address' v.nodes v.numbers × ((M M' : Transducer ℕ) → Encodes (inputs stock) (outputs stock) n counts bytes M → Encodes (inputs stock) (outputs stock) n' counts' bytes' M' → Difference (inputs stock) (outputs stock) M M' d place v.left v.right)))
 
 abbrev pub ComparesParts : List ℕ → ℕ → List ℕ → List ℕ → ℕ → List ℕ → List ℕ → List ℕ → List ℕ → List ℕ → List ℕ → Result (Option Shown) Refusal → Type 0
 ComparesParts stock n counts bytes n' counts' bytes' tree tree' address address' r =

@@ -1,9 +1,11 @@
 -- What is asked of a transducer whose states are numbers, and what stands in the table after its bodies were added one by one.
-use Rattle.std.specs.Prelude.{None, Option, Some, ℕ, ◌≤◌, ◌<◌, List, ◌≡◌, length, get_or}
+use Rattle.std.specs.Prelude.{None, Option, Some, ℕ, ◌≤◌, ◌<◌, List, ◌≡◌, length, get_or, take, drop, ◌-◌}
 use Rattle.std.proofs.Math.Seq.{slice}
 use Rattle.theory.specs.Discovered.{ReadStates, Discovered}
 use Rattle.theory.specs.Listing.{Indexes, listed}
 use Rattle.theory.specs.NormalForm.{Identical}
+use Rattle.theory.specs.Term.{Term}
+use Rattle.trees.specs.declared.bytes.Span.{Span}
 use Rattle.theory.specs.Transducer.{Transducer}
 use Rattle.trees.specs.Alphabets.{Leaf}
 use Rattle.trees.specs.Code.{Ranked}
@@ -36,6 +38,13 @@ pub record FindsRhs (E : Transducer ℕ) (c a : ℕ) (letters : List ℕ) (from 
   pub ordered : from ≤ to
   pub inside : to ≤ length letters
   pub spelled : slice from to letters ≡ spelt (E.rhs c a)
+
+-- the letters of a term stand in a span of the area, or are more than a body has
+pub record Spells (t : Term (ℕ × ℕ)) (letters : List ℕ) (r : Option Span) : Type 0 where
+  pub over : r ≡ None → 64 < length (spelt t)
+  pub ordered : (s : Span) → r ≡ Some s → s.from ≤ s.to
+  pub inside : (s : Span) → r ≡ Some s → s.to ≤ length letters
+  pub spelled : (s : Span) → r ≡ Some s → take (s.to - s.from) (drop s.from letters) ≡ spelt t
 
 -- nothing is there yet
 pub record Empty (w : ℕ) (starts out list place : List ℕ) : Type 0 where

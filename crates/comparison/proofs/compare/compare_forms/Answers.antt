@@ -15,10 +15,10 @@ pub search-requires : goal.search-requires
 search-requires c = (forms_searchable c.requires.0, omega (arith, length-replicate {A = ℕ} 1536 0))
 
 pub show-s-requires : goal.show-s-requires
-show-s-requires c = (c.requires.0, (forms_searched c.requires.0 c.search.ensures).clash _ _ _ c.in-Clash.is, c.requires.1, c.requires.2)
+show-s-requires c = (c.requires.0, (forms_searched c.requires.0 c.search.ensures).clash _ _ _ c.in-Err.is, c.requires.1, c.requires.2)
 
-pub returns-in-Same : goal.returns-in-Same
-returns-in-Same c = forms_same c.requires.0 (forms_searched c.requires.0 c.search.ensures) c.in-Same.is
+pub returns-in-Ok : goal.returns-in-Ok
+returns-in-Ok c = forms_same c.requires.0 (forms_searched c.requires.0 c.search.ensures) c.in-Ok.is
 
-pub returns-in-Clash : goal.returns-in-Clash
-returns-in-Clash c = forms_differ c.requires.0 c.show-s.ensures
+pub returns-in-Err : goal.returns-in-Err
+returns-in-Err c = forms_differ c.requires.0 c.show-s.ensures

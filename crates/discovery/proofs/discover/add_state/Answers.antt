@@ -1,0 +1,88 @@
+-- `add_state` meets its contract. The invariant: the right-hand sides of the state for the symbols below a were added. Assumes nothing.
+use native.Mathlib.Omega.{arith}
+use mathlib.Core.Path.{refl, ◌∙◌}
+use Prim.Native.Nat.{◌<◌}
+use lib.ListN.{length}
+use mathlib.Core.Logic.{inl}
+use Rattle.discovery.proofs.Stages.{stage_none, stage_state, stage_room, stage_next, stage_all, rhs_sayable}
+use Rattle.discovery.proofs.Loops.{adds_none, adds_some}
+use Rattle.discovery.proofs.TooLarge.{stage_over}
+use Rattle.discovery.proofs.discover.add_state.Goals as goal
+
+pub loop-a-init : goal.loop-a-init
+loop-a-init g c =
+    let X = g.met.S.Spelled.numbers c.args.source.now c.requires.0 in
+    let l = g.met.S.Spelled.leaf c.args.source.now c.requires.0 in
+    record { letters = refl; starts = refl; list = refl; stage = stage_none X l c.requires.2 c.requires.3 c.from-c.ensures }
+
+pub spell_rhs-requires : goal.spell_rhs-requires
+spell_rhs-requires g c =
+    let X = g.met.S.Spelled.numbers c.args.source.now c.requires.0 in
+    let l = g.met.S.Spelled.leaf c.args.source.now c.requires.0 in
+    let e = c.symbols-symbols.ensures in
+    let T = c.loop-a.invariant.stage in
+    let there : c.loop-a.a < length (g.S.Spelled.ins c.args.source.now) = omega (arith, e, c.loop-a-test.true) in
+    (c.requires.0, omega (arith, c.requires.1, c.loop-a.invariant.letters), stage_state X l T, there)
+
+pub shape_of-letters-in_err-span : goal.shape_of-letters-in_err-span
+shape_of-letters-in_err-span g c = c.spell_rhs.auto.letters ∙ c.loop-a.invariant.letters
+
+pub returns-in_err-span : goal.returns-in_err-span
+returns-in_err-span g c =
+    let X = g.met.S.Spelled.numbers c.args.source.now c.requires.0 in
+    let l = g.met.S.Spelled.leaf c.args.source.now c.requires.0 in
+    let e = c.symbols-symbols.ensures in
+    let T = c.loop-a.invariant.stage in
+    let there : c.loop-a.a < length (g.S.Spelled.ins c.args.source.now) = omega (arith, e, c.loop-a-test.true) in
+    rw c.from_residual.ensures (adds_none (stage_over X T there refl (inl (c.spell_rhs.ensures.over c.in_err-span.was))))
+
+pub offset_bounds-letters-span : goal.offset_bounds-letters-span
+offset_bounds-letters-span g c = omega (arith, c.spell_rhs.ensures.ordered _ c.in_ok-span.was, c.spell_rhs.ensures.inside _ c.in_ok-span.was, c.spell_rhs.auto.letters, c.loop-a.invariant.letters, c.well_formed)
+
+pub add_body-requires : goal.add_body-requires
+add_body-requires g c =
+    let X = g.met.S.Spelled.numbers c.args.source.now c.requires.0 in
+    let l = g.met.S.Spelled.leaf c.args.source.now c.requires.0 in
+    let e = c.symbols-symbols.ensures in
+    let T = c.loop-a.invariant.stage in
+    let there : c.loop-a.a < length (g.S.Spelled.ins c.args.source.now) = omega (arith, e, c.loop-a-test.true) in
+    let room = stage_room X l T there in
+    (T.bodies.queue, T.bodies.few, rw (c.spell_rhs.ensures.spelled _ c.in_ok-span.was, T.bodies.wide) (rhs_sayable X c.from-c.result c.loop-a.a (stage_state X l T) there), rw e (omega (arith, room, T.bodies.long)), rw e T.bodies.all, T.bodies.room)
+
+pub shape_of-letters-in_err-n : goal.shape_of-letters-in_err-n
+shape_of-letters-in_err-n g c = c.spell_rhs.auto.letters ∙ c.loop-a.invariant.letters
+
+pub returns-in_err-n : goal.returns-in_err-n
+returns-in_err-n g c =
+    let X = g.met.S.Spelled.numbers c.args.source.now c.requires.0 in
+    let l = g.met.S.Spelled.leaf c.args.source.now c.requires.0 in
+    let e = c.symbols-symbols.ensures in
+    let T = c.loop-a.invariant.stage in
+    let there : c.loop-a.a < length (g.S.Spelled.ins c.args.source.now) = omega (arith, e, c.loop-a-test.true) in
+    rw c.from_residual-in_err-n.ensures (adds_none (stage_over X T there (c.spell_rhs.ensures.spelled _ c.in_ok-span.was) (rw e at (c.add_body.ensures.over c.in_err-n.was))))
+
+pub loop-a-preserved : goal.loop-a-preserved
+loop-a-preserved g c =
+    let X = g.met.S.Spelled.numbers c.args.source.now c.requires.0 in
+    let l = g.met.S.Spelled.leaf c.args.source.now c.requires.0 in
+    let e = c.symbols-symbols.ensures in
+    let T = c.loop-a.invariant.stage in
+    let there : c.loop-a.a < length (g.S.Spelled.ins c.args.source.now) = omega (arith, e, c.loop-a-test.true) in
+    let I = c.loop-a.invariant in
+    let k = c.add_body in
+    record {
+      letters = c.spell_rhs.auto.letters ∙ I.letters;
+      starts = k.auto.starts ∙ I.starts;
+      list = k.auto.list ∙ I.list;
+      stage = stage_next X l T there (rw e at k.ensures) c.in_ok-n.was (c.spell_rhs.ensures.spelled _ c.in_ok-span.was);
+    }
+
+pub shape_of-letters : goal.shape_of-letters
+shape_of-letters g c = c.loop-a.invariant.letters
+
+pub returns : goal.returns
+returns g c =
+    let X = g.met.S.Spelled.numbers c.args.source.now c.requires.0 in
+    let l = g.met.S.Spelled.leaf c.args.source.now c.requires.0 in
+    let e = c.symbols-symbols.ensures in
+    adds_some (stage_all X l c.loop-a.invariant.stage (omega (arith, e, c.loop-a.auto.a-end, c.loop-a-test.false)))
