@@ -1,8 +1,8 @@
 -- What the functions that lead to the joined file ask of each other, and what the entry point answers where a check fails.
 -- Assumes nothing.
-use Rattle.std.specs.Prelude.{Err, None, Ok, Option, Result, Some}
+use Rattle.std.specs.Prelude.{Err, Ok, Option, Result, Some}
 use Rattle.forms.specs.declared.write.Form.{Form}
-use Prim.Native.Nat.{ℕ, ◌-◌, ◌≤◌}
+use Prim.Native.Nat.{ℕ, ◌≤◌}
 use mathlib.Core.Bool.{Bool}
 use mathlib.Core.List.{List}
 use mathlib.Core.Logic.{inl, inr}
@@ -36,11 +36,11 @@ module _ {stock stock' counts bytes counts' bytes' ins ins' : List ℕ} {n m : �
 module _ {stock stock' counts bytes counts' bytes' starts out area : List ℕ} {n m size k : ℕ} {found : Option ℕ} (J : Joinable stock stock' n counts bytes m counts' bytes') (S : StockJoined stock stock' area size)
     (P : JoinsParts stock stock' n counts bytes m counts' bytes' starts out found) (e : found ≡ Some k) where
   -- it can be written
-  pub found_writes : {before : List ℕ} → longest ≤ length before → FoundWritable (take (size - 0) area) (Some k) starts out before
+  pub found_writes : {before : List ℕ} → longest ≤ length before → FoundWritable (take size area) (Some k) starts out before
   found_writes room = file_writable P J e (stock_lent S) room
 
   -- and was
-  pub found_joined : {before after : List ℕ} {r : Result Form Refusal} → WritesFound (take (size - 0) area) (Some k) starts out before after r → JoinsFile stock stock' n counts bytes m counts' bytes' before after r
+  pub found_joined : {before after : List ℕ} {r : Result Form Refusal} → WritesFound (take size area) (Some k) starts out before after r → JoinsFile stock stock' n counts bytes m counts' bytes' before after r
   found_joined W = file_joined P J e (stock_lent S) W
 
 -- ---- two files

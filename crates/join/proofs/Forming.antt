@@ -4,7 +4,7 @@ use Rattle.std.specs.Prelude.{Err, None, Ok, Option, Result, Some}
 use Rattle.trees.specs.declared.refusal.Refusal.{Refusal}
 use Rattle.forms.specs.declared.write.Form.{Form}
 use Rattle.trees.specs.Refusal.{outcome_of, done, check, IsJudged, Holds, Judged}
-use Prim.Native.Nat.{ℕ, ◌-◌, ◌≤◌}
+use Prim.Native.Nat.{ℕ, ◌≤◌}
 use native.Mathlib.Omega.{arith}
 use mathlib.Core.List.{List}
 use mathlib.Core.Logic.{inl, inr}
@@ -107,8 +107,8 @@ module _ {stock stock' : List ℕ} {n : ℕ} {counts bytes : List ℕ} {m : ℕ}
 
 -- ---- the file of the joined transducer that was found
 -- the alphabets of the joined transducer, as they are lent
-pub stock_lent : {stock stock' area : List ℕ} {r : ℕ} → StockJoined stock stock' area r → take (r - 0) area ≡ stockFile (inputs stock) (outputs stock')
-stock_lent {area = area} {r = r} K = let z : r - 0 ≡ r = omega arith in ap (λ k. take k area) z ∙ K.coded
+pub stock_lent : {stock stock' area : List ℕ} {r : ℕ} → StockJoined stock stock' area r → take r area ≡ stockFile (inputs stock) (outputs stock')
+stock_lent K = K.coded
 
 -- they are right
 stock_alphabets : {stock stock' : List ℕ} → Alphabets stock → Alphabets stock' → Alphabets (stockFile (inputs stock) (outputs stock'))
@@ -187,10 +187,10 @@ module _ {stock s ins counts bytes : List ℕ} {n : ℕ} (O : Opened stock s n i
   unfolding IsJudged Holds
   sheets_joined {before} {after} r J = go r J.verdict
     where
-      start : (r : Result Form Refusal) → Judged (after ≡ before) (λ v. (counts'' : List ℕ) × ((bytes'' : List ℕ) × (JoinedFile stock stock' s s' v.0 counts'' bytes'' × FileOf v counts'' bytes'' before after))) (join_check stock stock' s s' done) (outcome_of r) → JoinsSheets stock stock' s s' before after r
+      start : (r : Result Form Refusal) → Judged (after ≡ before) (λ v. (counts'' : List ℕ) × ((bytes'' : List ℕ) × (JoinedFile stock stock' s s' v.states counts'' bytes'' × FileOf v counts'' bytes'' before after))) (join_check stock stock' s s' done) (outcome_of r) → JoinsSheets stock stock' s s' before after r
       start r j = let w = O.holds.1 in let w' = O'.holds.1 in pass w.0 (pass w.1.0 (pass w'.0 (pass w'.1.0 j)))
 
-      go : (r : Result Form Refusal) → IsJudged (after ≡ before) (λ v. (counts'' : List ℕ) × ((bytes'' : List ℕ) × (JoinedOf stock stock' n counts bytes m counts' bytes' v.0 counts'' bytes'' × FileOf v counts'' bytes'' before after))) (check 17 ((k : ℕ) × ((counts'' : List ℕ) × ((bytes'' : List ℕ) × JoinedOf stock stock' n counts bytes m counts' bytes' k counts'' bytes''))) done) (outcome_of r) → JoinsSheets stock stock' s s' before after r
+      go : (r : Result Form Refusal) → IsJudged (after ≡ before) (λ v. (counts'' : List ℕ) × ((bytes'' : List ℕ) × (JoinedOf stock stock' n counts bytes m counts' bytes' v.states counts'' bytes'' × FileOf v counts'' bytes'' before after))) (check 17 ((k : ℕ) × ((counts'' : List ℕ) × ((bytes'' : List ℕ) × JoinedOf stock stock' n counts bytes m counts' bytes' k counts'' bytes''))) done) (outcome_of r) → JoinsSheets stock stock' s s' before after r
       go r (inl (h, q, kept)) = start r (rw q (refuse (λ w. h (w.0, (w.1.0, (w.1.1.0, to_parts w.1.1.1)))) kept))
-      go (Form k m s) (inr (R, (counts'', (bytes'', (P, f))))) = start (Form k m s) (pass (R.0, (R.1.0, (R.1.1.0, from_parts R.1.1.1))) (accept (counts'', (bytes'', (from_parts P, f)))))
+      go (Ok v) (inr (R, (counts'', (bytes'', (P, f))))) = start (Ok v) (pass (R.0, (R.1.0, (R.1.1.0, from_parts R.1.1.1))) (accept (counts'', (bytes'', (from_parts P, f)))))
       go (Err x) (inr (R, u)) = absurd u

@@ -1,6 +1,6 @@
 -- What joining promises whatever transducers the two files have: the joined file translates as the second after the first, also in the terms of output trees; it is accepted under the joined stock; the contract determines the answer and the area; files that translate alike have joined files that do; joining three files either way gives one file.
 -- Assumes nothing.
-use Rattle.std.specs.Prelude.{Option, Result}
+use Rattle.std.specs.Prelude.{Result}
 use Rattle.trees.specs.declared.refusal.Refusal.{Refusal}
 use Rattle.forms.specs.declared.write.Form.{Form}
 use Rattle.trees.specs.Refusal.{outcome_of, accepted, done, check, Holds}
@@ -107,16 +107,16 @@ module _ {stock stock' s s' : List ℕ} {k : ℕ} {counts bytes : List ℕ} (F :
 
 -- ---- what was written
 -- what an accepted answer says: both stocks are right and fit, and the area begins with the joined file
-pub record JoinWritten (stock stock' s s' after : List ℕ) (v : ℕ × ℕ × ℕ) : Type 0 where
+pub record JoinWritten (stock stock' s s' after : List ℕ) (v : Form) : Type 0 where
   pub alphabets : Alphabets stock
   pub alphabets' : Alphabets stock'
   pub fits : outputs stock ≡ inputs stock'
   pub counts : List ℕ
   pub bytes : List ℕ
-  pub joined : JoinedFile stock stock' s s' v.0 counts bytes
-  pub begins : take v.2 after ≡ file v.0 counts bytes
+  pub joined : JoinedFile stock stock' s s' v.states counts bytes
+  pub begins : take v.bytes after ≡ file v.states counts bytes
 
-pub join_written : {stock stock' s s' before after : List ℕ} (r : Result Form Refusal) {v : ℕ × ℕ × ℕ} → Joins stock stock' s s' before after r → outcome_of r ≡ accepted v → JoinWritten stock stock' s s' after v
+pub join_written : {stock stock' s s' before after : List ℕ} (r : Result Form Refusal) {v : Form} → Joins stock stock' s s' before after r → outcome_of r ≡ accepted v → JoinWritten stock stock' s s' after v
 unfolding Holds
 join_written {stock} {stock'} {s} {s'} {before} {after} r {v} J e =
     let w = accepted_holds (rw e at J) in
@@ -125,16 +125,16 @@ join_written {stock} {stock'} {s} {s'} {before} {after} r {v} J e =
     let F = w.1.1.1.0 in
     let O = w.1.1.1.1 in
     let A = w.0.1.0 in
-    let C = encodes_counted (inputs stock) (outputs stock') v.0 counts bytes F.form F.encodes in
-    let long : length (file v.0 counts bytes) ≤ length before = omega (arith, file_short (inputs stock) v.0 counts bytes A.ins.few C, w.0.0) in
-    record { alphabets = A; alphabets' = w.0.1.1.0; fits = w.0.1.1.1.0; counts = counts; bytes = bytes; joined = F; begins = written_take (file v.0 counts bytes) before after v.2 O.size long O.wrote }
+    let C = encodes_counted (inputs stock) (outputs stock') v.states counts bytes F.form F.encodes in
+    let long : length (file v.states counts bytes) ≤ length before = omega (arith, file_short (inputs stock) v.states counts bytes A.ins.few C, w.0.0) in
+    record { alphabets = A; alphabets' = w.0.1.1.0; fits = w.0.1.1.1.0; counts = counts; bytes = bytes; joined = F; begins = written_take (file v.states counts bytes) before after v.bytes O.size long O.wrote }
 
-module _ {stock stock' s s' after : List ℕ} {v : ℕ × ℕ × ℕ} (W : JoinWritten stock stock' s s' after v) where
+module _ {stock stock' s s' after : List ℕ} {v : Form} (W : JoinWritten stock stock' s s' after v) where
   -- What was written is a file that is accepted under the joined stock, which is right; and it is the file of the joined transducer.
-  pub join_sheet : Holds (alphabet_check (joined_stock stock stock') (sheet_check (joined_stock stock stock') (take v.2 after) done)) × Sheet (inputs stock) (outputs stock') (take v.2 after) v.0 W.joined.form
+  pub join_sheet : Holds (alphabet_check (joined_stock stock stock') (sheet_check (joined_stock stock stock') (take v.bytes after) done)) × Sheet (inputs stock) (outputs stock') (take v.bytes after) v.states W.joined.form
   join_sheet =
       let F = W.joined in
-      rw W.begins (sheet_holds (joined_stock stock stock') (file v.0 W.counts W.bytes) (stock_right W.alphabets.ins W.alphabets'.outs W.alphabets.leaf) v.0 F.form (stock_sheet F), joined_sheet F)
+      rw W.begins (sheet_holds (joined_stock stock stock') (file v.states W.counts W.bytes) (stock_right W.alphabets.ins W.alphabets'.outs W.alphabets.leaf) v.states F.form (stock_sheet F), joined_sheet F)
 
 -- ---- the contract determines the answer and the area
 -- identical transducers, with one number of states
@@ -164,9 +164,9 @@ unfolding Holds
 joins_determined {stock} {stock'} {s} {s'} {before} {after} {after'} r r' J J' =
     one_answer (λ u u'. u ∙ sym u') (check 1 (longest ≤ length before) (joinable stock stock' s s')) (outcome_of r) (outcome_of r') (λ h. good h.1.1.0 h.1.1.1.0) J.verdict J'.verdict
   where
-    good : Alphabets stock' → outputs stock ≡ inputs stock' → (v v' : ℕ × ℕ × ℕ) → (counts : List ℕ) × ((bytes : List ℕ) × (JoinedFile stock stock' s s' v.0 counts bytes × FileOf v counts bytes before after))
-        → (counts : List ℕ) × ((bytes : List ℕ) × (JoinedFile stock stock' s s' v'.0 counts bytes × FileOf v' counts bytes before after')) → (after ≡ after') × (v ≡ v')
-    good A' fits (k, m, n) (k', m', n') (counts, (bytes, (F, O))) (counts', (bytes', (F', O'))) = file_one O O' (join_unique A' fits F F')
+    good : Alphabets stock' → outputs stock ≡ inputs stock' → (v v' : Form) → (counts : List ℕ) × ((bytes : List ℕ) × (JoinedFile stock stock' s s' v.states counts bytes × FileOf v counts bytes before after))
+        → (counts : List ℕ) × ((bytes : List ℕ) × (JoinedFile stock stock' s s' v'.states counts bytes × FileOf v' counts bytes before after')) → (after ≡ after') × (v ≡ v')
+    good A' fits v v' (counts, (bytes, (F, O))) (counts', (bytes', (F', O'))) = file_one O O' (join_unique A' fits F F')
 
 -- ---- files that translate alike
 -- If two first files translate alike, then joined with one second file they do.

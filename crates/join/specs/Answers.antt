@@ -1,5 +1,5 @@
 -- What joining two transducers answers: the second after the first, as one transducer.
-use Rattle.std.specs.Prelude.{Option, Result, ℕ, ◌≤◌, List, ◌≡◌, length}
+use Rattle.std.specs.Prelude.{Result, ℕ, ◌≤◌, List, ◌≡◌, length}
 use Rattle.trees.specs.declared.refusal.Refusal.{Refusal}
 use Rattle.forms.specs.declared.write.Form.{Form}
 use Rattle.trees.specs.Refusal.{outcome_of, Checks, done, check, Judged}
@@ -42,6 +42,6 @@ joinable stock stock' s s' = alphabet_check stock (alphabet_check stock' (fit_ch
 -- the joined transducer, as a file
 abbrev pub Joins : List ℕ → List ℕ → List ℕ → List ℕ → List ℕ → List ℕ → Result Form Refusal → Type 0
 Joins stock stock' s s' before after r =
-    Judged (after ≡ before) (λ v. (counts : List ℕ) × ((bytes : List ℕ) × (JoinedFile stock stock' s s' v.0 counts bytes × FileOf v counts bytes before after)))
+    Judged (after ≡ before) (λ v. (counts : List ℕ) × ((bytes : List ℕ) × (JoinedFile stock stock' s s' v.states counts bytes × FileOf v counts bytes before after)))
     (check 1 (longest ≤ length before) (joinable stock stock' s s'))
     (outcome_of r)

@@ -162,7 +162,7 @@ fn add_state(
     let mut n = met;
     let mut a = 0;
     while a < symbols {
-        match add_rhs(
+        n = add_rhs(
             first,
             second,
             starts1,
@@ -177,14 +177,7 @@ fn add_state(
             list,
             place,
             n,
-        ) {
-            Some(m) => {
-                n = m;
-            }
-            None => {
-                return None;
-            }
-        }
+        )?;
         a += 1;
     }
     Some(n)
@@ -210,16 +203,9 @@ fn add_states(
     let mut n = met;
     let mut p = 0;
     while p < n {
-        match add_state(
+        n = add_state(
             first, second, starts1, marks1, starts2, marks2, p, starts, out, list, place, n,
-        ) {
-            Some(m) => {
-                n = m;
-            }
-            None => {
-                return None;
-            }
-        }
+        )?;
         p += 1;
     }
     Some(n)
@@ -242,13 +228,10 @@ pub(crate) fn discover(
     let mut list = [0u16; 192];
     let mut place = [0u8; 16384];
     starts[0] = 0;
-    match add_initial(
+    let met = add_initial(
         first, second, starts1, marks1, starts2, marks2, starts, out, &mut list, &mut place,
-    ) {
-        Some(met) => add_states(
-            first, second, starts1, marks1, starts2, marks2, starts, out, &mut list, &mut place,
-            met,
-        ),
-        None => None,
-    }
+    )?;
+    add_states(
+        first, second, starts1, marks1, starts2, marks2, starts, out, &mut list, &mut place, met,
+    )
 }

@@ -58,7 +58,7 @@ fn join_file(
     let size = join_stocks(first, second, &mut stock);
     let mut starts = [0u16; 2050];
     let mut out = [0u8; 16384];
-    match join_parts(
+    let states = join_parts(
         first,
         second,
         n1,
@@ -69,12 +69,9 @@ fn join_file(
         marks2,
         &mut starts,
         &mut out,
-    ) {
-        Some(k) => {
-            write_found(&stock[0..size], Some(k), &starts, &out, area)
-        }
-        None => Err(Refusal::JoinOverLimits),
-    }
+    )
+    .ok_or(Refusal::JoinOverLimits)?;
+    write_found(&stock[..size], Some(states), &starts, &out, area)
 }
 
 // Joins the transducers of two files whose alphabets are right and fit.
@@ -82,27 +79,21 @@ fn join_sheets(first: &[u8], second: &[u8], sheet1: &[u8], sheet2: &[u8], area: 
     requires { Alphabets first.now × Alphabets second.now × (outputs first.now ≡ inputs second.now) × (longest ≤ length area.old) }
     ensures { JoinsSheets first.now second.now sheet1.now sheet2.now area.old area.new result }
 {
-    match read_transducer(first, sheet1) {
-        Ok(n1) => match read_transducer(second, sheet2) {
-            Ok(n2) => {
-                let from1 = counts_end(first, n1);
-                let from2 = counts_end(second, n2);
-                join_file(
-                    first,
-                    second,
-                    n1,
-                    &sheet1[1..from1],
-                    &sheet1[from1..],
-                    n2,
-                    &sheet2[1..from2],
-                    &sheet2[from2..],
-                    area,
-                )
-            }
-            Err(r) => Err(r),
-        },
-        Err(r) => Err(r),
-    }
+    let n1 = read_transducer(first, sheet1)?;
+    let n2 = read_transducer(second, sheet2)?;
+    let from1 = counts_end(first, n1);
+    let from2 = counts_end(second, n2);
+    join_file(
+        first,
+        second,
+        n1,
+        &sheet1[1..from1],
+        &sheet1[from1..],
+        n2,
+        &sheet2[1..from2],
+        &sheet2[from2..],
+        area,
+    )
 }
 
 // Writes the file of the transducer of the file `sheet2` after that of the file `sheet1` (02: the joined sheet).

@@ -7,7 +7,7 @@ use Prim.Native.Nat.{ℕ, suc, ◌+◌, ◌-◌, ◌*◌, ◌≤◌, ◌<◌}
 use native.Mathlib.Numerals.{add-one}
 use native.Mathlib.Omega.{arith}
 use mathlib.Core.Bool.{Bool, true, false}
-use mathlib.Core.Option.{Option, some, none as nothing}
+use mathlib.Core.Option.{Option as MathOption, some, none as nothing}
 use mathlib.Core.Path.{◌≡◌, refl, sym, ap, ap₂, ◌∙◌}
 use mathlib.Core.List.{List, [], ◌∷◌}
 use lib.Dec.{leb}
@@ -27,10 +27,9 @@ use Rattle.trees.specs.Inner.Decode.{Letter, call, symbol, unknown, firsts, rest
 use Rattle.formats.specs.Inner.Layout.{mark_of, pairs, offset, body, body_number, body_count, transducer, Wholes, Starts}
 use Rattle.trees.specs.Inner.Symbols.{trees, tree}
 use Rattle.formats.specs.Inner.Marked.{part}
-use Rattle.trees.specs.Inner.Measured.{measured, MeasuredAll}
+use Rattle.trees.specs.Inner.Measured.{some_extent, measured, MeasuredAll}
 use Rattle.trees.specs.declared.refusal.Refusal.TheVariants.{BadTree}
 use Rattle.trees.specs.declared.tree.Extent.{Extent}
-use Rattle.trees.specs.declared.tree.Extent.TheVariants as extent
 use Rattle.trees.proofs.Forest.{first_tree, letters_pos, count_rests, count_firsts}
 use Rattle.trees.proofs.Codes.{single}
 use Rattle.trees.proofs.Extents.{seen, others_behind}
@@ -57,7 +56,7 @@ abbrev pub by_table : List ℕ → List ℕ → ℕ → List ℕ → List ℕ �
 by_table ins outs n starts bytes = transducer ins outs n (λ j. get_or starts j 0) bytes
 
 -- the symbol at the address v of its output
-abbrev pub sought : List ℕ → List ℕ → ℕ → List ℕ → List ℕ → List ℕ → List ℕ → Option Symbol
+abbrev pub sought : List ℕ → List ℕ → ℕ → List ℕ → List ℕ → List ℕ → List ℕ → MathOption Symbol
 sought ins outs n starts bytes s v = symbol_at (translate (by_table ins outs n starts bytes) (tree ins s)) v
 
 -- the terms from mark j on, in a body that ends at `to`
@@ -275,7 +274,7 @@ module _ {ins outs : List ℕ} {n : ℕ} {starts bytes s ends : List ℕ} (S : F
     follow_enough h = (symbol_here h).enough
 
     -- at the end of the address it is the symbol sought
-    pub follow_end : i ≡ 0 → length v ≤ k → finding.Symbol x ≡ placed (sought ins outs n starts bytes s v)
+    pub follow_end : i ≡ 0 → length v ≤ k → Ok (Some x) ≡ placed (sought ins outs n starts bytes s v)
     unfolding placed symbol_at root sub bind
     follow_end h g =
         let y = symbol_here h in
@@ -293,13 +292,13 @@ module _ {ins outs : List ℕ} {n : ℕ} {starts bytes s ends : List ℕ} (S : F
         ap₂ (λ t w. symbol_at (bind t (called-tree M (trees ins (drop below s)))) w) (sym y.term) (sym w) ∙ F.meaning
 
     -- an address that goes on to child 0, or to a child that the symbol has not, is nowhere
-    pub follow_zero : i ≡ 0 → k < length v → get_or v k 0 ≡ 0 → finding.Nowhere ≡ placed (sought ins outs n starts bytes s v)
+    pub follow_zero : i ≡ 0 → k < length v → get_or v k 0 ≡ 0 → Ok None ≡ placed (sought ins outs n starts bytes s v)
     unfolding placed root
     follow_zero h g z =
         let Ts = binds (firsts (get_or outs x 0) (terms_at outs n r bytes (j + 1) to)) (called-tree (by_table ins outs n starts bytes) (trees ins (drop below s))) in
         ap placed (sym (ap root (ap (λ c. subs Ts c (drop (k + 1) v)) z ∙ subs_zero Ts (drop (k + 1) v))) ∙ below_symbol h g)
 
-    pub follow_far : i ≡ 0 → k < length v → get_or outs x 0 < get_or v k 0 → finding.Nowhere ≡ placed (sought ins outs n starts bytes s v)
+    pub follow_far : i ≡ 0 → k < length v → get_or outs x 0 < get_or v k 0 → Ok None ≡ placed (sought ins outs n starts bytes s v)
     unfolding placed root
     follow_far h g z =
         let y = symbol_here h in
@@ -325,7 +324,7 @@ module _ {ins outs : List ℕ} {n : ℕ} {starts bytes s ends : List ℕ} (S : F
 
 -- ---- from one term of marks to the next
 -- behind the first of the terms there is one less to pass
-pub next_mark : (f : Mark → Letter (ℕ × ℕ)) (L : List Mark) (room p left e l : ℕ) → 0 < left → left < count (forest f (drop p L)) → measured room p (forest f (drop p L)) ≡ extent.Tree e l
+pub next_mark : (f : Mark → Letter (ℕ × ℕ)) (L : List Mark) (room p left e l : ℕ) → 0 < left → left < count (forest f (drop p L)) → measured room p (forest f (drop p L)) ≡ some_extent e l
     → (left - 1 < count (forest f (drop e L))) × (rests (left - 1) (forest f (drop e L)) ≡ rests left (forest f (drop p L)))
 unfolding count rests
 next_mark f L room p left e l h g m =
@@ -347,18 +346,18 @@ same_sheet {ins} {outs} counts {bytes} starts {n} S W d o =
 
 -- ---- the parts of a file
 -- the answer is the name of the symbol
-placed_named : (o : Option Symbol) → outcome_of (placed o) ≡ accepted (named o)
+placed_named : (o : MathOption Symbol) → outcome_of (placed o) ≡ accepted (named o)
 unfolding placed
 placed_named nothing = refl
 placed_named (some b) = refl
 
 -- ins and outs are the ranks in the stock
-module _ {stock : List ℕ} {n : ℕ} {counts bytes : List ℕ} (X : Machine stock n counts bytes) {ins : List ℕ} (e : ins ≡ inputs stock) {s : List ℕ} {r : Extent} (M : MeasuredAll ins s r) where
+module _ {stock : List ℕ} {n : ℕ} {counts bytes : List ℕ} (X : Machine stock n counts bytes) {ins : List ℕ} (e : ins ≡ inputs stock) {s : List ℕ} {r : Option Extent} (M : MeasuredAll ins s r) where
   -- what is no input tree is refused
-  pub no_tree : (v : List ℕ) → r ≡ extent.Bad → FindsBy stock n counts bytes s v (Err BadTree)
+  pub no_tree : (v : List ℕ) → r ≡ None → FindsBy stock n counts bytes s v (Err BadTree)
   no_tree v q = refuse (measured_none (rw e at M) q) tt
 
-  module _ {d l : ℕ} (q : r ≡ extent.Tree d l) {outs : List ℕ} (f : outs ≡ outputs stock) (starts : List ℕ) (S : Starts counts starts (body_count ins n)) (long : length starts ≡ 2050) where
+  module _ {d l : ℕ} (q : r ≡ some_extent d l) {outs : List ℕ} (f : outs ≡ outputs stock) (starts : List ℕ) (S : Starts counts starts (body_count ins n)) (long : length starts ≡ 2050) where
     -- the bodies are whole by the table of starts too
     by_starts : Wholes (inputs stock) (outputs stock) n (λ j. get_or starts j 0) bytes
     by_starts = from_offsets starts (machine_right X) (rw e at S) long (outputs stock) (encodes_wholes (inputs stock) (outputs stock) n counts bytes X.machine X.encodes)
@@ -367,7 +366,7 @@ module _ {stock : List ℕ} {n : ℕ} {counts bytes : List ℕ} (X : Machine sto
     pub can_follow : {ends : List ℕ} → Input ins s ends → Followed ins outs n starts bytes s ends
     can_follow I = rw (e, f) (record { bounds = in_bounds starts (machine_right X) (rw e at S) long; wholes = by_starts; one = (read_whole X e M q).one; input = rw e at I })
 
-    -- and what is outcome_of is what the file's parts promise
+    -- and what is found is what the file's parts promise
     pub symbol_found : (v : List ℕ) {x : Result (Option ℕ) Refusal} → x ≡ placed (sought ins outs n starts bytes s v) → FindsBy stock n counts bytes s v x
     symbol_found v {x} p =
         let T = read_whole X e M q in

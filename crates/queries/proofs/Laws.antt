@@ -1,6 +1,6 @@
 -- What the promises of the linear test and of the reader of one symbol come to. Read this file first: it cites the promises and nothing of the code.
 -- Assumes nothing.
-use Rattle.std.specs.Prelude.{Err, None, Ok, Option, Result, Some}
+use Rattle.std.specs.Prelude.{Ok, Option, Result}
 use Rattle.trees.specs.declared.refusal.Refusal.{Refusal}
 use Rattle.trees.specs.Refusal.{outcome_of, accepted, Holds, Decides}
 use Prim.Native.Nat.{ℕ, ◌≤◌, ◌<◌}
@@ -43,7 +43,7 @@ module _ {stock sheet design : List ℕ} {t : Tree} (A : Alphabets stock) (O : O
       let (o, (e, (u, (P, z)))) = must_accept (files_hold A O) J in
       e ∙ ap accepted (z ∙ ap (λ u. named (symbol_at u v)) (file_output_unique P O))
 
--- The translation and the place reader speak of one tree: what was written is its code, and the symbol that is outcome_of is the one there.
+-- The translation and the place reader speak of one tree: what was written is its code, and the symbol that is found is the one there.
 pub agree : (stock sheet design before after : List ℕ) (k : ℕ) (v : List ℕ) (r : Result (Option ℕ) Refusal) → Translates stock sheet design before after (Ok k) → FindsSymbol stock sheet design v r → (t : Tree) × ((take k after ≡ code t) × (outcome_of r ≡ accepted (named (symbol_at t v))))
 unfolding Holds
 agree stock sheet design before after k v r J F =

@@ -1,11 +1,9 @@
 -- Reading the table of a transducer reads its states in the order of first meeting: so those that are met are those that are reached, and it is linear exactly if no body that is read calls a child twice.
 -- Assumes nothing.
-use Rattle.std.specs.Prelude.{Option, Result}
-use Rattle.trees.specs.declared.refusal.Refusal.{Refusal}
-use Rattle.trees.specs.Refusal.{outcome_of, accepted, Holds, Decides}
-use Prim.Native.Nat.{ℕ, suc, ◌+◌, ◌-◌, ◌*◌, ◌≤◌, ◌<◌}
+use Rattle.std.specs.Prelude.{Ok}
+use Rattle.trees.specs.Refusal.{Holds, Decides}
+use Prim.Native.Nat.{ℕ, suc, ◌+◌, ◌*◌, ◌≤◌, ◌<◌}
 use native.Mathlib.Decide.{ℕ_discrete}
-use native.Mathlib.Nat.{sub-zero}
 use native.Mathlib.Omega.{arith}
 use mathlib.Core.Bool.{Bool, true, false}
 use mathlib.Core.List.{List, ◌∷◌}
@@ -132,18 +130,18 @@ zeros (suc k) (suc w) h = ap (◌∷◌ 0) (zeros k w (omega arith))
 
 module _ {stock s : List ℕ} {n : ℕ} {ins counts bytes : List ℕ} (O : Opened stock s n ins counts bytes) (starts : List ℕ) (S : Starts counts starts (body_count ins n)) where
   -- the bodies are in their places, and no state has been met
-  pub opened_bodies : (w : ℕ) → w ≡ 192 → length starts ≡ 2050 → LowBodies (1 + length (take (n - 0) (replicate {A = ℕ} 128 0)) * length ins) (length (take (n - 0) (replicate {A = ℕ} 128 0))) starts bytes × Queue (replicate w 0) (take (n - 0) (replicate {A = ℕ} 128 0)) 0
+  pub opened_bodies : (w : ℕ) → w ≡ 192 → length starts ≡ 2050 → LowBodies (1 + length (take n (replicate {A = ℕ} 128 0)) * length ins) (length (take n (replicate {A = ℕ} 128 0))) starts bytes × Queue (replicate w 0) (take n (replicate {A = ℕ} 128 0)) 0
   opened_bodies w e k =
       let B = low_bodies O.encodes starts S (opened_right O) (opened_low O) k in
-      let z : take (n - 0) (replicate {A = ℕ} 128 0) ≡ replicate n 0 = zeros (n - 0) 128 (omega (arith, B.few)) ∙ ap (λ m. replicate m 0) (sub-zero n) in
+      let z : take n (replicate {A = ℕ} 128 0) ≡ replicate n 0 = zeros n 128 B.few in
       rw (z, length-replicate {A = ℕ} n 0) (B, queue_none w n e)
 
-  pub tested : (b : Bool) (r : Result Bool Refusal) → outcome_of r ≡ accepted b → ReadsTable (length ins) (λ j. get_or starts j 0) bytes b → TestsLinear stock s r
+  pub tested : (b : Bool) → ReadsTable (length ins) (λ j. get_or starts j 0) bytes b → TestsLinear stock s (Ok b)
   unfolding Holds
-  tested b r e R =
+  tested b R =
       let w = O.holds in
       let T = opened_sheet O in
       let l = O.alphabets.leaf in
       let i = O.ins_are in
       let D = decides_linear T.encodes starts (rw i at S) l (encoded_wf O.alphabets.ins.few l T.encodes) b (rw i at R) in
-      rw e (pass w.0 (pass w.1.0 (pass w.1.1.0 (accept (decides_same (to_file O.alphabets T) (of_file l T) D)))))
+      pass w.0 (pass w.1.0 (pass w.1.1.0 (accept (decides_same (to_file O.alphabets T) (of_file l T) D))))

@@ -1,8 +1,8 @@
 -- What the linear test and the reader of one symbol answer: for each enum the values and numbers of document 01, and the promise about it.
-use Rattle.std.specs.Prelude.{Err, None, Ok, Option, Result, Some, ℕ, Bool, true, false, List, ◌≡◌}
+use Rattle.std.specs.Prelude.{None, Option, Result, Some, ℕ, Bool, List, ◌≡◌}
 use Rattle.trees.specs.declared.refusal.Refusal.{Refusal}
-use Rattle.trees.specs.Refusal.{outcome_of, refusal_number, Outcome, accepted, refused, done, Judged, Decides}
-use Rattle.std.proofs.Math.Option.{Option, some, none as nothing}
+use Rattle.trees.specs.Refusal.{outcome_of, done, Judged, Decides}
+use Rattle.std.proofs.Math.Option.{Option as MathOption, some, none as nothing}
 use Rattle.theory.specs.Term.{Symbol, Tree, symbol_at}
 use Rattle.trees.specs.Alphabets.{alphabet_check}
 use Rattle.trees.specs.Answers.{Nothing}
@@ -20,9 +20,9 @@ TestsLinear stock s r =
 
 -- ---- the symbol at an address (01: the block at a place), or that the output tree has no such address
 -- the name of a symbol
-abbrev pub named : Option Symbol → Option ℕ
-named nothing = nothing
-named (some b) = some b.0
+abbrev pub named : MathOption Symbol → Option ℕ
+named nothing = None
+named (some b) = Some b.0
 
 abbrev pub FindsSymbol : List ℕ → List ℕ → List ℕ → List ℕ → Result (Option ℕ) Refusal → Type 0
 FindsSymbol stock sheet design address r =

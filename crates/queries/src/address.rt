@@ -17,7 +17,7 @@ use transducer::children::{fill_ends, skip};
 use trees::alphabet::{input_ranks, output_ranks};
 use trees::bytes::{number, wide};
 use trees::refusal::Refusal;
-use trees::tree::{Extent, measure_all};
+use trees::tree::measure_all;
 
 // The mark at which the term begins that stands `c` terms behind the one at mark number `at`.
 fn skip_marks(
@@ -36,11 +36,11 @@ fn skip_marks(
     let mut left = c;
     while left > 0 {
         match measure_marks(outs, n, r, marks, p, to, to - p) {
-            Extent::Tree(e, _) => {
-                p = e;
+            Some(term) => {
+                p = term.end;
                 left -= 1;
             }
-            Extent::Bad => {
+            None => {
                 return p;
             }
         }
@@ -80,14 +80,14 @@ fn follow(
             below = p + 1;
         } else {
             if k >= v.len() {
-                return Found::Symbol(x);
+                return Ok(Some(x));
             }
             let c = wide(v[k]);
             if c == 0 {
-                return Found::Nowhere;
+                return Ok(None);
             }
             if c > wide(outs[x]) {
-                return Found::Nowhere;
+                return Ok(None);
             }
             j = skip_marks(outs, n, r, marks, j + 1, to, c - 1);
             k += 1;
@@ -104,33 +104,25 @@ fn symbol_by(stock: &[u8], n: usize, counts: &[u8], marks: &[u8], s: &[u8], addr
     let mut ends = [0u16; 4096];
     let mut starts = [0u16; 2050];
     fill_starts(counts, 1 + n * ins.len(), &mut starts);
-    match measure_all(ins, s) {
-        Extent::Tree(_, _) => {
-            fill_ends(ins, s, &mut ends);
-            follow(
-                ins,
-                output_ranks(stock),
-                n,
-                &starts,
-                marks,
-                s,
-                &ends,
-                address,
-            )
-        }
-        Extent::Bad => Err(Refusal::BadTree),
-    }
+    measure_all(ins, s).ok_or(Refusal::BadTree)?;
+    fill_ends(ins, s, &mut ends);
+    follow(
+        ins,
+        output_ranks(stock),
+        n,
+        &starts,
+        marks,
+        s,
+        &ends,
+        address,
+    )
 }
 
 // The symbol at `address` in what the transducer of the file `sheet` gives on the tree of the file `design`.
 pub fn symbol_at(stock: &[u8], sheet: &[u8], design: &[u8], address: &[u8]) -> Result<Option<usize>, Refusal>
     ensures { FindsSymbol stock.now sheet.now design.now address.now result }
 {
-    match read_transducer(stock, sheet) {
-        Ok(n) => {
-            let from = counts_end(stock, n);
-            symbol_by(stock, n, &sheet[1..from], &sheet[from..], design, address)
-        }
-        Err(r) => Err(r),
-    }
+    let n = read_transducer(stock, sheet)?;
+    let from = counts_end(stock, n);
+    symbol_by(stock, n, &sheet[1..from], &sheet[from..], design, address)
 }

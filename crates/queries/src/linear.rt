@@ -60,14 +60,7 @@ fn read_bodies(
     while j < k {
         let from = number(starts[b + j]);
         let to = number(starts[b + j + 1]);
-        match read_marks(marks, from, to, list, place, n) {
-            Some(m) => {
-                n = m;
-            }
-            None => {
-                return None;
-            }
-        }
+        n = read_marks(marks, from, to, list, place, n)?;
         j += 1;
     }
     Some(n)
@@ -113,20 +106,13 @@ fn read_reached(
 pub fn is_linear(stock: &[u8], sheet: &[u8]) -> Result<bool, Refusal>
     ensures { TestsLinear stock.now sheet.now result }
 {
-    match read_transducer(stock, sheet) {
-        Ok(n) => {
-            let from = counts_end(stock, n);
-            let inputs = input_ranks(stock).len();
-            let mut starts = [0u16; 2050];
-            fill_starts(&sheet[1..from], 1 + n * inputs, &mut starts);
-            let mut list = [0u16; 192];
-            let mut place = [0u8; 128];
-            if read_reached(inputs, &starts, &sheet[from..], &mut list, &mut place[0..n]) {
-                LinearTest::Linear
-            } else {
-                LinearTest::NotLinear
-            }
-        }
-        Err(r) => Err(r),
-    }
+    let n = read_transducer(stock, sheet)?;
+    let from = counts_end(stock, n);
+    let inputs = input_ranks(stock).len();
+    let mut starts = [0u16; 2050];
+    fill_starts(&sheet[1..from], 1 + n * inputs, &mut starts);
+    let mut list = [0u16; 192];
+    let mut places = [0u8; 128];
+    let place = &mut places[..n];
+    Ok(read_reached(inputs, &starts, &sheet[from..], &mut list, place))
 }

@@ -1,5 +1,5 @@
 -- What is answered once the parts of both transducers' files are known to be right.
-use Rattle.std.specs.Prelude.{Err, None, Ok, Option, Result, Some, ℕ, ◌≤◌, List, ◌≡◌, length, take}
+use Rattle.std.specs.Prelude.{None, Option, Result, Some, ℕ, ◌≤◌, List, ◌≡◌, length, take}
 use Rattle.trees.specs.declared.refusal.Refusal.{Refusal}
 use Rattle.forms.specs.declared.write.Form.{Form}
 use Rattle.trees.specs.Refusal.{outcome_of, done, check, Judged}
@@ -45,13 +45,13 @@ pub record JoinsParts (stock stock' : List ℕ) (n : ℕ) (counts bytes : List �
 -- the joined transducer, as a file
 abbrev pub JoinsFile : List ℕ → List ℕ → ℕ → List ℕ → List ℕ → ℕ → List ℕ → List ℕ → List ℕ → List ℕ → Result Form Refusal → Type 0
 JoinsFile stock stock' n counts bytes m counts' bytes' before after r =
-    Judged (after ≡ before) (λ v. (counts'' : List ℕ) × ((bytes'' : List ℕ) × (JoinedOf stock stock' n counts bytes m counts' bytes' v.0 counts'' bytes'' × FileOf v counts'' bytes'' before after)))
+    Judged (after ≡ before) (λ v. (counts'' : List ℕ) × ((bytes'' : List ℕ) × (JoinedOf stock stock' n counts bytes m counts' bytes' v.states counts'' bytes'' × FileOf v counts'' bytes'' before after)))
     (check 17 ((k : ℕ) × ((counts'' : List ℕ) × ((bytes'' : List ℕ) × JoinedOf stock stock' n counts bytes m counts' bytes' k counts'' bytes''))) done)
     (outcome_of r)
 
 -- the same of two files, under alphabets that are right and fit
 abbrev pub JoinsSheets : List ℕ → List ℕ → List ℕ → List ℕ → List ℕ → List ℕ → Result Form Refusal → Type 0
 JoinsSheets stock stock' s s' before after r =
-    Judged (after ≡ before) (λ v. (counts : List ℕ) × ((bytes : List ℕ) × (JoinedFile stock stock' s s' v.0 counts bytes × FileOf v counts bytes before after)))
+    Judged (after ≡ before) (λ v. (counts : List ℕ) × ((bytes : List ℕ) × (JoinedFile stock stock' s s' v.states counts bytes × FileOf v counts bytes before after)))
     (sheet_check stock s (sheet_check stock' s' (join_check stock stock' s s' done)))
     (outcome_of r)

@@ -1,6 +1,5 @@
 -- Reading the bodies of a table, as long as none calls a child twice: the states called are entered into a list, and the list says which bodies are next.
-use Rattle.std.specs.Prelude.{Err, None, Ok, Option, Result, Some, ℕ, suc, ◌+◌, ◌*◌, ◌<◌, Bool, true, false, List, [], ◌∷◌, ◌⊎◌, ◌≡◌, length}
-use Rattle.trees.specs.declared.refusal.Refusal.{Refusal}
+use Rattle.std.specs.Prelude.{None, Option, Some, ℕ, suc, ◌+◌, ◌*◌, ◌<◌, Bool, true, false, List, [], ◌∷◌, ◌⊎◌, ◌≡◌, length}
 use Rattle.std.proofs.Math.Option.{some}
 use Rattle.std.proofs.Math.ListN.{get_elem?}
 use Rattle.theory.specs.Inner.ReadCalls.{ReadCalls}

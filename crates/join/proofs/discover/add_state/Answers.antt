@@ -23,20 +23,20 @@ overflow_add-p-in-loop-a c = omega (arith, rhs_room c.requires.0 c.loop-a.invari
 pub add_rhs-requires : goal.add_rhs-requires
 add_rhs-requires c = rhs_ready c.requires.0 c.loop-a.invariant.3 (ap length c.input_ranks-symbols.ensures) c.loop-a-test.true
 
-pub shape_of-starts-in-None : goal.shape_of-starts-in-None
-shape_of-starts-in-None c = c.add_rhs.auto.starts ∙ c.loop-a.invariant.1
+pub shape_of-starts-in_err-n : goal.shape_of-starts-in_err-n
+shape_of-starts-in_err-n c = c.add_rhs.auto.starts ∙ c.loop-a.invariant.1
 
-pub shape_of-out-in-None : goal.shape_of-out-in-None
-shape_of-out-in-None c = c.add_rhs.auto.out ∙ (c.loop-a.invariant.3.bodies.room ∙ sym c.requires.1.bodies.room)
+pub shape_of-out-in_err-n : goal.shape_of-out-in_err-n
+shape_of-out-in_err-n c = c.add_rhs.auto.out ∙ (c.loop-a.invariant.3.bodies.room ∙ sym c.requires.1.bodies.room)
 
-pub shape_of-list-in-None : goal.shape_of-list-in-None
-shape_of-list-in-None c = c.add_rhs.auto.list ∙ c.loop-a.invariant.2
+pub shape_of-list-in_err-n : goal.shape_of-list-in_err-n
+shape_of-list-in_err-n c = c.add_rhs.auto.list ∙ c.loop-a.invariant.2
 
-pub shape_of-place-in-None : goal.shape_of-place-in-None
-shape_of-place-in-None c = c.add_rhs.auto.place ∙ (c.loop-a.invariant.3.bodies.wide ∙ sym c.requires.1.bodies.wide)
+pub shape_of-place-in_err-n : goal.shape_of-place-in_err-n
+shape_of-place-in_err-n c = c.add_rhs.auto.place ∙ (c.loop-a.invariant.3.bodies.wide ∙ sym c.requires.1.bodies.wide)
 
-pub returns-in-None : goal.returns-in-None
-returns-in-None c = rhs_over c.requires.0 c.loop-a.invariant.3 (ap length c.input_ranks-symbols.ensures) c.loop-a-test.true c.add_rhs.ensures c.in-None.is
+pub returns-in_err-n : goal.returns-in_err-n
+returns-in_err-n c = rw c.from_residual.ensures (rhs_over c.requires.0 c.loop-a.invariant.3 (ap length c.input_ranks-symbols.ensures) c.loop-a-test.true c.add_rhs.ensures c.in_err-n.was)
 
 pub overflow_add-a : goal.overflow_add-a
 overflow_add-a c = omega (arith, rhs_room c.requires.0 c.loop-a.invariant.3 (ap length c.input_ranks-symbols.ensures) c.loop-a-test.true)
@@ -46,7 +46,7 @@ loop-a-preserved c =
     let e = ap length c.input_ranks-symbols.ensures in
     let I = c.loop-a.invariant in
     let k = c.add_rhs in
-    (omega (arith, c.loop-a-test.true), k.auto.starts ∙ I.1, k.auto.list ∙ I.2, rhs_next c.requires.0 I.3 e c.loop-a-test.true k.ensures c.in-Ok.is)
+    (omega (arith, c.loop-a-test.true), k.auto.starts ∙ I.1, k.auto.list ∙ I.2, rhs_next c.requires.0 I.3 e c.loop-a-test.true k.ensures c.in_ok-n.was)
 
 pub shape_of-starts : goal.shape_of-starts
 shape_of-starts c = c.loop-a.invariant.1

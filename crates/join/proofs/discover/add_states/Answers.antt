@@ -11,20 +11,20 @@ loop-p-init c = (refl, refl, c.requires.1)
 pub add_state-requires : goal.add_state-requires
 add_state-requires c = (c.requires.0, c.loop-p.invariant.2, c.loop-p-test.true)
 
-pub shape_of-starts-in-None : goal.shape_of-starts-in-None
-shape_of-starts-in-None c = c.add_state.auto.starts ∙ c.loop-p.invariant.0
+pub shape_of-starts-in_err-n : goal.shape_of-starts-in_err-n
+shape_of-starts-in_err-n c = c.add_state.auto.starts ∙ c.loop-p.invariant.0
 
-pub shape_of-out-in-None : goal.shape_of-out-in-None
-shape_of-out-in-None c = c.add_state.auto.out ∙ (c.loop-p.invariant.2.bodies.room ∙ sym c.requires.1.bodies.room)
+pub shape_of-out-in_err-n : goal.shape_of-out-in_err-n
+shape_of-out-in_err-n c = c.add_state.auto.out ∙ (c.loop-p.invariant.2.bodies.room ∙ sym c.requires.1.bodies.room)
 
-pub shape_of-list-in-None : goal.shape_of-list-in-None
-shape_of-list-in-None c = c.add_state.auto.list ∙ c.loop-p.invariant.1
+pub shape_of-list-in_err-n : goal.shape_of-list-in_err-n
+shape_of-list-in_err-n c = c.add_state.auto.list ∙ c.loop-p.invariant.1
 
-pub shape_of-place-in-None : goal.shape_of-place-in-None
-shape_of-place-in-None c = c.add_state.auto.place ∙ (c.loop-p.invariant.2.bodies.wide ∙ sym c.requires.1.bodies.wide)
+pub shape_of-place-in_err-n : goal.shape_of-place-in_err-n
+shape_of-place-in_err-n c = c.add_state.auto.place ∙ (c.loop-p.invariant.2.bodies.wide ∙ sym c.requires.1.bodies.wide)
 
-pub returns-in-None : goal.returns-in-None
-returns-in-None c = none_all (c.add_state.ensures.over c.in-None.is)
+pub returns-in_err-n : goal.returns-in_err-n
+returns-in_err-n c = rw c.from_residual.ensures (none_all (c.add_state.ensures.over c.in_err-n.was))
 
 pub overflow_add-p : goal.overflow_add-p
 overflow_add-p c = omega (arith, c.loop-p-test.true, c.loop-p.invariant.2.bodies.few)
@@ -36,7 +36,7 @@ pub loop-p-preserved : goal.loop-p-preserved
 loop-p-preserved c =
     let I = c.loop-p.invariant in
     let k = c.add_state in
-    (k.auto.starts ∙ I.0, k.auto.list ∙ I.1, k.ensures.found c.in-Ok.m c.in-Ok.is)
+    (k.auto.starts ∙ I.0, k.auto.list ∙ I.1, k.ensures.found c.in_ok-n.n c.in_ok-n.was)
 
 pub shape_of-starts : goal.shape_of-starts
 shape_of-starts c = c.loop-p.invariant.0

@@ -11,16 +11,16 @@ add_initial-requires c =
     (b.0, empty_start c.args.starts.now c.args.out.now 192 16384 refl b.1 b.2)
 
 pub add_states-requires : goal.add_states-requires
-add_states-requires c = (c.requires.0, c.add_initial.ensures.found c.in-Ok.met c.in-Ok.is)
+add_states-requires c = (c.requires.0, c.add_initial.ensures.found c.in_ok-met.met c.in_ok-met.was)
 
-pub shape_of-starts-in-Ok : goal.shape_of-starts-in-Ok
-shape_of-starts-in-Ok c = c.add_states.auto.starts ∙ (c.add_initial.auto.starts ∙ length-set c.args.starts.now 0 0)
+pub shape_of-starts : goal.shape_of-starts
+shape_of-starts c = c.add_states.auto.starts ∙ (c.add_initial.auto.starts ∙ length-set c.args.starts.now 0 0)
 
-pub returns-in-Ok : goal.returns-in-Ok
-returns-in-Ok c = form_discovered (by_numbers c.requires.0) c.requires.0.alphabets.leaf c.add_states.ensures
+pub returns : goal.returns
+returns c = form_discovered (by_numbers c.requires.0) c.requires.0.alphabets.leaf c.add_states.ensures
 
-pub shape_of-starts-in-None : goal.shape_of-starts-in-None
-shape_of-starts-in-None c = c.add_initial.auto.starts ∙ length-set c.args.starts.now 0 0
+pub shape_of-starts-in_err-met : goal.shape_of-starts-in_err-met
+shape_of-starts-in_err-met c = c.add_initial.auto.starts ∙ length-set c.args.starts.now 0 0
 
-pub returns-in-None : goal.returns-in-None
-returns-in-None c = form_over (c.add_initial.ensures.over c.in-None.is)
+pub returns-in_err-met : goal.returns-in_err-met
+returns-in_err-met c = rw c.from_residual.ensures (form_over (c.add_initial.ensures.over c.in_err-met.was))

@@ -37,14 +37,14 @@ read_marks-requires c =
     let h : j < c.args.b + c.args.k = omega (arith, c.loop-j-test.true) in
     (l.invariant.3.queue, rw l.invariant.2 B.few, part_inside B j h c.number-from.ensures c.number-to.ensures, rw l.invariant.2 (part_low B j h c.number-from.ensures c.number-to.ensures))
 
-pub shape_of-list-in-None : goal.shape_of-list-in-None
-shape_of-list-in-None c = c.read_marks.auto.list ∙ c.loop-j.invariant.1
+pub shape_of-list-in_err-n : goal.shape_of-list-in_err-n
+shape_of-list-in_err-n c = c.read_marks.auto.list ∙ c.loop-j.invariant.1
 
-pub shape_of-place-in-None : goal.shape_of-place-in-None
-shape_of-place-in-None c = c.read_marks.auto.place ∙ c.loop-j.invariant.2
+pub shape_of-place-in_err-n : goal.shape_of-place-in_err-n
+shape_of-place-in_err-n c = c.read_marks.auto.place ∙ c.loop-j.invariant.2
 
-pub returns-in-None : goal.returns-in-None
-returns-in-None c = bodies_stop c.loop-j.invariant.3 (part_body c.requires.1 (c.args.b + c.loop-j.j) (omega (arith, c.loop-j-test.true)) c.number-from.ensures c.number-to.ensures) c.read_marks.ensures c.loop-j-test.true c.in-None.is
+pub returns-in_err-n : goal.returns-in_err-n
+returns-in_err-n c = rw c.from_residual.ensures (bodies_stop c.loop-j.invariant.3 (part_body c.requires.1 (c.args.b + c.loop-j.j) (omega (arith, c.loop-j-test.true)) c.number-from.ensures c.number-to.ensures) c.read_marks.ensures c.loop-j-test.true c.in_err-n.was)
 
 pub overflow_add-j : goal.overflow_add-j
 overflow_add-j c = omega (arith, c.loop-j-test.true)
@@ -58,7 +58,7 @@ loop-j-preserved c =
     let t = c.loop-j-test.true in
     let r = c.read_marks in
     let e = part_body c.requires.1 (c.args.b + l.j) (omega (arith, t)) c.number-from.ensures c.number-to.ensures in
-    (omega (arith, t), r.auto.list ∙ l.invariant.1, r.auto.place ∙ l.invariant.2, bodies_next l.invariant.3 e r.ensures c.in-Some.is)
+    (omega (arith, t), r.auto.list ∙ l.invariant.1, r.auto.place ∙ l.invariant.2, bodies_next l.invariant.3 e r.ensures c.in_ok-n.was)
 
 pub shape_of-list : goal.shape_of-list
 shape_of-list c = c.loop-j.invariant.1
