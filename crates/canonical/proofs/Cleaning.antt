@@ -1,5 +1,5 @@
 -- Cleaning from its ends: the normal form of the parts of a file, and of a file.
-use Rattle.std.specs.Prelude.{Err, None, Ok, Option, Result, Some}
+use Rattle.std.specs.Prelude.{None, Option, Result, Some}
 use Rattle.trees.specs.declared.refusal.Refusal.{Refusal}
 use Rattle.forms.specs.declared.write.Form.{Form}
 use Prim.Native.Nat.{ℕ, ◌≤◌}

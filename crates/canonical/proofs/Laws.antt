@@ -1,5 +1,5 @@
 -- What cleaning promises of two files and of its own results: equal clean files exactly for transducers that are alike; a clean file is accepted again, translates as its transducer, and cleans to itself; the contract determines the answer and the area; a clean file is the trimmed one with equal states made one.
-use Rattle.std.specs.Prelude.{Option, Result}
+use Rattle.std.specs.Prelude.{Result}
 use Rattle.trees.specs.declared.refusal.Refusal.{Refusal}
 use Rattle.forms.specs.declared.write.Form.{Form}
 use Rattle.trees.specs.Refusal.{outcome_of, accepted, done, Holds}
@@ -27,7 +27,6 @@ use Rattle.formats.proofs.Laws.{written_take}
 use Rattle.formats.proofs.Sheets.{sheet_counted, encodes_counted, file_short}
 use Rattle.forms.specs.Alphabet.{alphabet}
 use Rattle.earliest.specs.Answers.{EarliestFile, form_check}
-
 use Rattle.forms.proofs.Files.{encoded_wf, same_file, parts_same, file_same}
 use Rattle.forms.proofs.Leaves.{identical_leaf, equiv_leaf, trimmed_leaf}
 use Rattle.earliest.proofs.Laws.{made_one}
@@ -76,13 +75,13 @@ module _ {stock s : List ℕ} {k : ℕ} {counts bytes : List ℕ} (F : NormalFil
 
 -- ---- the same of what `clean` answers and leaves
 -- what an accepted answer says: a normal form, whose file the area begins with
-pub record Cleaned (stock s after : List ℕ) (v : ℕ × ℕ × ℕ) : Type 0 where
+pub record Cleaned (stock s after : List ℕ) (v : Form) : Type 0 where
   pub counts : List ℕ
   pub bytes : List ℕ
-  pub normal : NormalFile stock s v.0 counts bytes
-  pub begins : take v.2 after ≡ file v.0 counts bytes
+  pub normal : NormalFile stock s v.states counts bytes
+  pub begins : take v.bytes after ≡ file v.states counts bytes
 
-pub cleaned : {stock s before after : List ℕ} (r : Result Form Refusal) {v : ℕ × ℕ × ℕ} → Cleans stock s before after r → outcome_of r ≡ accepted v → Cleaned stock s after v
+pub cleaned : {stock s before after : List ℕ} (r : Result Form Refusal) {v : Form} → Cleans stock s before after r → outcome_of r ≡ accepted v → Cleaned stock s after v
 unfolding Holds
 cleaned {stock} {s} {before} {after} r {v} J e =
     let w = accepted_holds (rw e at J) in
@@ -91,9 +90,9 @@ cleaned {stock} {s} {before} {after} r {v} J e =
     let bytes = G.1.0 in
     let F = G.1.1.0 in
     let O = G.1.1.1 in
-    let C = encodes_counted (inputs stock) (outputs stock) v.0 counts bytes F.form F.encodes in
-    let long : length (file v.0 counts bytes) ≤ length before = omega (arith, file_short (inputs stock) v.0 counts bytes F.alphabets.ins.few C, w.0.0) in
-    record { counts = counts; bytes = bytes; normal = F; begins = written_take (file v.0 counts bytes) before after v.2 O.size long O.wrote }
+    let C = encodes_counted (inputs stock) (outputs stock) v.states counts bytes F.form F.encodes in
+    let long : length (file v.states counts bytes) ≤ length before = omega (arith, file_short (inputs stock) v.states counts bytes F.alphabets.ins.few C, w.0.0) in
+    record { counts = counts; bytes = bytes; normal = F; begins = written_take (file v.states counts bytes) before after v.bytes O.size long O.wrote }
 
 -- whatever transducers the two files have, they are alike
 pub all_alike : {stock s s' : List ℕ} {n n' : ℕ} {M M' : Transducer ℕ} → Alphabets stock → SewAlike stock s s' → Sheet (inputs stock) (outputs stock) s n M → Sheet (inputs stock) (outputs stock) s' n' M' → Alike (inputs stock) M M'
@@ -110,7 +109,7 @@ sheets_alike F F' = (
 )
 
 -- For two files accepted for cleaning under one stock: the clean files are equal exactly if the two sew alike.
-pub cleaned_exact : {stock s s' before after before' after' : List ℕ} (r r' : Result Form Refusal) {v v' : ℕ × ℕ × ℕ} → Cleans stock s before after r → outcome_of r ≡ accepted v → Cleans stock s' before' after' r' → outcome_of r' ≡ accepted v' → (take v.2 after ≡ take v'.2 after') ↔ SewAlike stock s s'
+pub cleaned_exact : {stock s s' before after before' after' : List ℕ} (r r' : Result Form Refusal) {v v' : Form} → Cleans stock s before after r → outcome_of r ≡ accepted v → Cleans stock s' before' after' r' → outcome_of r' ≡ accepted v' → (take v.bytes after ≡ take v'.bytes after') ↔ SewAlike stock s s'
 cleaned_exact r r' J e J' e' =
     let C = cleaned r J e in
     let C' = cleaned r' J' e' in
@@ -127,7 +126,7 @@ normal_one k k' counts counts' bytes bytes' F F' =
 
 -- The contract of cleaning determines the answer and the area.
 pub cleans_one : {stock s before after after' : List ℕ} (r r' : Result Form Refusal) → Cleans stock s before after r → Cleans stock s before after' r' → (after ≡ after') × (outcome_of r ≡ outcome_of r')
-cleans_one {stock} {s} = made_one {Form = NormalFile stock s} normal_one
+cleans_one {stock} {s} = made_one {Is = NormalFile stock s} normal_one
 
 -- ---- the clean sheet in document 01's words
 module _ {stock s : List ℕ} {k : ℕ} {counts bytes : List ℕ} where
@@ -171,6 +170,6 @@ module _ {stock s : List ℕ} {k : ℕ} {counts bytes : List ℕ} where
       }
 
 -- What is written is the file of the trimmed sheet with equal passes made one, and numbered as first met.
-pub cleaned_merged : {stock s before after : List ℕ} (r : Result Form Refusal) {v : ℕ × ℕ × ℕ} → Cleans stock s before after r → outcome_of r ≡ accepted v → {counts bytes : List ℕ} → NormalFile stock s v.0 counts bytes → MergedFile stock s v.0 counts bytes
+pub cleaned_merged : {stock s before after : List ℕ} (r : Result Form Refusal) {v : Form} → Cleans stock s before after r → outcome_of r ≡ accepted v → {counts bytes : List ℕ} → NormalFile stock s v.states counts bytes → MergedFile stock s v.states counts bytes
 unfolding Holds
 cleaned_merged r J e F = let w = accepted_holds (rw e at J) in normal_merged w.0.1.1.1.1.0.1.1.1 F

@@ -1,5 +1,5 @@
 -- What cleaning answers, and when two transducers are alike.
-use Rattle.std.specs.Prelude.{Option, Result, ℕ, ◌<◌, List, ◌↔◌, ◌≡◌}
+use Rattle.std.specs.Prelude.{Result, ℕ, ◌<◌, List, ◌↔◌, ◌≡◌}
 use Rattle.trees.specs.declared.refusal.Refusal.{Refusal}
 use Rattle.forms.specs.declared.write.Form.{Form}
 use Rattle.theory.specs.Equivalent.{EquivStates}

@@ -9,7 +9,7 @@ ghost use Rattle.canonical.specs.Inner.Normal.{Reducible, Reduces, NormalOf, Nor
 use crate::quotient::merge;
 use earliest::earliest::form_of_parts;
 use formats::file::{counts_end, read_transducer};
-use forms::write::{write_found, Form};
+use forms::write::{Form, write_found};
 use merging::refining::settle_classes;
 use trees::alphabet::{input_ranks, output_ranks};
 use trees::refusal::Refusal;
@@ -77,22 +77,20 @@ pub(crate) fn normal_by(
 {
     let mut from = [0u16; 2050];
     let mut early = [0u8; 16384];
-    match form_of_parts(stock, n, counts, marks, &mut from, &mut early) {
-        Some(k) => Some(reduce(
-            input_ranks(stock),
-            output_ranks(stock),
-            &from,
-            &early,
-            k,
-            starts,
-            out,
-        )),
-        None => None,
-    }
+    let states = form_of_parts(stock, n, counts, marks, &mut from, &mut early)?;
+    let ins = input_ranks(stock);
+    let outs = output_ranks(stock);
+    Some(reduce(ins, outs, &from, &early, states, starts, out))
 }
 
 // The file of the normal form of the transducer whose n, counts and marks these are.
-fn clean_file(stock: &[u8], n: usize, counts: &[u8], marks: &[u8], area: &mut [u8]) -> Result<Form, Refusal>
+fn clean_file(
+    stock: &[u8],
+    n: usize,
+    counts: &[u8],
+    marks: &[u8],
+    area: &mut [u8],
+) -> Result<Form, Refusal>
     requires { Machine stock.now n counts.now marks.now × (longest ≤ length area.old) }
     ensures { FormsFile (NormalOf stock.now n counts.now marks.now) stock.now n counts.now marks.now area.old area.new result }
 {
@@ -109,11 +107,7 @@ pub fn clean(stock: &[u8], sheet: &[u8], area: &mut [u8]) -> Result<Form, Refusa
     if area.len() < 20483 {
         return Err(Refusal::ShortArea);
     }
-    match read_transducer(stock, sheet) {
-        Ok(n) => {
-            let from = counts_end(stock, n);
-            clean_file(stock, n, &sheet[1..from], &sheet[from..], area)
-        }
-        Err(r) => Err(r),
-    }
+    let n = read_transducer(stock, sheet)?;
+    let from = counts_end(stock, n);
+    clean_file(stock, n, &sheet[1..from], &sheet[from..], area)
 }

@@ -191,12 +191,12 @@ module _ {stock sheet ins counts bytes : List ℕ} {n : ℕ} (O : Opened stock s
   unfolding IsJudged Holds
   file_made {Parts} {File} whole {before} {after} long r J = go r J.verdict
     where
-      start : (r : Result Form Refusal) → Judged (after ≡ before) (λ v. (counts' : List ℕ) × ((bytes' : List ℕ) × (File v.0 counts' bytes' × FileOf v counts' bytes' before after))) (form_check stock sheet done) (outcome_of r) → MakesForm File stock sheet before after r
+      start : (r : Result Form Refusal) → Judged (after ≡ before) (λ (v : Form). (counts' : List ℕ) × ((bytes' : List ℕ) × (File v.states counts' bytes' × FileOf v counts' bytes' before after))) (form_check stock sheet done) (outcome_of r) → MakesForm File stock sheet before after r
       start r j = let w = O.holds in pass long (pass w.0 (pass w.1.0 (pass w.1.1.0 j)))
 
-      go : (r : Result Form Refusal) → IsJudged (after ≡ before) (λ v. (counts' : List ℕ) × ((bytes' : List ℕ) × (Parts v.0 counts' bytes' × FileOf v counts' bytes' before after))) (check 7 ((k : ℕ) × ((counts' : List ℕ) × ((bytes' : List ℕ) × EarliestOf stock n counts bytes k counts' bytes'))) done) (outcome_of r) → MakesForm File stock sheet before after r
+      go : (r : Result Form Refusal) → IsJudged (after ≡ before) (λ (v : Form). (counts' : List ℕ) × ((bytes' : List ℕ) × (Parts v.states counts' bytes' × FileOf v counts' bytes' before after))) (check 7 ((k : ℕ) × ((counts' : List ℕ) × ((bytes' : List ℕ) × EarliestOf stock n counts bytes k counts' bytes'))) done) (outcome_of r) → MakesForm File stock sheet before after r
       go r (inl (h, q, kept)) = start r (rw q (refuse (λ w. h (w.0, (w.1.0, (w.1.1.0, to_parts w.1.1.1)))) kept))
-      go (Form k m s) (inr (R, (counts', (bytes', (P, f))))) = start (Form k m s) (pass (R.0, (R.1.0, (R.1.1.0, from_parts R.1.1.1))) (accept (counts', (bytes', (whole k counts' bytes' P, f)))))
+      go (Ok v) (inr (R, (counts', (bytes', (P, f))))) = start (Ok v) (pass (R.0, (R.1.0, (R.1.1.0, from_parts R.1.1.1))) (accept (counts', (bytes', (whole v.states counts' bytes' P, f)))))
       go (Err x) (inr (R, u)) = absurd u
 
   -- the contract of `earliest_form`

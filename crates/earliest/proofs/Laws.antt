@@ -1,6 +1,6 @@
 -- What making a form promises whatever form it is: the contract determines the answer and the area.
 -- Assumes nothing.
-use Rattle.std.specs.Prelude.{Option, Result}
+use Rattle.std.specs.Prelude.{Result}
 use Rattle.trees.specs.declared.refusal.Refusal.{Refusal}
 use Rattle.forms.specs.declared.write.Form.{Form}
 use Rattle.trees.specs.Refusal.{outcome_of, done, check}
@@ -24,14 +24,14 @@ use Rattle.forms.specs.Answers.{FileOf}
 
 -- ---- what is answered is determined
 -- Where one file alone is of the form, the answer and the area are determined.
-pub made_one : {Form : ℕ → List ℕ → List ℕ → Type 0} → ((k k' : ℕ) (counts counts' bytes bytes' : List ℕ) → Form k counts bytes → Form k' counts' bytes' → (k ≡ k') × (counts ≡ counts') × (bytes ≡ bytes'))
-    → {stock s before after after' : List ℕ} (r r' : Result Form Refusal) → MakesForm Form stock s before after r → MakesForm Form stock s before after' r' → (after ≡ after') × (outcome_of r ≡ outcome_of r')
-made_one {Form} one {stock} {s} {before} {after} {after'} r r' J J' =
+pub made_one : {Is : ℕ → List ℕ → List ℕ → Type 0} → ((k k' : ℕ) (counts counts' bytes bytes' : List ℕ) → Is k counts bytes → Is k' counts' bytes' → (k ≡ k') × (counts ≡ counts') × (bytes ≡ bytes'))
+    → {stock s before after after' : List ℕ} (r r' : Result Form Refusal) → MakesForm Is stock s before after r → MakesForm Is stock s before after' r' → (after ≡ after') × (outcome_of r ≡ outcome_of r')
+made_one {Is} one {stock} {s} {before} {after} {after'} r r' J J' =
     one_answer (λ u u'. u ∙ sym u') (check 1 (longest ≤ length before) (alphabet_check stock (sheet_check stock s (form_check stock s done)))) (outcome_of r) (outcome_of r') (λ h. good) J.verdict J'.verdict
   where
-    good : (v v' : ℕ × ℕ × ℕ) → (counts : List ℕ) × ((bytes : List ℕ) × (Form v.0 counts bytes × FileOf v counts bytes before after))
-        → (counts : List ℕ) × ((bytes : List ℕ) × (Form v'.0 counts bytes × FileOf v' counts bytes before after')) → (after ≡ after') × (v ≡ v')
-    good (k, m, n) (k', m', n') (counts, (bytes, (F, O))) (counts', (bytes', (F', O'))) = file_one O O' (one k k' counts counts' bytes bytes' F F')
+    good : (v v' : Form) → (counts : List ℕ) × ((bytes : List ℕ) × (Is v.states counts bytes × FileOf v counts bytes before after))
+        → (counts : List ℕ) × ((bytes : List ℕ) × (Is v'.states counts bytes × FileOf v' counts bytes before after')) → (after ≡ after') × (v ≡ v')
+    good v v' (counts, (bytes, (F, O))) (counts', (bytes', (F', O'))) = file_one O O' (one v.states v'.states counts counts' bytes bytes' F F')
 
 -- the trimmed forms of identical transducers are identical
 trimmed_one : {G : Grammar} {M M' N N' : Transducer ℕ} {n n' k k' : ℕ} → Wf G M (λ q. q < n) → Wf G M' (λ q. q < n') → Identical G M' M n' n → Trimmed G M (λ q. q < n) N k → Trimmed G M' (λ q. q < n') N' k' → Identical G N N' k k'
@@ -47,4 +47,4 @@ earliest_one k k' counts counts' bytes bytes' F F' =
 
 -- The contract of making the earliest form determines the answer and the area.
 pub makes_one : {stock s before after after' : List ℕ} (r r' : Result Form Refusal) → MakesEarliest stock s before after r → MakesEarliest stock s before after' r' → (after ≡ after') × (outcome_of r ≡ outcome_of r')
-makes_one {stock} {s} = made_one {Form = EarliestFile stock s} earliest_one
+makes_one {stock} {s} = made_one {Is = EarliestFile stock s} earliest_one

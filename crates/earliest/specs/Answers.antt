@@ -1,5 +1,5 @@
 -- What making the earliest form answers.
-use Rattle.std.specs.Prelude.{Option, Result, ℕ, ◌≤◌, ◌<◌, List, ◌≡◌, length}
+use Rattle.std.specs.Prelude.{Result, ℕ, ◌≤◌, ◌<◌, List, ◌≡◌, length}
 use Rattle.trees.specs.declared.refusal.Refusal.{Refusal}
 use Rattle.forms.specs.declared.write.Form.{Form}
 use Rattle.trees.specs.Refusal.{outcome_of, Checks, done, check, Judged}
@@ -26,8 +26,8 @@ form_check stock s rest = check 7 ((k : ℕ) × ((counts : List ℕ) × ((bytes 
 
 -- ---- a form of the transducer of the file s, as a file: Form says which k, counts and marks are the form's; refusal 7 where the earliest form is over the limits of a file
 abbrev pub MakesForm : (ℕ → List ℕ → List ℕ → Type 0) → List ℕ → List ℕ → List ℕ → List ℕ → Result Form Refusal → Type 0
-MakesForm Form stock s before after r =
-    Judged (after ≡ before) (λ v. (counts : List ℕ) × ((bytes : List ℕ) × (Form v.0 counts bytes × FileOf v counts bytes before after)))
+MakesForm Is stock s before after r =
+    Judged (after ≡ before) (λ (v : Form). (counts : List ℕ) × ((bytes : List ℕ) × (Is v.states counts bytes × FileOf v counts bytes before after)))
     (check 1 (longest ≤ length before) (alphabet_check stock (sheet_check stock s (form_check stock s done))))
     (outcome_of r)
 

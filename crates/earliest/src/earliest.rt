@@ -8,7 +8,7 @@ ghost use Rattle.earliest.specs.Inner.Loaded.{EarliestOf, FormOfParts, FormsFile
 use crate::discover::form_of_table;
 use formats::bodies::fill_starts;
 use formats::file::{counts_end, read_transducer};
-use forms::write::{write_found, Form};
+use forms::write::{Form, write_found};
 use trees::alphabet::{input_ranks, output_ranks};
 use trees::refusal::Refusal;
 
@@ -32,7 +32,13 @@ pub fn form_of_parts(
 }
 
 // The file of the earliest form of the transducer whose n, counts and marks these are.
-fn form_file(stock: &[u8], n: usize, counts: &[u8], marks: &[u8], area: &mut [u8]) -> Result<Form, Refusal>
+fn form_file(
+    stock: &[u8],
+    n: usize,
+    counts: &[u8],
+    marks: &[u8],
+    area: &mut [u8],
+) -> Result<Form, Refusal>
     requires { Machine stock.now n counts.now marks.now × (longest ≤ length area.old) }
     ensures { FormsFile (EarliestOf stock.now n counts.now marks.now) stock.now n counts.now marks.now area.old area.new result }
 {
@@ -49,11 +55,7 @@ pub fn earliest_form(stock: &[u8], sheet: &[u8], area: &mut [u8]) -> Result<Form
     if area.len() < 20483 {
         return Err(Refusal::ShortArea);
     }
-    match read_transducer(stock, sheet) {
-        Ok(n) => {
-            let from = counts_end(stock, n);
-            form_file(stock, n, &sheet[1..from], &sheet[from..], area)
-        }
-        Err(r) => Err(r),
-    }
+    let n = read_transducer(stock, sheet)?;
+    let from = counts_end(stock, n);
+    form_file(stock, n, &sheet[1..from], &sheet[from..], area)
 }

@@ -1,6 +1,5 @@
 -- What is answered once the parts of a transducer's file are known to be right.
-use Rattle.std.specs.Prelude.{Err, None, Ok, Option, Result, Some, ℕ, ◌<◌, List, ◌≡◌}
-use Rattle.trees.specs.declared.refusal.Refusal.{Refusal}
+use Rattle.std.specs.Prelude.{None, Option, Some, ℕ, ◌<◌, List, ◌≡◌}
 use Rattle.theory.specs.Earliest.{Earliest}
 use Rattle.theory.specs.NormalForm.{NormalForm}
 use Rattle.theory.specs.Numbered.{Numbered}

@@ -1,6 +1,5 @@
 -- The loops that make the earliest form: what they ask, and what stands there at the end.
-use Rattle.std.specs.Prelude.{Err, None, Ok, Option, Result, Some, ℕ, ◌≤◌, ◌<◌, List, ◌≡◌, length, get_or}
-use Rattle.trees.specs.declared.refusal.Refusal.{Refusal}
+use Rattle.std.specs.Prelude.{None, Option, Some, ℕ, ◌≤◌, ◌<◌, List, ◌≡◌, length, get_or}
 use Rattle.theory.specs.Transducer.{Transducer}
 use Rattle.theory.specs.Trimmed.{Trimmed}
 use Rattle.trees.specs.Alphabets.{Leaf}

@@ -1,5 +1,5 @@
 -- What is answered once the parts of a transducer's file are known to be right.
-use Rattle.std.specs.Prelude.{Err, None, Ok, Option, Result, Some, ℕ, ◌<◌, List, ◌≡◌}
+use Rattle.std.specs.Prelude.{None, Option, Result, Some, ℕ, ◌<◌, List, ◌≡◌}
 use Rattle.trees.specs.declared.refusal.Refusal.{Refusal}
 use Rattle.forms.specs.declared.write.Form.{Form}
 use Rattle.trees.specs.Refusal.{outcome_of, done, check, Judged}
@@ -29,7 +29,7 @@ pub record FormOfParts (stock : List ℕ) (n : ℕ) (counts bytes starts out : L
 
 -- a form of the transducer with n states and these counts and marks, as a file: Form says which k, counts and marks are the form's
 abbrev pub FormsFile : (ℕ → List ℕ → List ℕ → Type 0) → List ℕ → ℕ → List ℕ → List ℕ → List ℕ → List ℕ → Result Form Refusal → Type 0
-FormsFile Form stock n counts bytes before after r =
-    Judged (after ≡ before) (λ v. (counts' : List ℕ) × ((bytes' : List ℕ) × (Form v.0 counts' bytes' × FileOf v counts' bytes' before after)))
+FormsFile Is stock n counts bytes before after r =
+    Judged (after ≡ before) (λ (v : Form). (counts' : List ℕ) × ((bytes' : List ℕ) × (Is v.states counts' bytes' × FileOf v counts' bytes' before after)))
     (check 7 ((k : ℕ) × ((counts' : List ℕ) × ((bytes' : List ℕ) × EarliestOf stock n counts bytes k counts' bytes'))) done)
     (outcome_of r)

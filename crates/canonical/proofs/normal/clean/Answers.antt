@@ -3,6 +3,7 @@ use native.Mathlib.Omega.{arith}
 use mathlib.Core.Path.{refl}
 use Rattle.trees.specs.Refusal.{done}
 use Rattle.trees.proofs.Judging.{refuse, pass}
+use Rattle.std.proofs.lemmas.Result.{err_from_is_err_and}
 use Rattle.formats.proofs.Verdicts.{accepted_alphabets, accepted_states, accepted_long}
 use Rattle.transducer.proofs.Opening.{opened_at, opened_machine, not_opened}
 use Rattle.earliest.specs.Answers.{form_check}
@@ -13,22 +14,24 @@ pub returns-then-area-lt20483 : goal.returns-then-area-lt20483
 returns-then-area-lt20483 c = refuse (λ h. omega (arith, c.if-area-lt20483.true)) refl
 
 pub counts_end-from-requires : goal.counts_end-from-requires
-counts_end-from-requires c = (accepted_alphabets c.args.stock.now c.args.sheet.now c.in-Ok.n c.read_transducer.ensures c.in-Ok.is, omega (arith, accepted_states c.args.stock.now c.args.sheet.now c.in-Ok.n c.read_transducer.ensures c.in-Ok.is))
+counts_end-from-requires c = (accepted_alphabets c.args.stock.now c.args.sheet.now c.in_ok-n.n c.read_transducer.ensures c.in_ok-n.was, omega (arith, accepted_states c.args.stock.now c.args.sheet.now c.in_ok-n.n c.read_transducer.ensures c.in_ok-n.was))
 
 pub slice_bounds-clean_file-end : goal.slice_bounds-clean_file-end
-slice_bounds-clean_file-end c = omega (arith, c.counts_end-from.ensures, accepted_long c.args.stock.now c.args.sheet.now c.in-Ok.n c.read_transducer.ensures c.in-Ok.is)
+slice_bounds-clean_file-end c = omega (arith, c.counts_end-from.ensures, accepted_long c.args.stock.now c.args.sheet.now c.in_ok-n.n c.read_transducer.ensures c.in_ok-n.was)
 
-pub slice_bounds-clean_file-count-in-Ok : goal.slice_bounds-clean_file-count-in-Ok
-slice_bounds-clean_file-count-in-Ok c = omega (arith, c.counts_end-from.ensures, accepted_long c.args.stock.now c.args.sheet.now c.in-Ok.n c.read_transducer.ensures c.in-Ok.is)
+pub slice_bounds-clean_file-count : goal.slice_bounds-clean_file-count
+slice_bounds-clean_file-count c = omega (arith, c.counts_end-from.ensures, accepted_long c.args.stock.now c.args.sheet.now c.in_ok-n.n c.read_transducer.ensures c.in_ok-n.was)
 
-pub slice_bounds-clean_file-start-in-Ok : goal.slice_bounds-clean_file-start-in-Ok
-slice_bounds-clean_file-start-in-Ok c = omega (arith, c.counts_end-from.ensures, accepted_long c.args.stock.now c.args.sheet.now c.in-Ok.n c.read_transducer.ensures c.in-Ok.is)
+pub slice_bounds-clean_file-start : goal.slice_bounds-clean_file-start
+slice_bounds-clean_file-start c = omega (arith, c.counts_end-from.ensures, accepted_long c.args.stock.now c.args.sheet.now c.in_ok-n.n c.read_transducer.ensures c.in_ok-n.was)
 
 pub clean_file-requires : goal.clean_file-requires
-clean_file-requires c = (opened_machine (opened_at c.args.stock.now c.args.sheet.now c.in-Ok.n c.read_transducer.ensures c.in-Ok.is c.counts_end-from.result c.counts_end-from.ensures refl), omega (arith, c.if-area-lt20483.false))
+clean_file-requires c = (opened_machine (opened_at c.args.stock.now c.args.sheet.now c.in_ok-n.n c.read_transducer.ensures c.in_ok-n.was c.counts_end-from.result c.counts_end-from.ensures refl), omega (arith, c.if-area-lt20483.false))
 
-pub returns-in-Ok : goal.returns-in-Ok
-returns-in-Ok c = file_cleaned (opened_at c.args.stock.now c.args.sheet.now c.in-Ok.n c.read_transducer.ensures c.in-Ok.is c.counts_end-from.result c.counts_end-from.ensures refl) (omega (arith, c.if-area-lt20483.false)) c.clean_file.result c.clean_file.ensures
+pub returns : goal.returns
+returns c = file_cleaned (opened_at c.args.stock.now c.args.sheet.now c.in_ok-n.n c.read_transducer.ensures c.in_ok-n.was c.counts_end-from.result c.counts_end-from.ensures refl) (omega (arith, c.if-area-lt20483.false)) c.clean_file.result c.clean_file.ensures
 
-pub returns-in-Err : goal.returns-in-Err
-returns-in-Err c = pass (omega (arith, c.if-area-lt20483.false)) (not_opened c.args.stock.now c.args.sheet.now (form_check c.args.stock.now c.args.sheet.now done) refl c.read_transducer.ensures c.in-Err.is)
+pub returns-in_err-n : goal.returns-in_err-n
+returns-in_err-n c =
+    let p = err_from_is_err_and c.from_residual.result c.from_residual.ensures.1 in
+    rw (p.1, p.2) (pass (omega (arith, c.if-area-lt20483.false)) (not_opened c.args.stock.now c.args.sheet.now (form_check c.args.stock.now c.args.sheet.now done) refl c.read_transducer.ensures c.in_err-n.was))

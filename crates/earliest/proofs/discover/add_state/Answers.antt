@@ -62,7 +62,7 @@ loop-a-preserved c =
     let G = c.requires.0 in
     let T = c.loop-a.invariant in
     let k = c.add_body in
-    (omega (arith, c.loop-a-test.true), c.find_rhs-span.auto.letters ∙ T.1, k.auto.starts ∙ T.2, k.auto.list ∙ T.3, stage_next (by_numbers G.expanding) G.leaf T.4 c.loop-a-test.true k.ensures c.in-Ok.is (found_spelt c.find_rhs-span.ensures))
+    (omega (arith, c.loop-a-test.true), c.find_rhs-span.auto.letters ∙ T.1, k.auto.starts ∙ T.2, k.auto.list ∙ T.3, stage_next (by_numbers G.expanding) G.leaf T.4 c.loop-a-test.true k.ensures c.in-Some.is (found_spelt c.find_rhs-span.ensures))
 
 pub shape_of-letters : goal.shape_of-letters
 shape_of-letters c = c.loop-a.invariant.1

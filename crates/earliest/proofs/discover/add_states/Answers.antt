@@ -42,7 +42,7 @@ pub loop-p-preserved : goal.loop-p-preserved
 loop-p-preserved c =
     let T = c.loop-p.invariant in
     let k = c.add_state in
-    (k.auto.letters ∙ T.0, k.auto.starts2 ∙ T.1, k.auto.list ∙ T.2, k.ensures.found c.in-Ok.m c.in-Ok.is)
+    (k.auto.letters ∙ T.0, k.auto.starts2 ∙ T.1, k.auto.list ∙ T.2, k.ensures.found c.in-Some.m c.in-Some.is)
 
 pub shape_of-letters : goal.shape_of-letters
 shape_of-letters c = c.loop-p.invariant.0

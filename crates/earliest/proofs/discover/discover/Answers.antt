@@ -16,13 +16,13 @@ pub add_states-requires : goal.add_states-requires
 add_states-requires c =
     let b = c.requires in
     let k = c.add_initial in
-    (record { expanding = b.0; leaf = b.1; room = omega (arith, k.auto.letters, length-replicate {A = ℕ} 4096 0) }, k.ensures.found c.in-Ok.met c.in-Ok.is)
+    (record { expanding = b.0; leaf = b.1; room = omega (arith, k.auto.letters, length-replicate {A = ℕ} 4096 0) }, k.ensures.found c.in-Some.met c.in-Some.is)
 
-pub shape_of-starts2-in-Ok : goal.shape_of-starts2-in-Ok
-shape_of-starts2-in-Ok c = c.add_states.auto.starts2 ∙ (c.add_initial.auto.starts2 ∙ length-set c.args.starts2.now 0 0)
+pub shape_of-starts2-in-Some : goal.shape_of-starts2-in-Some
+shape_of-starts2-in-Some c = c.add_states.auto.starts2 ∙ (c.add_initial.auto.starts2 ∙ length-set c.args.starts2.now 0 0)
 
-pub returns-in-Ok : goal.returns-in-Ok
-returns-in-Ok c = form_discovered (by_numbers c.requires.0) c.requires.1 c.add_states.ensures
+pub returns-in-Some : goal.returns-in-Some
+returns-in-Some c = form_discovered (by_numbers c.requires.0) c.requires.1 c.add_states.ensures
 
 pub shape_of-starts2-in-None : goal.shape_of-starts2-in-None
 shape_of-starts2-in-None c = c.add_initial.auto.starts2 ∙ length-set c.args.starts2.now 0 0
