@@ -24,12 +24,8 @@ use Rattle.forms.specs.Alphabet.{alphabet, children_inside}
 use Rattle.forms.specs.Inner.Tables.{Layout, machine}
 use Rattle.classes.specs.Inner.Classes.{at}
 use Rattle.pairs.specs.Inner.Pairs.{Sides, Forms, FirstClash, InStep, pair_left, pair_right, pair_parent, pair_symbol, Entry, body_of, left_body, right_body, Linked, Table, table, Merging, Later, JoinsStates, Joinable, Listed, JoinsMarks, Searching, Goes, Alike, Walkable, Walks, WalksPair, WalksAll, Searches, Connected, pair, itself, back, onward}
-use Rattle.pairs.specs.declared.pairs.Walked.{Walked}
-use Rattle.pairs.specs.declared.pairs.Stage.{Stage}
-use Rattle.pairs.specs.declared.pairs.Verdict.{Verdict}
-use Rattle.pairs.specs.declared.pairs.Walked.TheVariants as walked
-use Rattle.pairs.specs.declared.pairs.Stage.TheVariants as stage
-use Rattle.pairs.specs.declared.pairs.Verdict.TheVariants as verdict
+use Rattle.pairs.specs.declared.pairs.Clash.{Clash}
+use Rattle.std.specs.Prelude.{Option, Some, None, Result, Ok, Err}
 use Rattle.pairs.proofs.Joining.{later_self, class_left, class_right, merging_start}
 use Rattle.pairs.proofs.Stepping.{Spelt, spelt_state, same_size, spelt_match}
 
@@ -152,6 +148,9 @@ module _ {T T' : Table} (L : Later T T') where
       }
 
 -- ---- a walk along two bodies
+abbrev pub clash_of : ℕ → ℕ → ℕ → Clash
+clash_of q a m = record { parent = q; symbol = a; mark = m }
+
 pub size_of : {from from' to to' n a a' b b' : ℕ} → from ≡ a → from' ≡ a' → to ≡ b → to' ≡ b' → n ≡ min (to - from) (to' - from') → n ≡ min (b - a) (b' - a')
 size_of f f' t t' e = rw (← f, ← f', ← t, ← t') e
 
@@ -175,25 +174,31 @@ module _ {S : Sides} {T : Table} {q a j j' : ℕ} (W : Walkable S T q a j j') wh
   pub walk_inside : (2 * at S.starts (j + 1) ≤ length S.bytes) × (2 * at S.starts' (j' + 1) ≤ length S.bytes')
   walk_inside = (walk_bodies.1.left.inside, walk_bodies.1.right.inside)
 
-  module _ {n m : ℕ} (e : n ≡ min (at S.starts (j + 1) - at S.starts j) (at S.starts' (j' + 1) - at S.starts' j')) (B : FirstClash S.bytes S.bytes' (at S.starts j) (at S.starts' j') n m) where
+  module _ {n : ℕ} {o : Option ℕ} (e : n ≡ min (at S.starts (j + 1) - at S.starts j) (at S.starts' (j' + 1) - at S.starts' j')) (B : FirstClash S.bytes S.bytes' (at S.starts j) (at S.starts' j') n o) where
     -- they clash
-    pub walk_clash : m < n → Walks S T T.left T.right T.list j j' (walked.Clash m)
-    walk_clash h = record {
-      alike = λ r z. conflict (cc);
-      clash = λ k z.
-          let y : m ≡ k = cc in
-          rw (← y) (
-            record { searching = W.searching; later = later_self T },
-            record {
-              agree = record { inside = omega (arith, walk_ordered.0); inside' = omega (arith, walk_ordered.1); step = B.step };
-              clash = B.clash h;
-            },
-          );
-    }
+    pub walk_clash : (m : ℕ) → o ≡ Some m → Walks S T T.left T.right T.list j j' (Err (clash_of q a m))
+    walk_clash m z =
+        let h = B.small m z in
+        record {
+          alike = λ r y. conflict (cc);
+          clash = λ f y.
+              let i : clash_of q a m ≡ f = cc in
+              rw (← i) (record {
+                count = T.count;
+                few = W.searching.merging.few;
+                linked = W.searching.linked;
+                parent = W.parent;
+                known = W.known;
+                clash = rw (W.left, W.right) (record {
+                  agree = record { inside = omega (arith, walk_ordered.0); inside' = omega (arith, walk_ordered.1); step = B.step m z };
+                  clash = B.clash m z;
+                });
+              });
+        }
 
-    module _ (all : m < n → ⊥) where
+    module _ (all : o ≡ None) where
       step_on : (k : ℕ) → k < n → InStep S.bytes S.bytes' (at S.starts j + k) (at S.starts' j' + k)
-      step_on k h = B.step k (omega arith)
+      step_on = B.none all
 
       -- they go in step: the states that they call can be joined
       pub walk_joinable : Joinable T S.bytes S.bytes' (at S.starts j) (at S.starts' j') n
@@ -246,7 +251,7 @@ module _ {S : Sides} {T : Table} {q a j j' : ℕ} (W : Walkable S T q a j j') wh
             }
 
         -- and then they are one up to classes
-        pub walk_alike : Walks S T C D P j j' (walked.Count r)
+        pub walk_alike : Walks S T C D P j j' (Ok r)
         walk_alike = record {
           alike = λ k z.
               let y : r ≡ k = cc in
@@ -313,11 +318,11 @@ module _ {S : Sides} {T₀ T : Table} {p a : ℕ} (L : PairLoop S T₀ T p a) (h
         right = rw (add-one p, k.1);
       }
 
-  module _ {C D P : List ℕ} {x y : ℕ} (e : x ≡ pair_left T₀.list p) (f : y ≡ pair_right T₀.list p) (g : a < length S.ins) {w : Walked} (K : Walks S T C D P (body_number S.ins x a) (body_number S.ins y a) w) where
+  module _ {C D P : List ℕ} {x y : ℕ} (e : x ≡ pair_left T₀.list p) (f : y ≡ pair_right T₀.list p) (g : a < length S.ins) {w : Result ℕ Clash} (K : Walks S T C D P (body_number S.ins x a) (body_number S.ins y a) w) where
     after_kept : {r : ℕ} → Goes S T (table C D P r) → (pair_left P p ≡ x) × (pair_right P p ≡ y)
     after_kept G = let k = pair_kept e f in (G.later.keeps (6 * p + 0) (omega (arith, pair_inside)) ∙ k.0, G.later.keeps (6 * p + 1) (omega (arith, pair_inside)) ∙ k.1)
 
-    pub pair_next : (r : ℕ) → w ≡ walked.Count r → PairLoop S T₀ (table C D P r) p (a + 1)
+    pub pair_next : (r : ℕ) → w ≡ Ok r → PairLoop S T₀ (table C D P r) p (a + 1)
     pair_next r z =
         let k = K.alike r z in
         let q = after_kept k.0 in
@@ -327,22 +332,18 @@ module _ {S : Sides} {T₀ T : Table} {p a : ℕ} (L : PairLoop S T₀ T p a) (h
           alike = below_more (λ b. AlikeAt S (table C D P r) p b) a (λ b i. alike_at_later L.goes.searching k.0.later p b pair_inside (omega arith) (L.alike b i)) (rw (q.0, q.1) k.1);
         }
 
-    pub pair_clash : (m : ℕ) → w ≡ walked.Clash m → WalksPair S T₀ C D P p (stage.Clash a m)
-    pair_clash m z =
-        let k = K.clash m z in
-        let q = after_kept k.0 in
-        record {
-          alike = λ r y. conflict (cc);
-          clash = λ b l y.
-              let i : a ≡ b = cc in
-              let j : m ≡ l = cc in
-              (T.count, goes_then L.goes k.0, rw (← i) g, rw (← i, ← j, q.0, q.1) k.1);
-        }
+    pub pair_clash : (f : Clash) → w ≡ Err f → WalksPair S T₀ C D P p (Err f)
+    pair_clash f z = record {
+      alike = λ r y. conflict (cc);
+      clash = λ d y.
+          let i : f ≡ d = cc in
+          rw (← i, ← L.goes.later.same_left, ← L.goes.later.same_right) (K.clash f z);
+    }
 
-pub pair_end : {S : Sides} {T₀ : Table} {C D P : List ℕ} {n p a : ℕ} → PairLoop S T₀ (table C D P n) p a → length S.ins ≤ a → WalksPair S T₀ C D P p (stage.Count n)
+pub pair_end : {S : Sides} {T₀ : Table} {C D P : List ℕ} {n p a : ℕ} → PairLoop S T₀ (table C D P n) p a → length S.ins ≤ a → WalksPair S T₀ C D P p (Ok n)
 pair_end {n = n} L h = record {
   alike = λ r y. let i : n ≡ r = cc in rw (← i) (L.goes, λ a g. L.alike a (omega arith));
-  clash = λ a m y. conflict (cc);
+  clash = λ d y. conflict (cc);
 }
 
 -- ---- the listed pairs
@@ -355,8 +356,8 @@ pub record AllLoop (S : Sides) (T₀ T : Table) (p : ℕ) : Type 0 where
 pub all_start : {S : Sides} {T : Table} → Searching S T → AllLoop S T T 0
 all_start F = record { done = omega arith; goes = goes_self F; alike = λ o h. absurd (omega arith) }
 
-module _ {S : Sides} {T₀ T : Table} {p : ℕ} (L : AllLoop S T₀ T p) (h : p < T.count) {C D P : List ℕ} {w : Stage} (K : WalksPair S T C D P p w) where
-  pub all_next : (r : ℕ) → w ≡ stage.Count r → AllLoop S T₀ (table C D P r) (p + 1)
+module _ {S : Sides} {T₀ T : Table} {p : ℕ} (L : AllLoop S T₀ T p) (h : p < T.count) {C D P : List ℕ} {w : Result ℕ Clash} (K : WalksPair S T C D P p w) where
+  pub all_next : (r : ℕ) → w ≡ Ok r → AllLoop S T₀ (table C D P r) (p + 1)
   all_next r z =
       let k = K.alike r z in
       record {
@@ -365,29 +366,16 @@ module _ {S : Sides} {T₀ T : Table} {p : ℕ} (L : AllLoop S T₀ T p) (h : p 
         alike = below_more (λ o. (a : ℕ) → a < length S.ins → AlikeAt S (table C D P r) o a) p (λ o i a g. alike_at_later L.goes.searching k.0.later o a (omega arith) g (L.alike o i a g)) k.1;
       }
 
-  pub all_clash : (a m : ℕ) → w ≡ stage.Clash a m → WalksAll S T₀ C D P (verdict.Clash (p + 1) a m)
-  unfolding body_of
-  all_clash a m z =
-      let k = K.clash a m z in
-      let G = k.1 in
-      record {
-        alike = λ y. conflict (cc);
-        clash = λ q b l y.
-            let i : p + 1 ≡ q = cc in
-            let j : a ≡ b = cc in
-            let o : m ≡ l = cc in
-            rw (← i, ← j, ← o) (record {
-              count = k.0;
-              few = G.searching.merging.few;
-              linked = G.searching.linked;
-              parent = omega (arith, G.later.longer);
-              known = λ u. k.2;
-              clash = rw (add-one p) k.3;
-            });
-      }
+  pub all_clash : (f : Clash) → w ≡ Err f → WalksAll S T₀ C D P (Err f)
+  all_clash f z = record {
+    alike = λ y. conflict (cc);
+    clash = λ d y.
+        let i : f ≡ d = cc in
+        rw (← i, ← L.goes.later.same_left, ← L.goes.later.same_right) (K.clash f z);
+  }
 
-pub all_end : {S : Sides} {T₀ : Table} {C D P : List ℕ} {n p : ℕ} → AllLoop S T₀ (table C D P n) p → n ≤ p → WalksAll S T₀ C D P verdict.Same
-all_end {n = n} L h = record { alike = λ y. (n, L.goes, λ o i a g. L.alike o (omega arith) a g); clash = λ q a m y. conflict (cc) }
+pub all_end : {S : Sides} {T₀ : Table} {C D P : List ℕ} {n p : ℕ} → AllLoop S T₀ (table C D P n) p → n ≤ p → WalksAll S T₀ C D P (Ok tt)
+all_end {n = n} L h = record { alike = λ y. (n, L.goes, λ o i a g. L.alike o (omega arith) a g); clash = λ d y. conflict (cc) }
 
 -- ---- equivalence
 -- a value for each of the states in one row
@@ -475,33 +463,20 @@ search_start {C = C} {D} {P} F room own own' = record {
   right = refl;
 }
 
-module _ {S : Sides} {T : Table} {C D P : List ℕ} {w : Walked} (K : Walks S T C D P 0 0 w) {n n' : ℕ} where
+module _ {S : Sides} {T : Table} {C D P : List ℕ} {w : Result ℕ Clash} (K : Walks S T C D P 0 0 w) {n n' : ℕ} where
   -- the initial terms clash
-  pub search_clash : length C ≡ n → length D ≡ n' → (m : ℕ) → w ≡ walked.Clash m → Searches S n n' P (verdict.Clash 0 0 m)
-  unfolding body_of
-  search_clash e f m z =
-      let k = K.clash m z in
-      let G = k.0 in
-      record {
-        same = λ y. conflict (cc);
-        clash = λ q a l y.
-            let i : 0 ≡ q = cc in
-            let j : 0 ≡ a = cc in
-            let o : m ≡ l = cc in
-            rw (← i, ← j, ← o) (record {
-              count = T.count;
-              few = G.searching.merging.few;
-              linked = λ p h. rw (e, f) at (G.searching.linked p h);
-              parent = omega arith;
-              known = λ u. absurd (omega arith);
-              clash = k.1;
-            });
-      }
+  pub search_clash : length T.left ≡ n → length T.right ≡ n' → (f : Clash) → w ≡ Err f → Searches S n n' P (Err f)
+  search_clash g h f z = record {
+    same = λ y. conflict (cc);
+    clash = λ d y.
+        let i : f ≡ d = cc in
+        rw (← i, ← g, ← h) (K.clash f z);
+  }
 
   -- the listed pairs are walked
-  pub search_end : (r : ℕ) → w ≡ walked.Count r → {C' D' P' : List ℕ} {v : Verdict} → WalksAll S (table C D P r) C' D' P' v → length C' ≡ n → length D' ≡ n' → Searches S n n' P' v
+  pub search_end : (r : ℕ) → w ≡ Ok r → {C' D' P' : List ℕ} {v : Result (Unit {0}) Clash} → WalksAll S (table C D P r) C' D' P' v → length C' ≡ n → length D' ≡ n' → length C ≡ n → length D ≡ n' → Searches S n n' P' v
   unfolding body_of
-  search_end r z {C'} {D'} {P'} A e f =
+  search_end r z {C'} {D'} {P'} A e f g h =
       let k = K.alike r z in
       record {
         same = λ y outs l L L' wf wf'.
@@ -509,5 +484,5 @@ module _ {S : Sides} {T : Table} {C D P : List ℕ} {w : Walked} (K : Walks S T 
             let G = a.1 in
             let i = alike_later (parent_bodies k.0.searching 0 0 (omega arith) (λ o. absurd (omega arith))).1 G.later k.1 in
             rw (e, f) at (found_equivalent G.searching outs l (rw e L) (rw f L') a.2 i (rw e wf) (rw f wf'));
-        clash = λ q b m y. rw (e, f) at (A.clash q b m y);
+        clash = λ d y. rw (g, h) at (A.clash d y);
       }

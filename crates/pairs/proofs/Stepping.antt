@@ -8,6 +8,8 @@ use mathlib.Core.Logic.{by_cases}
 use mathlib.Core.Path.{◌≡◌, refl, sym, ap, ap₂, ◌∙◌, subst}
 use lib.ListN.{length, get_or, take, drop, length-map, length-take, length-drop, take-append-drop, get_or-map, get_or-append}
 use lib.Seq.{ext_get_or, length-slice, get_or-take, get_or-append-add}
+use Rattle.std.specs.Prelude.{Some, None}
+use Rattle.theory.proofs.Terms.{conflict}
 use Rattle.theory.specs.Term.{Term, var, node, Terms, none, more, count}
 use Rattle.theory.proofs.Along.{Along, here, under, Alongs, first, later, Are, Differ, node_node, node_call, call_node, call_call}
 use Rattle.theory.proofs.Match.{Match, calls, nodes, Matches, nil, cons, Related}
@@ -22,7 +24,7 @@ use Rattle.formats.proofs.Sheets.{whole_ranked}
 use Rattle.transducer.proofs.Meaning.{body_read}
 use Rattle.classes.specs.Inner.Classes.{key_of, keyed, at}
 use Rattle.classes.proofs.Keys.{key_symbol, key_call, key_first, term_marks}
-use Rattle.pairs.specs.Inner.Pairs.{InStep, Clashing, two_symbols, symbol_call, call_symbol, two_children}
+use Rattle.pairs.specs.Inner.Pairs.{InStep, FirstClash, Clashing, two_symbols, symbol_call, call_symbol, two_children}
 use Rattle.earliest.specs.Inner.Places.{place, place_among}
 use Rattle.earliest.proofs.Places.{place_first, place_behind}
 
@@ -37,6 +39,19 @@ module _ (bytes bytes' : List ℕ) (i j : ℕ) where
   -- they are two symbols
   pub clash_second : get_or bytes (2 * i) 0 ≡ get_or bytes' (2 * j) 0 → get_or bytes (2 * i) 0 ≡ 0 → (get_or bytes (2 * i + 1) 0 ≡ get_or bytes' (2 * j + 1) 0 → ⊥) → Clashing bytes bytes' i j
   clash_second e z n = two_symbols z (omega arith) n
+
+-- ---- the first marks that clash
+module _ {bytes bytes' : List ℕ} {i j n : ℕ} where
+  pub clashes_at : (m : ℕ) → m < n → ((k : ℕ) → k < m → InStep bytes bytes' (i + k) (j + k)) → Clashing bytes bytes' (i + m) (j + m) → FirstClash bytes bytes' i j n (Some m)
+  clashes_at m h s c = record {
+    none = λ e. conflict (cc);
+    small = λ k e. let z : m ≡ k = cc in rw (← z) h;
+    step = λ k e. let z : m ≡ k = cc in rw (← z) s;
+    clash = λ k e. let z : m ≡ k = cc in rw (← z) c;
+  }
+
+  pub no_clash : ((k : ℕ) → k < n → InStep bytes bytes' (i + k) (j + k)) → FirstClash bytes bytes' i j n None
+  no_clash s = record { none = λ e. s; small = λ k e. conflict (cc); step = λ k e. conflict (cc); clash = λ k e. conflict (cc) }
 
 -- ---- one key
 -- marks in step whose calls are of states of one class have one key

@@ -1,9 +1,7 @@
 // The pair search of Hopcroft and Karp: states of two transducers are joined into classes, pair by pair, until all right-hand sides
 // agree up to classes, or two of them clash.
-ghost use Rattle.std.specs.Prelude.{ℕ, ◌+◌, ◌*◌, ◌≤◌, ◌<◌, min, ◌≡◌, length, get_or};
+ghost use Rattle.std.specs.Prelude.{ℕ, ◌+◌, ◌*◌, ◌≤◌, ◌<◌, ◌≡◌, length, get_or};
 ghost use Rattle.pairs.specs.Inner.Pairs.{sides, table, pair_byte, Forms, FirstClash, Joined, Added, Merging, JoinsStates, Joinable, JoinsMarks, Searching, Walkable, Walks, WalksPair, WalksAll, Searches};
-
-use trees::bytes::{number, wide};
 
 // A pair in the list has six bytes: its two states, its parent, the symbol and the mark at which it was found, and the child called there.
 pub const PAIR: usize = 6;
@@ -20,31 +18,12 @@ pub const MARK: usize = 4;
 
 pub const CHILD: usize = 5;
 
-// What a walk along two bodies finds: how many pairs are listed then, or the mark at which they clash.
-#[derive(Drop)]
-pub enum Walked {
-    Count(usize),
-    Clash(usize),
-}
-
-// The same for the right-hand sides of a pair: the symbol and the mark.
-#[derive(Drop)]
-pub enum Stage {
-    Count(usize),
-    Clash(usize, usize),
-}
-
-// The two transducers are equivalent; or bodies of a parent (0: the initial terms; p + 1: pair p) for a symbol clash at a mark.
-#[derive(Drop)]
-pub enum Verdict {
-    Same,
-    Clash(usize, usize, usize),
-}
-
-fn smaller(x: usize, y: usize) -> usize
-    ensures { result ≡ min x y }
-{
-    if x < y { x } else { y }
+// Two bodies that clash: those of a parent (0: the initial terms; p + 1: pair p) for a symbol, at a mark.
+#[derive(Clone, Copy, Debug, PartialEq, Eq)]
+pub struct Clash {
+    pub parent: usize,
+    pub symbol: usize,
+    pub mark: usize,
 }
 
 // Each state is in a class of its own.
@@ -52,10 +31,8 @@ fn start_classes(classes: &mut [u8], base: usize)
     requires { base + length classes.old ≤ 256 }
     ensures { (x : ℕ) → x < length classes.old → get_or classes.new x 0 ≡ base + x }
 {
-    let mut x = 0;
-    while x < classes.len() {
-        classes[x] = (base + x) as u8;
-        x += 1;
+    for (x, class) in classes.iter_mut().enumerate() {
+        *class = (base + x) as u8;
     }
 }
 
@@ -63,12 +40,10 @@ fn start_classes(classes: &mut [u8], base: usize)
 fn join(classes: &mut [u8], c: u8, d: u8)
     ensures { Joined classes.old classes.new c d }
 {
-    let mut x = 0;
-    while x < classes.len() {
-        if classes[x] == c {
-            classes[x] = d;
+    for class in classes.iter_mut() {
+        if *class == c {
+            *class = d;
         }
-        x += 1;
     }
 }
 
@@ -99,7 +74,7 @@ pub fn pair_byte(pairs: &[u8; 1536], p: usize, k: usize) -> usize
     requires { (p < 256) × (k < 6) }
     ensures { result ≡ pair_byte pairs.now k p }
 {
-    wide(pairs[PAIR * p + k])
+    usize::from(pairs[PAIR * p + k])
 }
 
 // Joins the classes of x and y, if they are two, and lists the pair.
@@ -118,8 +93,8 @@ fn join_states(
     requires { Merging (table classes1.old classes2.old pairs.old count) × (x < length classes1.old) × (y < length classes2.old) × (parent < 256) × (a < 256) × (m < 256) }
     ensures { JoinsStates (table classes1.old classes2.old pairs.old count) (table classes1.new classes2.new pairs.new result) parent a m child x y }
 {
-    let c = classes1[wide(x)];
-    let d = classes2[wide(y)];
+    let c = classes1[usize::from(x)];
+    let d = classes2[usize::from(y)];
     if c == d {
         return count;
     }
@@ -129,25 +104,21 @@ fn join_states(
     count + 1
 }
 
-// The first of n marks, from number i of the first and from number j of the second on, at which the two clash; n if there is none.
-fn first_clash(marks1: &[u8], i: usize, marks2: &[u8], j: usize, n: usize) -> usize
+// The first of n marks, from number i of the first and from number j of the second on, at which the two clash.
+fn first_clash(marks1: &[u8], i: usize, marks2: &[u8], j: usize, n: usize) -> Option<usize>
     requires { (2 * (i + n) ≤ length marks1.now) × (2 * (j + n) ≤ length marks2.now) }
     ensures { FirstClash marks1.now marks2.now i j n result }
 {
-    let mut k = 0;
-    while k < n {
+    for k in 0..n {
         let c = marks1[2 * (i + k)];
         if c != marks2[2 * (j + k)] {
-            return k;
+            return Some(k);
         }
-        if c == 0 {
-            if marks1[2 * (i + k) + 1] != marks2[2 * (j + k) + 1] {
-                return k;
-            }
+        if c == 0 && marks1[2 * (i + k) + 1] != marks2[2 * (j + k) + 1] {
+            return Some(k);
         }
-        k += 1;
     }
-    n
+    None
 }
 
 // Joins the states that are called at the same of n marks that go in step.
@@ -168,15 +139,13 @@ fn join_marks(
     ensures { JoinsMarks (table classes1.old classes2.old pairs.old count) (table classes1.new classes2.new pairs.new result) marks1.now marks2.now i j n parent a }
 {
     let mut r = count;
-    let mut k = 0;
-    while k < n {
+    for k in 0..n {
         let c = marks1[2 * (i + k)];
         if c > 0 {
             let x = marks1[2 * (i + k) + 1];
             let y = marks2[2 * (j + k) + 1];
             r = join_states(classes1, classes2, pairs, r, parent, a, k, c, x, y);
         }
-        k += 1;
     }
     r
 }
@@ -196,24 +165,28 @@ fn walk_pair(
     count: usize,
     parent: usize,
     a: usize,
-) -> Walked
+) -> Result<usize, Clash>
     requires { Walkable (sides ins.now starts1.now marks1.now starts2.now marks2.now) (table classes1.old classes2.old pairs.old count) parent a i j }
     ensures { Walks (sides ins.now starts1.now marks1.now starts2.now marks2.now) (table classes1.old classes2.old pairs.old count) classes1.new classes2.new pairs.new i j result }
 {
-    let from = number(starts1[i]);
-    let other = number(starts2[j]);
-    let n = smaller(
-        number(starts1[i + 1]) - from,
-        number(starts2[j + 1]) - other,
-    );
-    let m = first_clash(marks1, from, marks2, other, n);
-    if m < n {
-        return Walked::Clash(m);
+    let from = usize::from(starts1[i]);
+    let other = usize::from(starts2[j]);
+    let size = usize::from(starts1[i + 1]) - from;
+    let n = size.min(usize::from(starts2[j + 1]) - other);
+    let clash = first_clash(marks1, from, marks2, other, n);
+    match clash {
+        Some(mark) => Err(Clash {
+            parent,
+            symbol: a,
+            mark,
+        }),
+        None => {
+            let r = join_marks(
+                marks1, from, marks2, other, n, classes1, classes2, pairs, count, parent, a,
+            );
+            Ok(r)
+        }
     }
-    let r = join_marks(
-        marks1, from, marks2, other, n, classes1, classes2, pairs, count, parent, a,
-    );
-    Walked::Count(r)
 }
 
 // Walks the right-hand sides of pair p, symbol by symbol.
@@ -228,18 +201,17 @@ fn walk_symbols(
     pairs: &mut [u8; 1536],
     count: usize,
     p: usize,
-) -> Stage
+) -> Result<usize, Clash>
     requires { Searching (sides ins.now starts1.now marks1.now starts2.now marks2.now) (table classes1.old classes2.old pairs.old count) × (p < count) }
     ensures { WalksPair (sides ins.now starts1.now marks1.now starts2.now marks2.now) (table classes1.old classes2.old pairs.old count) classes1.new classes2.new pairs.new p result }
 {
-    let x = wide(pairs[PAIR * p + LEFT]);
-    let y = wide(pairs[PAIR * p + RIGHT]);
+    let x = usize::from(pairs[PAIR * p + LEFT]);
+    let y = usize::from(pairs[PAIR * p + RIGHT]);
     let mut n = count;
-    let mut a = 0;
-    while a < ins.len() {
+    for a in 0..ins.len() {
         let i = 1 + x * ins.len() + a;
         let j = 1 + y * ins.len() + a;
-        match walk_pair(
+        n = walk_pair(
             ins,
             starts1,
             marks1,
@@ -253,17 +225,9 @@ fn walk_symbols(
             n,
             p + 1,
             a,
-        ) {
-            Walked::Count(r) => {
-                n = r;
-            }
-            Walked::Clash(m) => {
-                return Stage::Clash(a, m);
-            }
-        }
-        a += 1;
+        )?;
     }
-    Stage::Count(n)
+    Ok(n)
 }
 
 // Walks the right-hand sides of the listed pairs, from the first on.
@@ -277,26 +241,20 @@ fn walk_pairs(
     classes2: &mut [u8],
     pairs: &mut [u8; 1536],
     count: usize,
-) -> Verdict
+) -> Result<(), Clash>
     requires { Searching (sides ins.now starts1.now marks1.now starts2.now marks2.now) (table classes1.old classes2.old pairs.old count) }
     ensures { WalksAll (sides ins.now starts1.now marks1.now starts2.now marks2.now) (table classes1.old classes2.old pairs.old count) classes1.new classes2.new pairs.new result }
 {
     let mut n = count;
     let mut p = 0;
+    // Stays `while`: walking a pair lists more pairs.
     while p < n {
-        match walk_symbols(
+        n = walk_symbols(
             ins, starts1, marks1, starts2, marks2, classes1, classes2, pairs, n, p,
-        ) {
-            Stage::Count(r) => {
-                n = r;
-            }
-            Stage::Clash(a, m) => {
-                return Verdict::Clash(p + 1, a, m);
-            }
-        }
+        )?;
         p += 1;
     }
-    Verdict::Same
+    Ok(())
 }
 
 // Whether the two transducers are equivalent, or where two of their bodies clash; the list of pairs leads there.
@@ -309,18 +267,16 @@ pub fn search(
     classes1: &mut [u8],
     classes2: &mut [u8],
     pairs: &mut [u8; 1536],
-) -> Verdict
+) -> Result<(), Clash>
     requires { Forms (sides ins.now starts1.now marks1.now starts2.now marks2.now) (length classes1.old) (length classes2.old) × (1536 ≤ length pairs.old) }
     ensures { Searches (sides ins.now starts1.now marks1.now starts2.now marks2.now) (length classes1.old) (length classes2.old) pairs.new result }
 {
     start_classes(classes1, 0);
     start_classes(classes2, 128);
-    match walk_pair(
+    let n = walk_pair(
         ins, starts1, marks1, 0, starts2, marks2, 0, classes1, classes2, pairs, 0, 0, 0,
-    ) {
-        Walked::Count(n) => walk_pairs(
-            ins, starts1, marks1, starts2, marks2, classes1, classes2, pairs, n,
-        ),
-        Walked::Clash(m) => Verdict::Clash(0, 0, m),
-    }
+    )?;
+    walk_pairs(
+        ins, starts1, marks1, starts2, marks2, classes1, classes2, pairs, n,
+    )
 }

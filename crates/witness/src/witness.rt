@@ -49,7 +49,7 @@ pub struct Traced {
 }
 
 // How many nodes and numbers the tree and the address have, and the two symbols.
-#[derive(Drop)]
+#[derive(Clone, Copy, Debug, PartialEq, Eq)]
 pub struct Shown {
     pub nodes: usize,
     pub numbers: usize,

@@ -1,5 +1,5 @@
 -- The pair search (Hopcroft and Karp) over two transducers: classes of their states, and the list of the pairs that were joined.
-use Rattle.std.specs.Prelude.{ℕ, suc, ◌+◌, ◌-◌, ◌*◌, ◌≤◌, ◌<◌, Bool, true, false, List, ◌⊎◌, ◌≢◌, ◌≡◌, ltb, length, get_or}
+use Rattle.std.specs.Prelude.{ℕ, suc, ◌+◌, ◌-◌, ◌*◌, ◌≤◌, ◌<◌, Bool, true, false, List, ◌⊎◌, ◌≢◌, ◌≡◌, ltb, length, get_or, Option, Some, None, Result, Ok, Err}
 use Rattle.std.proofs.Math.Decide.{ℕ_discrete}
 use Rattle.std.proofs.Math.Logic.{ite}
 use Rattle.theory.specs.Equivalent.{Equivalent}
@@ -9,12 +9,7 @@ use Rattle.formats.specs.Inner.Layout.{body_number}
 use Rattle.forms.specs.Alphabet.{alphabet}
 use Rattle.forms.specs.Inner.Tables.{machine, Layout}
 use Rattle.classes.specs.Inner.Classes.{at}
-use Rattle.pairs.specs.declared.pairs.Walked.{Walked}
-use Rattle.pairs.specs.declared.pairs.Stage.{Stage}
-use Rattle.pairs.specs.declared.pairs.Verdict.{Verdict}
-use Rattle.pairs.specs.declared.pairs.Walked.TheVariants as walked
-use Rattle.pairs.specs.declared.pairs.Stage.TheVariants as stage
-use Rattle.pairs.specs.declared.pairs.Verdict.TheVariants as verdict
+use Rattle.pairs.specs.declared.pairs.Clash.{Clash}
 
 -- ---- the two transducers
 -- the input alphabet, and for each of the two where its bodies start and their marks
@@ -47,11 +42,12 @@ pub data Clashing (bytes bytes' : List ℕ) (i j : ℕ) : Type 0 where
   call_symbol : 0 < get_or bytes (2 * i) 0 → get_or bytes' (2 * j) 0 ≡ 0 → Clashing bytes bytes' i j
   two_children : 0 < get_or bytes (2 * i) 0 → 0 < get_or bytes' (2 * j) 0 → get_or bytes (2 * i) 0 ≢ get_or bytes' (2 * j) 0 → Clashing bytes bytes' i j
 
--- of n marks from number i and from number j on, those before r go in step, and those at r clash, if r is below n
-pub record FirstClash (bytes bytes' : List ℕ) (i j n r : ℕ) : Type 0 where
-  pub small : r ≤ n
-  pub step : (k : ℕ) → k < r → InStep bytes bytes' (i + k) (j + k)
-  pub clash : r < n → Clashing bytes bytes' (i + r) (j + r)
+-- of n marks from number i and from number j on, all go in step, or those before mark m, at which they clash
+pub record FirstClash (bytes bytes' : List ℕ) (i j n : ℕ) (r : Option ℕ) : Type 0 where
+  pub none : r ≡ None → (k : ℕ) → k < n → InStep bytes bytes' (i + k) (j + k)
+  pub small : (m : ℕ) → r ≡ Some m → m < n
+  pub step : (m : ℕ) → r ≡ Some m → (k : ℕ) → k < m → InStep bytes bytes' (i + k) (j + k)
+  pub clash : (m : ℕ) → r ≡ Some m → Clashing bytes bytes' (i + m) (j + m)
 
 -- bodies j and j' go in step up to mark m, which both have
 pub record Agree (S : Sides) (j j' m : ℕ) : Type 0 where
@@ -256,16 +252,6 @@ pub record Walkable (S : Sides) (T : Table) (q a j j' : ℕ) : Type 0 where
   pub left : left_body S.ins T.list q a ≡ j
   pub right : right_body S.ins T.list q a ≡ j'
 
--- what the walk finds: they are one up to classes, or clash at mark m, and nothing has changed
-pub record Walks (S : Sides) (T : Table) (C D P : List ℕ) (j j' : ℕ) (w : Walked) : Type 0 where
-  pub alike : (r : ℕ) → w ≡ walked.Count r → Goes S T (table C D P r) × Alike S (table C D P r) j j'
-  pub clash : (m : ℕ) → w ≡ walked.Clash m → Goes S T (table C D P T.count) × ClashesAt S j j' m
-
--- pair p: its right-hand sides are one up to classes, or those of symbol a clash at mark m
-pub record WalksPair (S : Sides) (T : Table) (C D P : List ℕ) (p : ℕ) (w : Stage) : Type 0 where
-  pub alike : (r : ℕ) → w ≡ stage.Count r → Goes S T (table C D P r) × ((a : ℕ) → a < length S.ins → Alike S (table C D P r) (body_number S.ins (pair_left P p) a) (body_number S.ins (pair_right P p) a))
-  pub clash : (a m : ℕ) → w ≡ stage.Clash a m → (r : ℕ) × Goes S T (table C D P r) × (a < length S.ins) × ClashesAt S (body_number S.ins (pair_left P p) a) (body_number S.ins (pair_right P p) a) m
-
 -- the bodies of parent q for symbol a clash at mark m, and the list leads to them
 pub record Clashes (S : Sides) (n n' : ℕ) (P : List ℕ) (q a m : ℕ) : Type 0 where
   pub count : ℕ
@@ -275,12 +261,22 @@ pub record Clashes (S : Sides) (n n' : ℕ) (P : List ℕ) (q a m : ℕ) : Type 
   pub known : 0 < q → a < length S.ins
   pub clash : ClashesAt S (left_body S.ins P q a) (right_body S.ins P q a) m
 
+-- what the walk finds: they are one up to classes, or bodies clash
+pub record Walks (S : Sides) (T : Table) (C D P : List ℕ) (j j' : ℕ) (w : Result ℕ Clash) : Type 0 where
+  pub alike : (r : ℕ) → w ≡ Ok r → Goes S T (table C D P r) × Alike S (table C D P r) j j'
+  pub clash : (e : Clash) → w ≡ Err e → Clashes S (length T.left) (length T.right) P e.parent e.symbol e.mark
+
+-- pair p: its right-hand sides are one up to classes, or those of one symbol clash
+pub record WalksPair (S : Sides) (T : Table) (C D P : List ℕ) (p : ℕ) (w : Result ℕ Clash) : Type 0 where
+  pub alike : (r : ℕ) → w ≡ Ok r → Goes S T (table C D P r) × ((a : ℕ) → a < length S.ins → Alike S (table C D P r) (body_number S.ins (pair_left P p) a) (body_number S.ins (pair_right P p) a))
+  pub clash : (e : Clash) → w ≡ Err e → Clashes S (length T.left) (length T.right) P e.parent e.symbol e.mark
+
 -- the listed pairs: the right-hand sides of all are one up to classes, or those of one clash
-pub record WalksAll (S : Sides) (T : Table) (C D P : List ℕ) (v : Verdict) : Type 0 where
-  pub alike : v ≡ verdict.Same → (r : ℕ) × Goes S T (table C D P r) × ((p : ℕ) → p < r → (a : ℕ) → a < length S.ins → Alike S (table C D P r) (body_number S.ins (pair_left P p) a) (body_number S.ins (pair_right P p) a))
-  pub clash : (q a m : ℕ) → v ≡ verdict.Clash q a m → Clashes S (length C) (length D) P q a m
+pub record WalksAll (S : Sides) (T : Table) (C D P : List ℕ) (v : Result (Unit {0}) Clash) : Type 0 where
+  pub alike : v ≡ Ok tt → (r : ℕ) × Goes S T (table C D P r) × ((p : ℕ) → p < r → (a : ℕ) → a < length S.ins → Alike S (table C D P r) (body_number S.ins (pair_left P p) a) (body_number S.ins (pair_right P p) a))
+  pub clash : (e : Clash) → v ≡ Err e → Clashes S (length T.left) (length T.right) P e.parent e.symbol e.mark
 
 -- what the search finds: the two are equivalent, or bodies clash
-pub record Searches (S : Sides) (n n' : ℕ) (P : List ℕ) (v : Verdict) : Type 0 where
-  pub same : v ≡ verdict.Same → (outs : List ℕ) (l : Leaf S.ins) → Layout S.ins outs S.starts S.bytes n → Layout S.ins outs S.starts' S.bytes' n' → Wf (alphabet S.ins l) (machine S.ins outs S.starts S.bytes n) (λ q. q < n) → Wf (alphabet S.ins l) (machine S.ins outs S.starts' S.bytes' n') (λ q. q < n') → Equivalent (alphabet S.ins l) (machine S.ins outs S.starts S.bytes n) (machine S.ins outs S.starts' S.bytes' n')
-  pub clash : (q a m : ℕ) → v ≡ verdict.Clash q a m → Clashes S n n' P q a m
+pub record Searches (S : Sides) (n n' : ℕ) (P : List ℕ) (v : Result (Unit {0}) Clash) : Type 0 where
+  pub same : v ≡ Ok tt → (outs : List ℕ) (l : Leaf S.ins) → Layout S.ins outs S.starts S.bytes n → Layout S.ins outs S.starts' S.bytes' n' → Wf (alphabet S.ins l) (machine S.ins outs S.starts S.bytes n) (λ q. q < n) → Wf (alphabet S.ins l) (machine S.ins outs S.starts' S.bytes' n') (λ q. q < n') → Equivalent (alphabet S.ins l) (machine S.ins outs S.starts S.bytes n) (machine S.ins outs S.starts' S.bytes' n')
+  pub clash : (e : Clash) → v ≡ Err e → Clashes S n n' P e.parent e.symbol e.mark

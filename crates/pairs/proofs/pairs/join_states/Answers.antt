@@ -5,12 +5,12 @@ use Rattle.pairs.proofs.Joining.{joins_old, joins_new}
 use Rattle.pairs.proofs.pairs.join_states.Goals as goal
 
 pub returns-then-c-d : goal.returns-then-c-d
-returns-then-c-d c = joins_old c.requires.0 (sym (ap (at c.args.classes1.now) c.wide.ensures) ∙ c.if-c-d.true ∙ ap (at c.args.classes2.now) c.wide-2.ensures)
+returns-then-c-d c = joins_old c.requires.0 (sym (ap (at c.args.classes1.now) c.from.ensures) ∙ c.if-c-d.true ∙ ap (at c.args.classes2.now) c.from-2.ensures)
 
 pub returns : goal.returns
 returns c =
     let C = c.args.classes1.now in
     let D = c.args.classes2.now in
-    let e = ap (at C) c.wide.ensures in
-    let f = ap (at D) c.wide-2.ensures in
+    let e = ap (at C) c.from.ensures in
+    let f = ap (at D) c.from-2.ensures in
     joins_new c.requires.0 c.requires.1 c.requires.2 (λ g. c.if-c-d.false (e ∙ g ∙ sym f)) (rw (e, f) at c.join.ensures) (rw (e, f) at c.join-2.ensures) c.add_pair.ensures

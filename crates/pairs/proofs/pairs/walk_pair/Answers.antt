@@ -24,8 +24,8 @@ offset_bounds-starts1-i-2 c = omega (arith, (walk_there c.requires).0, c.require
 pub bounds-starts1-i-2 : goal.bounds-starts1-i-2
 bounds-starts1-i-2 c = omega (arith, (walk_there c.requires).0, c.requires.searching.forms.left.bounds.long)
 
-pub overflow_sub-number : goal.overflow_sub-number
-overflow_sub-number c = omega (arith, (walk_ordered c.requires).0, c.number.ensures, c.number-from.ensures)
+pub overflow_sub-size : goal.overflow_sub-size
+overflow_sub-size c = omega (arith, (walk_ordered c.requires).0, c.from.ensures, c.from-from.ensures)
 
 pub overflow_add-j : goal.overflow_add-j
 overflow_add-j c = omega (arith, (walk_there c.requires).1, c.requires.searching.forms.right.bounds.long)
@@ -36,26 +36,27 @@ offset_bounds-starts2-j-2 c = omega (arith, (walk_there c.requires).1, c.require
 pub bounds-starts2-j-2 : goal.bounds-starts2-j-2
 bounds-starts2-j-2 c = omega (arith, (walk_there c.requires).1, c.requires.searching.forms.right.bounds.long)
 
-pub overflow_sub-number-2 : goal.overflow_sub-number-2
-overflow_sub-number-2 c = omega (arith, (walk_ordered c.requires).1, c.number-2.ensures, c.number-other.ensures)
+pub overflow_sub-from : goal.overflow_sub-from
+overflow_sub-from c = omega (arith, (walk_ordered c.requires).1, c.from-2.ensures, c.from-other.ensures)
 
-pub first_clash-m-requires : goal.first_clash-m-requires
-first_clash-m-requires c =
+pub first_clash-clash-requires : goal.first_clash-clash-requires
+first_clash-clash-requires c =
     let i = walk_inside c.requires in
     let o = walk_ordered c.requires in
-    (omega (arith, i.0, o.0, c.number-from.ensures, c.number.ensures, c.number-other.ensures, c.number-2.ensures, c.smaller-n.ensures), omega (arith, i.1, o.1, c.number-from.ensures, c.number.ensures, c.number-other.ensures, c.number-2.ensures, c.smaller-n.ensures))
+    let n = size_of c.from-from.ensures c.from-other.ensures c.from.ensures c.from-2.ensures c.min-n.ensures in
+    (omega (arith, i.0, o.0, c.from-from.ensures, c.from-other.ensures, n), omega (arith, i.1, o.1, c.from-from.ensures, c.from-other.ensures, n))
 
-pub returns-then-m-n : goal.returns-then-m-n
-returns-then-m-n c =
+pub returns-in-Some : goal.returns-in-Some
+returns-in-Some c =
     let W = c.requires in
-    walk_clash W (size_of c.number-from.ensures c.number-other.ensures c.number.ensures c.number-2.ensures c.smaller-n.ensures) (rw (c.number-from.ensures, c.number-other.ensures) at c.first_clash-m.ensures) (omega (arith, c.if-m-n.true))
+    walk_clash W (size_of c.from-from.ensures c.from-other.ensures c.from.ensures c.from-2.ensures c.min-n.ensures) (rw (c.from-from.ensures, c.from-other.ensures) at c.first_clash-clash.ensures) _ c.in-Some.is
 
 pub join_marks-r-requires : goal.join_marks-r-requires
 join_marks-r-requires c =
     let W = c.requires in
-    (rw (c.number-from.ensures, c.number-other.ensures) (walk_joinable W (size_of c.number-from.ensures c.number-other.ensures c.number.ensures c.number-2.ensures c.smaller-n.ensures) (rw (c.number-from.ensures, c.number-other.ensures) at c.first_clash-m.ensures) (λ h. omega (arith, h, c.if-m-n.false))), omega (arith, W.parent, W.searching.merging.few), W.symbol)
+    (rw (c.from-from.ensures, c.from-other.ensures) (walk_joinable W (size_of c.from-from.ensures c.from-other.ensures c.from.ensures c.from-2.ensures c.min-n.ensures) (rw (c.from-from.ensures, c.from-other.ensures) at c.first_clash-clash.ensures) c.in-None.is), omega (arith, W.parent, W.searching.merging.few), W.symbol)
 
-pub returns : goal.returns
-returns c =
+pub returns-in-None : goal.returns-in-None
+returns-in-None c =
     let W = c.requires in
-    walk_alike W (size_of c.number-from.ensures c.number-other.ensures c.number.ensures c.number-2.ensures c.smaller-n.ensures) (rw (c.number-from.ensures, c.number-other.ensures) at c.first_clash-m.ensures) (λ h. omega (arith, h, c.if-m-n.false)) (rw (c.number-from.ensures, c.number-other.ensures) at c.join_marks-r.ensures)
+    walk_alike W (size_of c.from-from.ensures c.from-other.ensures c.from.ensures c.from-2.ensures c.min-n.ensures) (rw (c.from-from.ensures, c.from-other.ensures) at c.first_clash-clash.ensures) c.in-None.is (rw (c.from-from.ensures, c.from-other.ensures) at c.join_marks-r.ensures)

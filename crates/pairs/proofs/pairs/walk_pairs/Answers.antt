@@ -1,7 +1,6 @@
 -- `walk_pairs` meets its contract. The invariant is `AllLoop`; there are at most 255 pairs. Assumes nothing.
 use native.Mathlib.Omega.{arith}
-use mathlib.Core.Path.{◌∙◌}
-use Rattle.pairs.proofs.Searching.{all_start, all_next, all_clash, all_end}
+use Rattle.pairs.proofs.Searching.{all_start, all_next, all_end}
 use Rattle.pairs.proofs.pairs.walk_pairs.Goals as goal
 
 pub loop-p-init : goal.loop-p-init
@@ -10,18 +9,6 @@ loop-p-init c = all_start c.requires
 pub walk_symbols-requires : goal.walk_symbols-requires
 walk_symbols-requires c = (c.loop-p.invariant.goes.searching, c.loop-p-test.true)
 
-pub overflow_add-result : goal.overflow_add-result
-overflow_add-result c = omega (arith, c.loop-p-test.true, c.loop-p.invariant.goes.searching.merging.few)
-
-pub shape_of-classes1-in-Clash : goal.shape_of-classes1-in-Clash
-shape_of-classes1-in-Clash c = c.walk_symbols.auto.classes1 ∙ c.loop-p.invariant.goes.later.same_left
-
-pub shape_of-classes2-in-Clash : goal.shape_of-classes2-in-Clash
-shape_of-classes2-in-Clash c = c.walk_symbols.auto.classes2 ∙ c.loop-p.invariant.goes.later.same_right
-
-pub returns-in-Clash : goal.returns-in-Clash
-returns-in-Clash c = all_clash c.loop-p.invariant c.loop-p-test.true c.walk_symbols.ensures _ _ c.in-Clash.is
-
 pub overflow_add-p : goal.overflow_add-p
 overflow_add-p c = omega (arith, c.loop-p-test.true, c.loop-p.invariant.goes.searching.merging.few)
 
@@ -29,7 +16,7 @@ pub loop-p-smaller : goal.loop-p-smaller
 loop-p-smaller c = omega (arith, c.loop-p-test.true, c.loop-p.invariant.goes.searching.merging.few)
 
 pub loop-p-preserved : goal.loop-p-preserved
-loop-p-preserved c = all_next c.loop-p.invariant c.loop-p-test.true c.walk_symbols.ensures _ c.in-Count.is
+loop-p-preserved c = all_next c.loop-p.invariant c.loop-p-test.true c.walk_symbols.ensures _ c.in_ok-n.was
 
 pub shape_of-classes1 : goal.shape_of-classes1
 shape_of-classes1 c = c.loop-p.invariant.goes.later.same_left
