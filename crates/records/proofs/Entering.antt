@@ -1,6 +1,6 @@
 -- The answers of an entry: from the search and the commit to the number of some bytes, and from cleaning to the number of a transducer.
 -- Assumes nothing.
-use Rattle.std.specs.Prelude.{Err, None, Ok, Option, Result, Some}
+use Rattle.std.specs.Prelude.{Err, Ok, Result}
 use Rattle.forms.specs.declared.write.Form.{Form}
 use Rattle.records.specs.declared.book.Foretold.{Foretold}
 use Rattle.trees.specs.Refusal.{outcome_of, Outcome, Checks, done, check, Holds, IsJudged, Judged}
@@ -132,7 +132,7 @@ module _ {s : List ℕ} {h : Head} {rs : List Record} {area : List ℕ} where
 
   module _ (C : Chained h rs area) {stock before after : List ℕ} (same : stock ≡ body rs area 0) (long : longest ≤ length before) (a : Result Form Refusal) (J : Cleans stock s before after a) where
     -- what cleaning asks beyond the room and the alphabets
-    asked : Judged (after ≡ before) (λ v. (counts : List ℕ) × ((bytes : List ℕ) × (NormalFile (body rs area 0) s v.0 counts bytes × FileOf v counts bytes before after))) (sheet_check (body rs area 0) s (form_check (body rs area 0) s done)) (outcome_of a)
+    asked : Judged (after ≡ before) (λ (v : Form). (counts : List ℕ) × ((bytes : List ℕ) × (NormalFile (body rs area 0) s v.states counts bytes × FileOf v counts bytes before after))) (sheet_check (body rs area 0) s (form_check (body rs area 0) s done)) (outcome_of a)
     asked = passed C.lies.stock (passed long (rw same at J))
 
     -- cleaning refuses
@@ -144,12 +144,12 @@ module _ {s : List ℕ} {h : Head} {rs : List Record} {area : List ℕ} where
     })
 
     -- cleaning gives a form
-    pub is_clean : (k m size : ℕ) → a ≡ formed.Form k m size → Asks s h rs area (take size after) (record { verdict = (Ok tt); held = h.held; size = size })
+    pub is_clean : (f : Form) → a ≡ Ok f → Asks s h rs area (take f.bytes after) (record { verdict = (Ok tt); held = h.held; size = f.bytes })
     unfolding Holds
-    is_clean k m size e =
+    is_clean f e =
         let c = cleaned a (rw same at J) (ap outcome_of e) in
         let w = accepted_holds (rw e at asked) in
-        inl (record { verdict = refl; held = refl; chained = C; checks = w.0; file = record { states = k; counts = c.counts; bytes = c.bytes; normal = c.normal; coded = c.begins } })
+        inl (record { verdict = refl; held = refl; chained = C; checks = w.0; file = record { states = f.states; counts = c.counts; bytes = c.bytes; normal = c.normal; coded = c.begins } })
 
 -- what the search and the end of an entry require
 module _ {s : List ℕ} {h : Head} {rs : List Record} {area x : List ℕ} {a : Asked} (A : Asks s h rs area x a) where
@@ -328,11 +328,11 @@ claimed_fit h area x r claiming.Any e F = F
 claimed_fit h area x r (claiming.Number m) e F = only_fit h area x r m e F
 
 -- the file of a normal form fits the area that it is cleaned into
-pub clean_fits : {stock s before after : List ℕ} (a : Result Form Refusal) (k m size : ℕ) → Cleans stock s before after a → a ≡ formed.Form k m size → size ≤ length after
+pub clean_fits : {stock s before after : List ℕ} (a : Result Form Refusal) (f : Form) → Cleans stock s before after a → a ≡ Ok f → f.bytes ≤ length after
 unfolding Holds
-clean_fits {stock} {s} {before} {after} a k m size J e =
+clean_fits {stock} {s} {before} {after} a f J e =
     let w = accepted_holds (rw e at J) in
     let F = w.1.1.1.0 in
     let O = w.1.1.1.1 in
-    let C = encodes_counted (inputs stock) (outputs stock) k w.1.0 w.1.1.0 F.form F.encodes in
-    omega (arith, file_short (inputs stock) k w.1.0 w.1.1.0 F.alphabets.ins.few C, w.0.0, O.size, ap length O.wrote, length-sets before 0 (file k w.1.0 w.1.1.0))
+    let C = encodes_counted (inputs stock) (outputs stock) f.states w.1.0 w.1.1.0 F.form F.encodes in
+    omega (arith, file_short (inputs stock) f.states w.1.0 w.1.1.0 F.alphabets.ins.few C, w.0.0, O.size, ap length O.wrote, length-sets before 0 (file f.states w.1.0 w.1.1.0))

@@ -1,8 +1,8 @@
 -- What the entry points of a registry answer. In each, h, rs and area are the head, the records and the area as lent, and h', rs' and area' as left.
-use Rattle.std.specs.Prelude.{Err, None, Ok, Option, Result, Some, ℕ, ◌+◌, ◌≤◌, ◌<◌, List, [], ◌∷◌, ◌++◌, ◌⊎◌, ◌≡◌, length, set, drop, replicate}
+use Rattle.std.specs.Prelude.{Result, ℕ, ◌+◌, ◌≤◌, ◌<◌, List, [], ◌∷◌, ◌++◌, ◌⊎◌, ◌≡◌, length, set, drop, replicate}
 use Rattle.trees.specs.declared.refusal.Refusal.{Refusal}
 use Rattle.records.specs.declared.book.Foretold.{Foretold}
-use Rattle.trees.specs.Refusal.{outcome_of, refusal_number, Outcome, accepted, refused, Checks, done, check, Judged}
+use Rattle.trees.specs.Refusal.{outcome_of, Checks, done, check, Judged}
 use Rattle.std.proofs.lemmas.List.Edits.{sets}
 use Rattle.trees.specs.Alphabets.{alphabet_check}
 use Rattle.formats.specs.Sheet.{longest, file, sheet_check}
@@ -114,7 +114,7 @@ pub record Foretells (s : List ℕ) (h : Head) (rs : List Record) (area before a
 -- a question is refused by 1, and then as the entry would be; a refusal leaves the editor's area. Head, records and area of the registry are lent for reading alone
 abbrev pub Questions : List ℕ → Head → List Record → List ℕ → List ℕ → List ℕ → Result Foretold Refusal → Type 0
 Questions s h rs area before after r =
-    Judged (after ≡ before) (λ v. Foretells s h rs area before after v.0 v.1)
+    Judged (after ≡ before) (λ (v : Foretold). Foretells s h rs area before after v.number v.size)
     (check 1 (longest ≤ length before) (entry_check s h rs area done))
     (outcome_of r)
 

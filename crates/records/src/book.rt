@@ -32,6 +32,13 @@ pub struct Submission {
     pub claim: Claim,
 }
 
+// What a question answers: the number that an entry would get, and how long its clean file is.
+#[derive(Clone, Copy, Debug, PartialEq, Eq)]
+pub struct Foretold {
+    pub number: usize,
+    pub size: usize,
+}
+
 // What the records passed tell: whether they lie as a registry's, where the next body starts, what they count together (18,446,744,073,709,551,615 for as many and more), the first record and the wanted one.
 #[derive(Clone, Copy)]
 pub struct Survey {

@@ -7,12 +7,11 @@ ghost use Rattle.records.specs.Inner.Steps.{clean, Finds, Ready, Numbers, Decide
 ghost use Rattle.records.specs.Inner.Surveys.{Surveyed, Told};
 ghost use Rattle.records.specs.declared.book.Record.{Record as Records};
 
-use crate::book::{Asked, Claim, Entry, Head, Located, Record, Submission, Survey};
+use crate::book::{Asked, Claim, Entry, Foretold, Head, Located, Record, Submission, Survey};
 use crate::chain::chained;
 use crate::search::body_of;
 use canonical::normal::clean;
 use formats::file::copy_at;
-use forms::write::Form;
 use trees::refusal::Refusal;
 
 // An entry that is refused before the search.
@@ -35,10 +34,10 @@ pub fn ask(h: Head, n: usize, s: Survey, area: &[u8], sheet: &[u8], file: &mut [
         return refuse_early(Refusal::BadRegistry);
     }
     match clean(body_of(s.first, area), sheet, file) {
-        Formed::Form(_, _, size) => Asked {
+        Ok(form) => Asked {
             verdict: Ok(()),
             held: h.held,
-            size: size,
+            size: form.bytes,
         },
         Err(r) => refuse_early(r),
     }
@@ -212,7 +211,10 @@ fn deliver(answer: Result<usize, Refusal>, bytes: &[u8], out: &mut [u8]) -> Resu
     match answer {
         Ok(n) => {
             copy_at(bytes, out, 0);
-            Reply::Number(n, bytes.len())
+            Ok(Foretold {
+                number: n,
+                size: bytes.len(),
+            })
         }
         Err(r) => Err(r),
     }

@@ -1,6 +1,6 @@
 -- The contracts of the registry's entry points determine the answer and all that is left: the head, every record and every byte of the area.
 -- Assumes nothing.
-use Rattle.std.specs.Prelude.{Option, Result}
+use Rattle.std.specs.Prelude.{Result}
 use Rattle.trees.specs.declared.refusal.Refusal.{Refusal}
 use Rattle.records.specs.declared.book.Foretold.{Foretold}
 use Rattle.trees.specs.Refusal.{outcome_of, Checks, done, check, Judged}
@@ -56,14 +56,18 @@ module _ {h : Head} {rs : List Record} {area : List ℕ} {h₁ : Head} {rs₁ : 
       (λ _ _ _ g g'. ((g.head ∙ sym g'.head, g.records ∙ sym g'.records, g.bodies ∙ sym g'.bodies), refl))
       J.verdict J'.verdict
 
+-- what a question answers, of two numbers
+abbrev foretold_as : ℕ → ℕ → Foretold
+foretold_as number size = record { number = number; size = size }
+
 pub questions_one : {s : List ℕ} {h : Head} {rs : List Record} {area before after after' : List ℕ} (r r' : Result Foretold Refusal) → Questions s h rs area before after r → Questions s h rs area before after' r' → (after ≡ after') × (outcome_of r ≡ outcome_of r')
 questions_one {s} {h} {rs} {area} {before} {after} {after'} r r' J J' =
     one_answer {Same = after ≡ after'} (λ u v. u ∙ sym v)
     (check 1 (longest ≤ length before) (entry_check s h rs area done))
     (outcome_of r) (outcome_of r')
-    (λ _ v v' F F'.
+    (λ _ (v v' : Foretold) F F'.
     let z = clean_unique F.file F'.file in
-    (F.wrote ∙ ap (sets before 0) z ∙ sym F'.wrote, ap₂ (λ (n k : ℕ). (n, k)) (gets_unique F.gets (rw (← z) at F'.gets)) (F.long ∙ ap length z ∙ sym F'.long)))
+    (F.wrote ∙ ap (sets before 0) z ∙ sym F'.wrote, ap₂ (λ (n k : ℕ). foretold_as n k) (gets_unique F.gets (rw (← z) at F'.gets)) (F.long ∙ ap length z ∙ sym F'.long)))
     J.verdict J'.verdict
 
 pub hands_one : {h : Head} {rs : List Record} {area part part' : List ℕ} (n : ℕ) → HandsBody h rs area n part → HandsBody h rs area n part' → part ≡ part'

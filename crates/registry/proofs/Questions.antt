@@ -1,6 +1,6 @@
 -- Questions and commits: a list of calls is a list of entries, and a commit after a question is accepted.
 -- Assumes nothing.
-use Rattle.std.specs.Prelude.{Err, None, Ok, Option, Result, Some}
+use Rattle.std.specs.Prelude.{Err, Ok, Result}
 use Rattle.records.specs.declared.book.Foretold.{Foretold}
 use Prim.Native.Nat.{ℕ, ◌≤◌}
 use mathlib.Core.List.Memᴰ
@@ -89,7 +89,7 @@ module _ {s : List ℕ} {h : Head} {rs : List Record} {area : List ℕ} {h' : He
 
   module _ {before : List ℕ} (long : longest ≤ length before) where
     -- a question answers the number of the entry, where the editor's area is long enough,
-    pub entry_answers : {n : ℕ} → Enters s h rs area h' rs' area' (Ok n) → (size : ℕ) × ((after : List ℕ) × Questions s h rs area before after (replying.Number n size))
+    pub entry_answers : {n : ℕ} → Enters s h rs area h' rs' area' (Ok n) → (size : ℕ) × ((after : List ℕ) × Questions s h rs area before after (Ok (record { number = n; size = size })))
     entry_answers J =
         let (w, (x, (c, g))) = accepted_holds J in
         (length x, (sets before 0 x, pass long (all_pass (entry_check s h rs area done) w (accept (record { clean = x; file = c; gets = gives_gets g; long = refl; wrote = refl })))))
@@ -183,9 +183,9 @@ record Answered (b : Book) (s : List ℕ) (n : ℕ) : Type 0 where
 
 asked : {b : Book} {s : List ℕ} (n : ℕ) {before after : List ℕ} (r : Result Foretold Refusal) → Questions s b.head b.records b.area before after r → foretold r ≡ some n → Answered b s n
 unfolding Holds
-asked {b} n (replying.Number m size) J e =
+asked {b} n (Ok v) J e =
     let w = accepted_holds J in
-    let z : m ≡ n = cc in
+    let z : v.number ≡ n = cc in
     record { holds = w.0.1; would = (w.1.clean, (w.1.file, subst (λ k. Gets b.head b.records b.area w.1.clean k) z w.1.gets)) }
 asked n (Err k) J e = conflict (cc)
 

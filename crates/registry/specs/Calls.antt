@@ -1,5 +1,5 @@
 -- Lists of calls: an accepted making, then entries, each lent head, records and area as the call before it left them.
-use Rattle.std.specs.Prelude.{Err, None, Ok, Option, Result, Some, ℕ, suc, ◌+◌, ◌≤◌, ◌<◌, Bool, true, false, ◌⊎◌, ◌↔◌, ◌≡◌, eqb}
+use Rattle.std.specs.Prelude.{Err, Ok, Result, ℕ, suc, ◌+◌, ◌≤◌, ◌<◌, Bool, true, false, ◌⊎◌, ◌↔◌, ◌≡◌, eqb}
 use Rattle.trees.specs.declared.refusal.Refusal.{Refusal}
 use mathlib.Core.List.{List, [], ◌∷◌, Memᴰ}
 use Rattle.std.proofs.Math.Option.{some, Option, none as nothing}

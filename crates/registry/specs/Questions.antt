@@ -1,5 +1,5 @@
 -- 02, F-6: a question, and a commit with the number that it answered. Lists of entries, commits and questions.
-use Rattle.std.specs.Prelude.{Err, None, Ok, Option, Result, Some, ℕ, ◌↔◌, ◌≡◌}
+use Rattle.std.specs.Prelude.{Err, Ok, Result, ℕ, ◌↔◌, ◌≡◌}
 use Rattle.trees.specs.declared.refusal.Refusal.{Refusal}
 use Rattle.records.specs.declared.book.Foretold.{Foretold}
 use mathlib.Core.List.{List, [], ◌∷◌, Memᴰ}
@@ -17,7 +17,7 @@ pub data Call : Type 0 where
 
 -- the number that a question answers; a refusal has none
 abbrev pub foretold : Result Foretold Refusal → Option ℕ
-foretold (replying.Number n size) = some n
+foretold (Ok v) = some v.number
 foretold (Err r) = nothing
 
 -- a commit of the file s with the number `claim`, lent b, answers a and leaves b'

@@ -6,7 +6,7 @@ ghost use Rattle.records.specs.Inner.Surveys.{Surveyed};
 ghost use Rattle.records.specs.Inner.Writes.{fresh_records, written, added};
 
 use trees::refusal::Refusal;
-use records::book::{Head, Located, Record, Submission, Survey};
+use records::book::{Foretold, Head, Located, Record, Submission, Survey};
 use records::chain::{begin, look};
 use records::entry::{ask, beginning, place, reply};
 use records::making::{fresh, held_body, start};

@@ -1,5 +1,5 @@
 -- What the steps of an entry and of making answer.
-use Rattle.std.specs.Prelude.{Err, None, Ok, Option, Result, Some, ℕ, ◌+◌, ◌≤◌, ◌<◌, Bool, true, false, List, ◌⊎◌, ◌≡◌, eqb, length}
+use Rattle.std.specs.Prelude.{Err, Ok, Result, ℕ, ◌+◌, ◌≤◌, ◌<◌, Bool, true, false, List, ◌⊎◌, ◌≡◌, eqb, length}
 use Rattle.records.specs.declared.book.Foretold.{Foretold}
 use Rattle.std.proofs.lemmas.List.Edits.{sets}
 use Rattle.trees.specs.Refusal.{done, Holds}
@@ -152,8 +152,11 @@ pub record Places (s : List ℕ) (u : Submission) (h : Head) (rs : List Record) 
   pub inside : 0 < r.number → r.number < length rs
 
 -- ---- the end of a question
+abbrev pub foretold : ℕ → ℕ → Result Foretold Refusal
+foretold n size = Ok (record { number = n; size = size })
+
 abbrev pub Gave : Result ℕ Refusal → List ℕ → List ℕ → List ℕ → Result Foretold Refusal → Type 0
-Gave (Ok n) x before after r = (r ≡ replying.Number n (length x)) × (after ≡ sets before 0 x)
+Gave (Ok n) x before after r = (r ≡ foretold n (length x)) × (after ≡ sets before 0 x)
 Gave (Err q) x before after r = (r ≡ Err q) × (after ≡ before)
 
 abbrev pub Delivered : Result ℕ Refusal → List ℕ → List ℕ → List ℕ → Result Foretold Refusal → Type 0
