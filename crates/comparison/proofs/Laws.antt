@@ -1,5 +1,5 @@
 -- What a comparison promises: it answers alike exactly if the two files sew alike, and exactly then the part that is handed out is not empty; there is one such part.
-use Rattle.std.specs.Prelude.{Option, Result}
+use Rattle.std.specs.Prelude.{Option, Some, None, Result}
 use Rattle.trees.specs.declared.refusal.Refusal.{Refusal}
 use Rattle.witness.specs.declared.witness.Shown.{Shown}
 use Rattle.trees.specs.Refusal.{outcome_of, accepted, Holds}
@@ -8,7 +8,6 @@ use native.Mathlib.Decide.{dec_lt}
 use native.Mathlib.Omega.{arith}
 use mathlib.Core.List.{List, [], ◌∷◌}
 use mathlib.Core.Logic.{◌↔◌, ◌≢◌, inl, inr, by_cases}
-use mathlib.Core.Option.{Option, some, none as nothing}
 use mathlib.Core.Path.{◌≡◌, refl, ap, sym, ◌∙◌}
 use lib.ListN.{length, get_or, length-append}
 use Rattle.theory.specs.Transducer.{Transducer}
@@ -24,12 +23,12 @@ use Rattle.comparison.specs.Answers.{Found, pair_check, Compares, FewerMarks, Ha
 use Rattle.comparison.proofs.Comparing.{differ_unlike}
 
 -- what is found says which
-found_exact : {stock s s' : List ℕ} (tree tree' address address' : List ℕ) (v : Option (ℕ × ℕ × ℕ × ℕ)) → Found stock s s' tree tree' address address' v → (v ≡ nothing) ↔ SewAlike stock s s'
-found_exact tree tree' address address' nothing F = (λ e. F.0, λ a. refl)
-found_exact tree tree' address address' (some v) F = (λ e. conflict (cc), λ a. absurd (differ_unlike F a))
+found_exact : {stock s s' : List ℕ} (tree tree' address address' : List ℕ) (v : Option Shown) → Found stock s s' tree tree' address address' v → (v ≡ None) ↔ SewAlike stock s s'
+found_exact tree tree' address address' None F = (λ e. F.0, λ a. refl)
+found_exact tree tree' address address' (Some v) F = (λ e. conflict (cc), λ a. absurd (differ_unlike F a))
 
 -- Of two files accepted for comparison under one stock: the answer is alike exactly if the two sew alike.
-pub compare_exact : {stock s s' tree tree' address address' : List ℕ} (r : Result (Option Shown) Refusal) {v : Option (ℕ × ℕ × ℕ × ℕ)} → Compares stock s s' tree tree' address address' r → outcome_of r ≡ accepted v → (v ≡ nothing) ↔ SewAlike stock s s'
+pub compare_exact : {stock s s' tree tree' address address' : List ℕ} (r : Result (Option Shown) Refusal) {v : Option Shown} → Compares stock s s' tree tree' address address' r → outcome_of r ≡ accepted v → (v ≡ None) ↔ SewAlike stock s s'
 compare_exact {stock} {s} {s'} {tree} {tree'} {address} {address'} r {v} J e = found_exact tree tree' address address' v (accepted_holds (rw e at J)).1
 
 -- bodies of which the first has a mark have bytes

@@ -1,8 +1,8 @@
 -- What a comparison answers.
-use Rattle.std.specs.Prelude.{Err, None, Ok, Option, Result, Some, ℕ, ◌≤◌, ◌<◌, List, [], ◌⊎◌, ◌≡◌, length}
+use Rattle.std.specs.Prelude.{None, Option, Result, Some, ℕ, ◌≤◌, ◌<◌, List, [], ◌⊎◌, ◌≡◌, length}
 use Rattle.trees.specs.declared.refusal.Refusal.{Refusal}
 use Rattle.witness.specs.declared.witness.Shown.{Shown}
-use Rattle.trees.specs.Refusal.{outcome_of, refusal_number, Outcome, accepted, refused, Checks, done, check, Judged, Handed}
+use Rattle.trees.specs.Refusal.{outcome_of, Checks, done, check, Judged, Handed}
 use Rattle.theory.specs.Term.{Tree}
 use Rattle.theory.specs.Transducer.{Transducer}
 use Rattle.trees.specs.Alphabets.{inputs, outputs, alphabet_check}

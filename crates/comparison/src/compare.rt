@@ -44,7 +44,20 @@ fn compare_forms(
         Ok(()) => Ok(None),
         Err(clash) => {
             let shown = show(
-                ins, outs, starts1, marks1, n1, starts2, marks2, n2, &pairs, clash, tree, address,
+                ins,
+                outs,
+                starts1,
+                marks1,
+                n1,
+                starts2,
+                marks2,
+                n2,
+                &pairs,
+                clash.parent,
+                clash.symbol,
+                clash.mark,
+                tree,
+                address,
             );
             Ok(Some(shown))
         }
@@ -68,8 +81,9 @@ fn compare_with(
 {
     let mut starts2 = [0u16; 2050];
     let mut form2 = [0u8; 16384];
-    let k2 = form_of_parts(stock, n2, counts2, marks2, &mut starts2, &mut form2)
-        .ok_or(Refusal::OverLimits)?;
+    let k2 = form_of_parts(stock, n2, counts2, marks2, &mut starts2, &mut form2).ok_or(
+        Refusal::OverLimits,
+    )?;
     compare_forms(
         input_ranks(stock),
         output_ranks(stock),
@@ -101,8 +115,9 @@ fn compare_parts(
 {
     let mut starts = [0u16; 2050];
     let mut form = [0u8; 16384];
-    let k1 = form_of_parts(stock, n1, counts1, marks1, &mut starts, &mut form)
-        .ok_or(Refusal::OverLimits)?;
+    let k1 = form_of_parts(stock, n1, counts1, marks1, &mut starts, &mut form).ok_or(
+        Refusal::OverLimits,
+    )?;
     compare_with(
         stock, &starts, &form, k1, n2, counts2, marks2, tree, address,
     )

@@ -32,8 +32,8 @@ slice_bounds-compare_parts-count c = omega (arith, c.counts_end-from1.ensures, a
 pub slice_bounds-compare_parts-start : goal.slice_bounds-compare_parts-start
 slice_bounds-compare_parts-start c = omega (arith, c.counts_end-from1.ensures, accepted_long c.args.stock.now c.args.first.now c.in_ok-n1.n1 c.read_transducer.ensures c.in_ok-n1.was)
 
-pub slice_bounds-compare_parts-end-2 : goal.slice_bounds-compare_parts-end-2
-slice_bounds-compare_parts-end-2 c = omega (arith, c.counts_end-from2.ensures, accepted_long c.args.stock.now c.args.second.now c.in_ok-n2.n2 c.read_transducer-2.ensures c.in_ok-n2.was)
+pub slice_bounds-compare_parts-end-3 : goal.slice_bounds-compare_parts-end-3
+slice_bounds-compare_parts-end-3 c = omega (arith, c.counts_end-from2.ensures, accepted_long c.args.stock.now c.args.second.now c.in_ok-n2.n2 c.read_transducer-2.ensures c.in_ok-n2.was)
 
 pub slice_bounds-compare_parts-count-3 : goal.slice_bounds-compare_parts-count-3
 slice_bounds-compare_parts-count-3 c = omega (arith, c.counts_end-from2.ensures, accepted_long c.args.stock.now c.args.second.now c.in_ok-n2.n2 c.read_transducer-2.ensures c.in_ok-n2.was)
@@ -49,7 +49,7 @@ returns c = files_compared (opened_at c.args.stock.now c.args.first.now c.in_ok-
 
 pub returns-in_err-n2 : goal.returns-in_err-n2
 returns-in_err-n2 c =
-    let p = err_from_is_err_and c.from_residual.result c.from_residual.ensures.1 in
+    let p = err_from_is_err_and c.from_residual-in_err-n2.result c.from_residual-in_err-n2.ensures.1 in
     rw (p.1, p.2) (pass (omega (arith, c.if-tree-lt1536.false), omega (arith, c.if-address-lt16128.false)) (second_refused (opened_at c.args.stock.now c.args.first.now c.in_ok-n1.n1 c.read_transducer.ensures c.in_ok-n1.was _ refl refl) c.args.second.now (form_check c.args.stock.now c.args.first.now (form_check c.args.stock.now c.args.second.now done)) (refl, refl) c.read_transducer-2.ensures c.in_err-n2.was))
 
 pub returns-in_err-n1 : goal.returns-in_err-n1

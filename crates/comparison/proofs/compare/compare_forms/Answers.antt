@@ -14,11 +14,11 @@ slice_bounds-classes2-end c = omega (arith, c.requires.0.right.few_states, lengt
 pub search-requires : goal.search-requires
 search-requires c = (forms_searchable c.requires.0, omega (arith, length-replicate {A = ℕ} 1536 0))
 
-pub show-s-requires : goal.show-s-requires
-show-s-requires c = (c.requires.0, (forms_searched c.requires.0 c.search.ensures).clash _ _ _ c.in-Err.is, c.requires.1, c.requires.2)
+pub show-shown-requires : goal.show-shown-requires
+show-shown-requires c = (c.requires.0, (forms_searched c.requires.0 c.search.ensures).clash _ c.in-Err.is, c.requires.1, c.requires.2)
 
 pub returns-in-Ok : goal.returns-in-Ok
 returns-in-Ok c = forms_same c.requires.0 (forms_searched c.requires.0 c.search.ensures) c.in-Ok.is
 
 pub returns-in-Err : goal.returns-in-Err
-returns-in-Err c = forms_differ c.requires.0 c.show-s.ensures
+returns-in-Err c = forms_differ c.requires.0 c.show-shown.ensures
