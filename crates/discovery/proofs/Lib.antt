@@ -4,6 +4,7 @@ pub mod Ranks
 pub mod Queues
 pub mod Adding
 pub mod Stages
+pub mod Spelling
 pub mod TooLarge
 pub mod Finished
 pub mod Loops

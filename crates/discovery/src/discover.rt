@@ -2,15 +2,14 @@
 // are numbers and whose right-hand sides can be spelt.
 ghost use Rattle.std.specs.Prelude.{ℕ, ◌+◌, ◌≤◌, ◌<◌, List, ◌≡◌, length};
 ghost use Rattle.theory.specs.Transducer.{Transducer};
-ghost use Rattle.trees.specs.Alphabets.{Leaf};
-ghost use Rattle.discovery.specs.Inner.Discovering.{ByNumbers, Spells, Empty, Found, Adds, AddsAll, Discovers};
+ghost use Rattle.discovery.specs.Inner.Discovering.{Numbered, Spells, Empty, Found, Adds, AddsAll, Discovers};
 
 use crate::queue::add_body;
 use trees::bytes::Span;
 
 // A transducer whose states are numbers below W, and whose right-hand sides are spelt into an area of L letters.
 pub trait Spelled<const W: usize, const L: usize> {
-    // Which transducer it is, its alphabets, which numbers are states, and what has to hold of the tables that it is read from.
+    // Which transducer it is, its alphabets, which numbers are its states, and what has to hold of what it is read from.
     ghost transducer: { Self → Transducer ℕ };
 
     ghost ins: { Self → List ℕ };
@@ -35,10 +34,6 @@ pub trait Spelled<const W: usize, const L: usize> {
     fn spell_rhs(&self, c: usize, a: usize, letters: &mut [u32]) -> Option<Span>
         requires { ready self.now × (L ≤ length letters.old) × valid self.now c × (a < length (ins self.now)) }
         ensures { Spells ((transducer self.now).rhs c a) letters.new result };
-
-    ghost numbers: { (s : Self) → ready s → ByNumbers (ins s) (outs s) W (transducer s) (valid s) };
-
-    ghost leaf: { (s : Self) → ready s → Leaf (ins s) };
 }
 
 // Adds the initial term.
@@ -50,7 +45,7 @@ fn add_initial<S: Spelled<W, L>, const W: usize, const L: usize>(
     list: &mut [u16],
     place: &mut [u8],
 ) -> Option<usize>
-    requires { S.ready source.now × (L ≤ length letters.old) × Empty W starts.old out.old list.old place.old }
+    requires { S.ready source.now × Numbered (S.ins source.now) (S.outs source.now) W (S.transducer source.now) (S.valid source.now) × (L ≤ length letters.old) × Empty W starts.old out.old list.old place.old }
     ensures { Adds (S.ins source.now) (S.outs source.now) (S.transducer source.now) W 0 starts.new out.new list.new place.new result }
 {
     let span = source.spell_initial(letters)?;
@@ -68,7 +63,7 @@ fn add_state<S: Spelled<W, L>, const W: usize, const L: usize>(
     place: &mut [u8],
     met: usize,
 ) -> Option<usize>
-    requires { S.ready source.now × (L ≤ length letters.old) × Found (S.ins source.now) (S.transducer source.now) W p starts.old out.old list.old place.old met × (p < met) }
+    requires { S.ready source.now × Numbered (S.ins source.now) (S.outs source.now) W (S.transducer source.now) (S.valid source.now) × (L ≤ length letters.old) × Found (S.ins source.now) (S.transducer source.now) W p starts.old out.old list.old place.old met × (p < met) }
     ensures { Adds (S.ins source.now) (S.outs source.now) (S.transducer source.now) W (p + 1) starts.new out.new list.new place.new result }
 {
     let symbols = source.symbols();
@@ -92,7 +87,7 @@ fn add_states<S: Spelled<W, L>, const W: usize, const L: usize>(
     place: &mut [u8],
     met: usize,
 ) -> Option<usize>
-    requires { S.ready source.now × (L ≤ length letters.old) × Found (S.ins source.now) (S.transducer source.now) W 0 starts.old out.old list.old place.old met }
+    requires { S.ready source.now × Numbered (S.ins source.now) (S.outs source.now) W (S.transducer source.now) (S.valid source.now) × (L ≤ length letters.old) × Found (S.ins source.now) (S.transducer source.now) W 0 starts.old out.old list.old place.old met }
     ensures { AddsAll (S.ins source.now) (S.outs source.now) (S.transducer source.now) W starts.new out.new list.new place.new result }
 {
     let mut n = met;
@@ -110,7 +105,7 @@ pub fn discover<S: Spelled<W, L>, const W: usize, const L: usize>(
     starts: &mut [u16],
     out: &mut [u8],
 ) -> Option<usize>
-    requires { S.ready source.now × (L ≤ 4096) × (2050 ≤ length starts.old) × (length out.old ≡ 16384) }
+    requires { S.ready source.now × Numbered (S.ins source.now) (S.outs source.now) W (S.transducer source.now) (S.valid source.now) × (L ≤ 4096) × (2050 ≤ length starts.old) × (length out.old ≡ 16384) }
     ensures { Discovers (S.ins source.now) (S.outs source.now) (S.transducer source.now) starts.new out.new result }
 {
     let mut letters = [0u32; L];

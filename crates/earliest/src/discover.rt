@@ -1,195 +1,66 @@
-// The earliest form of a transducer: the states that are met, in the order of first meeting, and their right-hand sides.
+// The earliest form of a transducer, from the common prefixes of its states: the right-hand sides of its states, spelt for the discovery.
 ghost use Rattle.std.specs.Prelude.{◌+◌, ◌≤◌, ◌<◌, ◌≡◌, length};
 ghost use Rattle.earliest.specs.Inner.Letters.{earliest, Expanding, State};
 ghost use Rattle.trees.specs.Alphabets.{Leaf};
-ghost use Rattle.discovery.specs.Inner.Discovering.{FindsRhs, Empty, Found, Adds, AddsAll, Discovers};
-ghost use Rattle.earliest.specs.Inner.Discovering.{Discoverable, Formable, FormOfTable};
+ghost use Rattle.discovery.specs.Inner.Discovering.{Discovers};
+ghost use Rattle.earliest.specs.Inner.Discovering.{Formable, FormOfTable};
 
 use crate::expand::{expand, letter_end, locate};
-use discovery::queue::add_body;
+use discovery::discover::{Spelled, discover};
 use prefixes::pattern::SLOT;
 use prefixes::prefix::prefixes;
-use trees::bytes::{Span, number, wide};
+use trees::bytes::Span;
 
-// Writes the expanded right-hand side of state c / SLOT for symbol a, and says where in it that of state c of the earliest form stands.
-fn find_rhs(
-    ins: &[u8],
-    outs: &[u8],
-    starts: &[u16],
-    marks: &[u8],
-    heads: &[u8],
-    sizes: &[u8],
-    c: usize,
-    a: usize,
-    letters: &mut [u32],
-) -> Span
-    requires { Expanding ins.now outs.now starts.now marks.now heads.now sizes.now × State heads.now sizes.now c × (a < length ins.now) × (4096 ≤ length letters.old) }
-    ensures { FindsRhs (earliest ins.now outs.now starts.now marks.now heads.now sizes.now) c a letters.new result.from result.to }
-{
-    let q = c / SLOT;
-    let b = 1 + q * ins.len() + a;
-    let from = number(starts[b]);
-    let to = number(starts[b + 1]);
-    let len = expand(heads, sizes, marks, from, to, letters);
-    let start = SLOT * q;
-    let end = start + wide(sizes[q]);
-    let at = locate(outs, &heads[start..end], &letters[0..len], c % SLOT);
-    let stop = letter_end(outs, &letters[0..len], at);
-    Span { from: at, to: stop }
+// A transducer in a table, with the common prefix of each of its states.
+#[derive(Clone, Copy)]
+struct Expansion<'a> {
+    ins: &'a [u8],
+    outs: &'a [u8],
+    starts: &'a [u16],
+    marks: &'a [u8],
+    heads: &'a [u8],
+    sizes: &'a [u8],
 }
 
-// Adds the initial term.
-fn add_initial(
-    ins: &[u8],
-    outs: &[u8],
-    starts: &[u16],
-    marks: &[u8],
-    heads: &[u8],
-    sizes: &[u8],
-    letters: &mut [u32],
-    starts2: &mut [u16],
-    out: &mut [u8],
-    list: &mut [u16],
-    place: &mut [u8],
-) -> Option<usize>
-    requires { Discoverable ins.now outs.now starts.now marks.now heads.now sizes.now letters.old × Empty 8192 starts2.old out.old list.old place.old }
-    ensures { Adds ins.now outs.now (earliest ins.now outs.now starts.now marks.now heads.now sizes.now) 8192 0 starts2.new out.new list.new place.new result }
-{
-    let from = number(starts[0]);
-    let to = number(starts[1]);
-    let len = expand(heads, sizes, marks, from, to, letters);
-    add_body(&letters[0..len], 0, starts2, out, list, place, 0)
-}
+impl Spelled<8192, 4096> for Expansion<'_> {
+    ghost transducer = { λ s. earliest s.ins.now s.outs.now s.starts.now s.marks.now s.heads.now s.sizes.now };
 
-// Adds the right-hand sides of the state number p.
-fn add_state(
-    ins: &[u8],
-    outs: &[u8],
-    starts: &[u16],
-    marks: &[u8],
-    heads: &[u8],
-    sizes: &[u8],
-    letters: &mut [u32],
-    p: usize,
-    starts2: &mut [u16],
-    out: &mut [u8],
-    list: &mut [u16],
-    place: &mut [u8],
-    met: usize,
-) -> Option<usize>
-    requires { Discoverable ins.now outs.now starts.now marks.now heads.now sizes.now letters.old × Found ins.now (earliest ins.now outs.now starts.now marks.now heads.now sizes.now) 8192 p starts2.old out.old list.old place.old met × (p < met) }
-    ensures { Adds ins.now outs.now (earliest ins.now outs.now starts.now marks.now heads.now sizes.now) 8192 (p + 1) starts2.new out.new list.new place.new result }
-{
-    let c = number(list[p]);
-    let mut n = met;
-    let mut a = 0;
-    while a < ins.len() {
-        let span = find_rhs(ins, outs, starts, marks, heads, sizes, c, a, letters);
-        let from = span.from;
-        let to = span.to;
-        match add_body(
-            &letters[from..to],
-            1 + p * ins.len() + a,
-            starts2,
-            out,
-            list,
-            place,
-            n,
-        ) {
-            Some(m) => {
-                n = m;
-            }
-            None => {
-                return None;
-            }
-        }
-        a += 1;
+    ghost ins = { λ s. s.ins.now };
+
+    ghost outs = { λ s. s.outs.now };
+
+    ghost valid = { λ s. State s.heads.now s.sizes.now };
+
+    ghost ready = { λ s. Expanding s.ins.now s.outs.now s.starts.now s.marks.now s.heads.now s.sizes.now };
+
+    fn symbols(&self) -> usize {
+        self.ins.len()
     }
-    Some(n)
-}
 
-// Adds the right-hand sides of every state that is met.
-fn add_states(
-    ins: &[u8],
-    outs: &[u8],
-    starts: &[u16],
-    marks: &[u8],
-    heads: &[u8],
-    sizes: &[u8],
-    letters: &mut [u32],
-    starts2: &mut [u16],
-    out: &mut [u8],
-    list: &mut [u16],
-    place: &mut [u8],
-    met: usize,
-) -> Option<usize>
-    requires { Discoverable ins.now outs.now starts.now marks.now heads.now sizes.now letters.old × Found ins.now (earliest ins.now outs.now starts.now marks.now heads.now sizes.now) 8192 0 starts2.old out.old list.old place.old met }
-    ensures { AddsAll ins.now outs.now (earliest ins.now outs.now starts.now marks.now heads.now sizes.now) 8192 starts2.new out.new list.new place.new result }
-{
-    let mut n = met;
-    let mut p = 0;
-    while p < n {
-        match add_state(
-            ins, outs, starts, marks, heads, sizes, letters, p, starts2, out, list, place, n,
-        ) {
-            Some(m) => {
-                n = m;
-            }
-            None => {
-                return None;
-            }
-        }
-        p += 1;
+    fn spell_initial(&self, letters: &mut [u32]) -> Option<Span> {
+        let from = usize::from(self.starts[0]);
+        let to = usize::from(self.starts[1]);
+        let len = expand(self.heads, self.sizes, self.marks, from, to, letters);
+        Some(Span { from: 0, to: len })
     }
-    Some(n)
-}
 
-// Makes the earliest form by the common prefixes of the states: `starts2` says where its bodies start in `out`.
-fn discover(
-    ins: &[u8],
-    outs: &[u8],
-    starts: &[u16],
-    marks: &[u8],
-    heads: &[u8],
-    sizes: &[u8],
-    starts2: &mut [u16],
-    out: &mut [u8],
-) -> Option<usize>
-    requires { Expanding ins.now outs.now starts.now marks.now heads.now sizes.now × Leaf ins.now × (2050 ≤ length starts2.old) × (length out.old ≡ 16384) }
-    ensures { Discovers ins.now outs.now (earliest ins.now outs.now starts.now marks.now heads.now sizes.now) starts2.new out.new result }
-{
-    let mut letters = [0u32; 4096];
-    let mut list = [0u16; 192];
-    let mut place = [0u8; 8192];
-    starts2[0] = 0;
-    match add_initial(
-        ins,
-        outs,
-        starts,
-        marks,
-        heads,
-        sizes,
-        &mut letters,
-        starts2,
-        out,
-        &mut list,
-        &mut place,
-    ) {
-        Some(met) => add_states(
-            ins,
-            outs,
-            starts,
-            marks,
-            heads,
-            sizes,
-            &mut letters,
-            starts2,
-            out,
-            &mut list,
-            &mut place,
-            met,
-        ),
-        None => None,
+    // That of state c stands in the expanded right-hand side of state c / SLOT, where the prefix has its ⊤ number c % SLOT.
+    fn spell_rhs(&self, c: usize, a: usize, letters: &mut [u32]) -> Option<Span> {
+        let q = c / SLOT;
+        let b = 1 + q * self.ins.len() + a;
+        let from = usize::from(self.starts[b]);
+        let to = usize::from(self.starts[b + 1]);
+        let len = expand(self.heads, self.sizes, self.marks, from, to, letters);
+        let start = SLOT * q;
+        let end = start + usize::from(self.sizes[q]);
+        let at = locate(
+            self.outs,
+            &self.heads[start..end],
+            &letters[0..len],
+            c % SLOT,
+        );
+        let stop = letter_end(self.outs, &letters[0..len], at);
+        Some(Span { from: at, to: stop })
     }
 }
 
@@ -218,5 +89,13 @@ pub(crate) fn form_of_table(
         &mut sizes[0..n],
         &mut other,
     );
-    discover(ins, outs, starts, marks, &heads, &sizes[0..n], starts2, out)
+    let expansion = Expansion {
+        ins,
+        outs,
+        starts,
+        marks,
+        heads: &heads,
+        sizes: &sizes[0..n],
+    };
+    discover(&expansion, starts2, out)
 }

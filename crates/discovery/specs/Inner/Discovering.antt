@@ -33,6 +33,11 @@ pub record ByNumbers (ins outs : List ℕ) (w : ℕ) (E : Transducer ℕ) (Valid
   pub initial : Ranked (ValidCall Valid 1) outs E.initial
   pub rhs : (c a : ℕ) → Valid c → a < length ins → Ranked (ValidCall Valid (get_or ins a 0)) outs (E.rhs c a)
 
+-- such a transducer over an input alphabet that has a leaf
+pub record Numbered (ins outs : List ℕ) (w : ℕ) (E : Transducer ℕ) (Valid : ℕ → Type 0) : Type 0 where
+  pub numbers : ByNumbers ins outs w E Valid
+  pub leaf : Leaf ins
+
 -- the letters `from` up to `to` are the right-hand side of state c for symbol a
 pub record FindsRhs (E : Transducer ℕ) (c a : ℕ) (letters : List ℕ) (from to : ℕ) : Type 0 where
   pub ordered : from ≤ to

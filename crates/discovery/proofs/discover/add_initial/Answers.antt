@@ -9,16 +9,16 @@ use Rattle.discovery.proofs.discover.add_initial.Goals as goal
 
 pub returns-in_err-span : goal.returns-in_err-span
 returns-in_err-span g c =
-    let X = g.met.S.Spelled.numbers c.args.source.now c.requires.0 in
-    rw c.from_residual.ensures (adds_none (initial_over X c.requires.2 refl (inl (c.spell_initial.ensures.over c.in_err-span.was))))
+    let X = c.requires.1.numbers in
+    rw c.from_residual.ensures (adds_none (initial_over X c.requires.3 refl (inl (c.spell_initial.ensures.over c.in_err-span.was))))
 
 pub add_body-requires : goal.add_body-requires
 add_body-requires g c =
-    let X = g.met.S.Spelled.numbers c.args.source.now c.requires.0 in
-    let M = c.requires.2 in
+    let X = c.requires.1.numbers in
+    let M = c.requires.3 in
     (M.queue, omega arith, rw (c.spell_initial.ensures.spelled _ c.in_ok-span.was, M.wide) (initial_sayable X), omega (arith, M.long), omega (arith, M.start), M.room)
 
 pub returns : goal.returns
 returns g c =
-    let X = g.met.S.Spelled.numbers c.args.source.now c.requires.0 in
-    adds_initial X (g.met.S.Spelled.leaf c.args.source.now c.requires.0) c.requires.2 c.add_body.ensures (c.spell_initial.ensures.spelled _ c.in_ok-span.was)
+    let X = c.requires.1.numbers in
+    adds_initial X (c.requires.1.leaf) c.requires.3 c.add_body.ensures (c.spell_initial.ensures.spelled _ c.in_ok-span.was)

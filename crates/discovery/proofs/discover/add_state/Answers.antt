@@ -11,26 +11,26 @@ use Rattle.discovery.proofs.discover.add_state.Goals as goal
 
 pub loop-a-init : goal.loop-a-init
 loop-a-init g c =
-    let X = g.met.S.Spelled.numbers c.args.source.now c.requires.0 in
-    let l = g.met.S.Spelled.leaf c.args.source.now c.requires.0 in
-    record { letters = refl; starts = refl; list = refl; stage = stage_none X l c.requires.2 c.requires.3 c.from-c.ensures }
+    let X = c.requires.1.numbers in
+    let l = c.requires.1.leaf in
+    record { letters = refl; starts = refl; list = refl; stage = stage_none X l c.requires.3 c.requires.4 c.from-c.ensures }
 
 pub spell_rhs-requires : goal.spell_rhs-requires
 spell_rhs-requires g c =
-    let X = g.met.S.Spelled.numbers c.args.source.now c.requires.0 in
-    let l = g.met.S.Spelled.leaf c.args.source.now c.requires.0 in
+    let X = c.requires.1.numbers in
+    let l = c.requires.1.leaf in
     let e = c.symbols-symbols.ensures in
     let T = c.loop-a.invariant.stage in
     let there : c.loop-a.a < length (g.S.Spelled.ins c.args.source.now) = omega (arith, e, c.loop-a-test.true) in
-    (c.requires.0, omega (arith, c.requires.1, c.loop-a.invariant.letters), stage_state X l T, there)
+    (c.requires.0, omega (arith, c.requires.2, c.loop-a.invariant.letters), stage_state X l T, there)
 
 pub shape_of-letters-in_err-span : goal.shape_of-letters-in_err-span
 shape_of-letters-in_err-span g c = c.spell_rhs.auto.letters ∙ c.loop-a.invariant.letters
 
 pub returns-in_err-span : goal.returns-in_err-span
 returns-in_err-span g c =
-    let X = g.met.S.Spelled.numbers c.args.source.now c.requires.0 in
-    let l = g.met.S.Spelled.leaf c.args.source.now c.requires.0 in
+    let X = c.requires.1.numbers in
+    let l = c.requires.1.leaf in
     let e = c.symbols-symbols.ensures in
     let T = c.loop-a.invariant.stage in
     let there : c.loop-a.a < length (g.S.Spelled.ins c.args.source.now) = omega (arith, e, c.loop-a-test.true) in
@@ -41,8 +41,8 @@ offset_bounds-letters-span g c = omega (arith, c.spell_rhs.ensures.ordered _ c.i
 
 pub add_body-requires : goal.add_body-requires
 add_body-requires g c =
-    let X = g.met.S.Spelled.numbers c.args.source.now c.requires.0 in
-    let l = g.met.S.Spelled.leaf c.args.source.now c.requires.0 in
+    let X = c.requires.1.numbers in
+    let l = c.requires.1.leaf in
     let e = c.symbols-symbols.ensures in
     let T = c.loop-a.invariant.stage in
     let there : c.loop-a.a < length (g.S.Spelled.ins c.args.source.now) = omega (arith, e, c.loop-a-test.true) in
@@ -54,8 +54,8 @@ shape_of-letters-in_err-n g c = c.spell_rhs.auto.letters ∙ c.loop-a.invariant.
 
 pub returns-in_err-n : goal.returns-in_err-n
 returns-in_err-n g c =
-    let X = g.met.S.Spelled.numbers c.args.source.now c.requires.0 in
-    let l = g.met.S.Spelled.leaf c.args.source.now c.requires.0 in
+    let X = c.requires.1.numbers in
+    let l = c.requires.1.leaf in
     let e = c.symbols-symbols.ensures in
     let T = c.loop-a.invariant.stage in
     let there : c.loop-a.a < length (g.S.Spelled.ins c.args.source.now) = omega (arith, e, c.loop-a-test.true) in
@@ -63,8 +63,8 @@ returns-in_err-n g c =
 
 pub loop-a-preserved : goal.loop-a-preserved
 loop-a-preserved g c =
-    let X = g.met.S.Spelled.numbers c.args.source.now c.requires.0 in
-    let l = g.met.S.Spelled.leaf c.args.source.now c.requires.0 in
+    let X = c.requires.1.numbers in
+    let l = c.requires.1.leaf in
     let e = c.symbols-symbols.ensures in
     let T = c.loop-a.invariant.stage in
     let there : c.loop-a.a < length (g.S.Spelled.ins c.args.source.now) = omega (arith, e, c.loop-a-test.true) in
@@ -82,7 +82,7 @@ shape_of-letters g c = c.loop-a.invariant.letters
 
 pub returns : goal.returns
 returns g c =
-    let X = g.met.S.Spelled.numbers c.args.source.now c.requires.0 in
-    let l = g.met.S.Spelled.leaf c.args.source.now c.requires.0 in
+    let X = c.requires.1.numbers in
+    let l = c.requires.1.leaf in
     let e = c.symbols-symbols.ensures in
     adds_some (stage_all X l c.loop-a.invariant.stage (omega (arith, e, c.loop-a.auto.a-end, c.loop-a-test.false)))

@@ -6,10 +6,10 @@ use Rattle.discovery.proofs.Loops.{none_all, adds_all}
 use Rattle.discovery.proofs.discover.add_states.Goals as goal
 
 pub loop-p-init : goal.loop-p-init
-loop-p-init g c = record { letters = refl; starts = refl; list = refl; found = c.requires.2 }
+loop-p-init g c = record { letters = refl; starts = refl; list = refl; found = c.requires.3 }
 
 pub add_state-requires : goal.add_state-requires
-add_state-requires g c = let I = c.loop-p.invariant in (c.requires.0, omega (arith, c.requires.1, I.letters), I.found, c.loop-p-test.true)
+add_state-requires g c = let I = c.loop-p.invariant in (c.requires.0, c.requires.1, omega (arith, c.requires.2, I.letters), I.found, c.loop-p-test.true)
 
 pub shape_of-letters-in_err-n : goal.shape_of-letters-in_err-n
 shape_of-letters-in_err-n g c = c.add_state.auto.letters ∙ c.loop-p.invariant.letters
@@ -33,4 +33,4 @@ pub shape_of-letters : goal.shape_of-letters
 shape_of-letters g c = c.loop-p.invariant.letters
 
 pub returns : goal.returns
-returns g c = adds_all (found_all (g.met.S.Spelled.leaf c.args.source.now c.requires.0) c.loop-p.invariant.found (omega (arith, c.loop-p-test.false)))
+returns g c = adds_all (found_all (c.requires.1.leaf) c.loop-p.invariant.found (omega (arith, c.loop-p-test.false)))
