@@ -8,24 +8,20 @@ ghost use Rattle.formats.specs.Inner.Judging.{Put};
 ghost use Rattle.prefixes.specs.Inner.Patterns.{Ended};
 ghost use Rattle.earliest.specs.Inner.Letters.{letter_of, labeled, expanded, Expandable, Locatable, LocatedAt};
 
-use discovery::queue::{CALL, letter};
+use discovery::queue::CALL;
 use prefixes::pattern::SLOT;
-use trees::bytes::wide;
 
 // Writes a pattern as letters: the ⊤ at byte m becomes the call `base + m`.
 fn label_head(head: &[u8], base: usize, out: &mut [u32], at: usize)
     requires { (length head.now ≤ 64) × (base + 64 ≤ 4294967296) × (at + length head.now ≤ length out.old) }
     ensures { out.new ≡ sets out.old at (labeled base head.now) }
 {
-    let mut m = 0;
-    while m < head.len() {
-        let x = wide(head[m]);
-        if x == 255 {
+    for (m, x) in head.iter().enumerate() {
+        if *x == 255 {
             out[at + m] = (base + m) as u32;
         } else {
-            out[at + m] = x as u32;
+            out[at + m] = u32::from(*x);
         }
-        m += 1;
     }
 }
 
@@ -42,20 +38,18 @@ pub(crate) fn expand(
     ensures { Put (expanded heads.now sizes.now marks.now from to) out.old out.new result }
 {
     let mut w = 0;
-    let mut j = from;
-    while j < to {
-        let i = wide(marks[2 * j]);
-        let x = wide(marks[2 * j + 1]);
+    for j in from..to {
+        let i = usize::from(marks[2 * j]);
+        let x = usize::from(marks[2 * j + 1]);
         if i == 0 {
             out[w] = x as u32;
             w += 1;
         } else {
             let start = SLOT * x;
-            let end = start + wide(sizes[x]);
+            let end = start + usize::from(sizes[x]);
             label_head(&heads[start..end], CALL * i + start, out, w);
             w += end - start;
         }
-        j += 1;
     }
     w
 }
@@ -65,12 +59,13 @@ pub(crate) fn letter_end(outs: &[u8], s: &[u32], at: usize) -> usize
     requires { 0 < count (forest (letter_of outs.now) (drop at s.now)) }
     ensures { Ended (letter_of outs.now) s.now at result }
 {
+    // Stays a `while`: the count of trees that are owed goes up and down.
     let mut owed = 1;
     let mut p = at;
     while owed > 0 {
-        let x = letter(s[p]);
+        let x = s[p] as usize;
         if x < outs.len() {
-            owed += wide(outs[x]);
+            owed += usize::from(outs[x]);
         }
         owed -= 1;
         p += 1;
@@ -84,14 +79,12 @@ pub(crate) fn locate(outs: &[u8], head: &[u8], s: &[u32], m: usize) -> usize
     ensures { LocatedAt outs.now head.now s.now m result }
 {
     let mut p = 0;
-    let mut i = 0;
-    while i < m {
-        if wide(head[i]) < outs.len() {
+    for x in &head[..m] {
+        if usize::from(*x) < outs.len() {
             p += 1;
         } else {
             p = letter_end(outs, s, p);
         }
-        i += 1;
     }
     p
 }

@@ -17,7 +17,7 @@ bounds-s-p c = owing_inside c.loop-owed.invariant c.loop-owed-test.true
 
 pub overflow_add-owed : goal.overflow_add-owed
 overflow_add-owed c =
-    let x = counted_named (letter_ranks _) c.letter-x.ensures c.if-x-outs.true c.wide-owed.ensures refl in
+    let x = counted_named (letter_ranks _) (refl) c.if-x-outs.true c.from-owed.ensures refl in
     omega (arith, (owing_next c.loop-owed.invariant c.loop-owed-test.true x).1)
 
 pub overflow_sub-owed : goal.overflow_sub-owed
@@ -26,10 +26,10 @@ overflow_sub-owed c =
 
 pub loop-owed-preserved : goal.loop-owed-preserved
 loop-owed-preserved c =
-    let x = c.letter-x.ensures in
+    let x = (refl) in
     (owing_next c.loop-owed.invariant c.loop-owed-test.true
     (elim c.if-x-outs.branch [
-      | then-x-outs w ↦ counted_named (letter_ranks _) x w.if-x-outs.true w.wide-owed.ensures w.owed-is
+      | then-x-outs w ↦ counted_named (letter_ranks _) x w.if-x-outs.true w.from-owed.ensures w.owed-is
       | else-x-outs w ↦ counted_free (letter_ranks _) x (omega arith) w.owed-is
     ])).0
 
