@@ -3,23 +3,19 @@ ghost use Rattle.std.specs.Prelude.{◌+◌, ◌*◌, ◌≤◌, length};
 ghost use Rattle.classes.specs.Inner.Classes.{Keyable};
 ghost use Rattle.canonical.specs.Inner.Quotients.{Keys, Copyable, Copies, StateMergeable, MergesState, Mergeable, Merges};
 
-use trees::bytes::{number, wide};
-
 // Writes the n marks from number `from` on, with classes for states, from mark number `at` on.
 fn copy_keys(classes: &[u8], marks: &[u8], from: usize, n: usize, out: &mut [u8], at: usize)
     requires { Keyable classes.now marks.now from n × (2 * (at + n) ≤ length out.old) }
     ensures { Keys classes.now marks.now from (from + n) out.old at out.new }
 {
-    let mut k = 0;
-    while k < n {
+    for k in 0..n {
         let i = marks[2 * (from + k)];
         let mut x = marks[2 * (from + k) + 1];
         if i > 0 {
-            x = classes[wide(x)];
+            x = classes[usize::from(x)];
         }
         out[2 * (at + k)] = i;
         out[2 * (at + k) + 1] = x;
-        k += 1;
     }
 }
 
@@ -36,9 +32,9 @@ fn add_keys(
     requires { Copyable starts.now marks.now classes.now j b starts2.old out.old }
     ensures { Copies starts.now marks.now classes.now j b starts2.old out.old starts2.new out.new }
 {
-    let at = number(starts2[b]);
-    let from = number(starts[j]);
-    let n = number(starts[j + 1]) - from;
+    let at = usize::from(starts2[b]);
+    let from = usize::from(starts[j]);
+    let n = usize::from(starts[j + 1]) - from;
     copy_keys(classes, marks, from, n, out, at);
     starts2[b + 1] = (at + n) as u16;
 }
@@ -57,13 +53,11 @@ fn merge_state(
     requires { StateMergeable ins.now starts.now marks.now classes.now least.now k starts2.old out.old }
     ensures { MergesState ins.now starts.now marks.now classes.now least.now k (length ins.now) starts2.old out.old starts2.new out.new }
 {
-    let p = wide(least[k]);
-    let mut a = 0;
-    while a < ins.len() {
+    let p = usize::from(least[k]);
+    for a in 0..ins.len() {
         let j = 1 + p * ins.len() + a;
         let b = 1 + k * ins.len() + a;
         add_keys(starts, marks, classes, j, b, starts2, out);
-        a += 1;
     }
 }
 
@@ -84,9 +78,7 @@ pub(crate) fn merge(
 {
     starts2[0] = 0;
     add_keys(starts, marks, classes, 0, 0, starts2, out);
-    let mut k = 0;
-    while k < count {
+    for k in 0..count {
         merge_state(ins, starts, marks, classes, least, k, starts2, out);
-        k += 1;
     }
 }

@@ -15,16 +15,16 @@ use Rattle.canonical.proofs.quotient.copy_keys.Goals.{then-i-gt0, else-i-gt0}
 pub loop-k-init : goal.loop-k-init
 loop-k-init c =
     let a = c.args in
-    (omega arith, rw (add-zero a.from, add-zero a.at) (begin (mark_bytes (keyed a.classes.now (part a.marks.now a.from (a.from + a.n)))) a.out.now (2 * a.at)))
+    rw (add-zero a.from, add-zero a.at) (begin (mark_bytes (keyed a.classes.now (part a.marks.now a.from (a.from + a.n)))) a.out.now (2 * a.at))
 
-pub bounds-classes-wide : goal.bounds-classes-wide
-bounds-classes-wide c = rw c.wide.ensures (key_there c.requires.0 c.loop-k-test.true c.if-i-gt0.true)
+pub bounds-classes-from : goal.bounds-classes-from
+bounds-classes-from c = rw c.from.ensures (key_there c.requires.0 c.loop-k-test.true c.if-i-gt0.true)
 
 pub bounds-out-at : goal.bounds-out-at
-bounds-out-at c = omega (arith, c.loop-k.invariant.1.same)
+bounds-out-at c = omega (arith, c.loop-k.invariant.same)
 
 pub bounds-out-at-in-loop-k : goal.bounds-out-at-in-loop-k
-bounds-out-at-in-loop-k c = omega (arith, c.loop-k.invariant.1.same, length-set c.loop-k.out (2 * (c.args.at + c.loop-k.k)) (get_or c.args.marks.now (2 * (c.args.from + c.loop-k.k)) 0))
+bounds-out-at-in-loop-k c = omega (arith, c.loop-k.invariant.same, length-set c.loop-k.out (2 * (c.args.at + c.loop-k.k)) (get_or c.args.marks.now (2 * (c.args.from + c.loop-k.k)) 0))
 
 pub loop-k-preserved : goal.loop-k-preserved
 loop-k-preserved c =
@@ -34,16 +34,16 @@ loop-k-preserved c =
     let x = get_or a.marks.now (2 * (a.from + l.k) + 1) 0 in
     let y = c.if-i-gt0.x in
     let key : key_of a.classes.now (i, x) ≡ (i, y) = elim c.if-i-gt0.branch [
-      | then-i-gt0 w ↦ key_by a.classes.now i x y (λ h. w.x-is ∙ ap (λ q. get_or a.classes.now q 0) w.wide.ensures) (λ h. absurd (omega arith))
+      | then-i-gt0 w ↦ key_by a.classes.now i x y (λ h. w.x-is ∙ ap (λ q. get_or a.classes.now q 0) w.from.ensures) (λ h. absurd (omega arith))
       | else-i-gt0 w ↦ key_by a.classes.now i x y (λ h. absurd (omega arith)) (λ h. w.x-is)
     ] in
-    (omega arith, key_more c.requires.0 c.loop-k-test.true a.at l.invariant.1 key)
+    key_more c.requires.0 c.loop-k-test.true a.at l.invariant key
 
 pub shape_of-out : goal.shape_of-out
-shape_of-out c = c.loop-k.invariant.1.same
+shape_of-out c = c.loop-k.invariant.same
 
 pub returns : goal.returns
 returns c =
     let a = c.args in
     let l = c.loop-k in
-    record { wrote = (finish l.invariant.1 (keys_end a.classes.now a.marks.now a.from a.n l.k l.invariant.0 c.loop-k-test.false)).1 }
+    record { wrote = (finish l.invariant (keys_end a.classes.now a.marks.now a.from a.n l.k l.auto.k-end c.loop-k-test.false)).1 }

@@ -1,5 +1,5 @@
 -- `copy_keys` meets its contract. The invariant: writing what is left of the marks ends as writing all of them from the start. Assumes nothing.
-use Prim.Native.Nat.{◌+◌, ◌-◌, ◌*◌, ◌≤◌}
+use Prim.Native.Nat.{◌+◌, ◌*◌}
 use Rattle.formats.proofs.Writing.{Writing}
 use Rattle.formats.specs.Inner.Marked.{part}
 use Rattle.formats.specs.Sheet.{mark_bytes}
@@ -8,7 +8,4 @@ use Rattle.canonical.proofs.Quotients.{keys_left}
 use Rattle.canonical.proofs.quotient.copy_keys.Given as goal
 
 abbrev pub invariant-loop-k : goal.invariant-loop-k
-invariant-loop-k l = (l.k ≤ l.n) × Writing (mark_bytes (keyed l.classes (part l.marks l.from (l.from + l.n)))) (2 * l.at) l.initial.out (keys_left l.classes l.marks l.from l.n l.k) (2 * (l.at + l.k)) l.out
-
-abbrev pub decreases-loop-k : goal.decreases-loop-k
-decreases-loop-k l = l.n - l.k
+invariant-loop-k l = Writing (mark_bytes (keyed l.classes (part l.marks l.from (l.from + l.n)))) (2 * l.at) l.initial.out (keys_left l.classes l.marks l.from l.n l.k) (2 * (l.at + l.k)) l.out
