@@ -2,16 +2,19 @@
 -- Assumes nothing.
 use Prim.Native.Nat.{ℕ, ◌+◌, ◌-◌, ◌≤◌, ◌<◌}
 use native.Mathlib.Omega.{arith}
+use mathlib.Core.Bool.{true, false}
 use mathlib.Core.List.{List, ◌∷◌}
-use mathlib.Core.Path.{◌≡◌, sym, ap, ◌∙◌}
+use mathlib.Core.Path.{◌≡◌, refl, sym, ap, ◌∙◌}
 use lib.ListN.{length, get_or, set, drop, length-drop, length-set}
 use lib.Seq.{drop-length}
+use Rattle.std.specs.Prelude.{Option, Some, None}
+use Rattle.std.specs.Option.{is_some}
 use Rattle.theory.proofs.Terms.{conflict}
 use Rattle.trees.specs.Inner.Decode.{symbol}
-use Rattle.trees.specs.Inner.Measured.{noted, most}
+use Rattle.trees.specs.Inner.Measured.{noted, most, some_extent}
 use Rattle.trees.specs.Inner.Symbols.{symbol_of, trees, tree}
-use Rattle.trees.specs.declared.tree.Extent.TheVariants.{Tree, Bad}
-use Rattle.trees.proofs.Extents.{letter_here, whole_size, tree_levels_lem, not_whole}
+use Rattle.trees.specs.declared.tree.Extent.{Extent}
+use Rattle.trees.proofs.Extents.{letter_here, whole_size, tree_levels_lem, not_whole, same_extent}
 use Rattle.trees.proofs.Forest.{all_drop}
 use Rattle.trees.proofs.Letters.{symbol_there, symbol_missing}
 use Rattle.trees.proofs.Standing.{Standing, Broken, no_letter, too_few, one_symbol, one_standing, its_levels}
@@ -38,16 +41,16 @@ module _ {outs s table : List ℕ} {j behind : ℕ} (S : OutputStanding outs s t
     all_trees : Standing {A = ⊥} (symbol_of outs) s table behind
     all_trees = rw z at S.trees
 
-    pub not_one_tree : (behind ≡ 1 → ⊥) → MeasuredOutput outs s Bad
+    pub not_one_tree : (behind ≡ 1 → ⊥) → MeasuredOutput outs s None
     not_one_tree f = not_whole (λ (W : WholeOutput outs s). standing.not_one all_trees f W.one)
 
-    pub one_tree : behind ≡ 1 → {l : ℕ} → l ≡ get_or table 0 0 → MeasuredOutput outs s (Tree (length s) l)
+    pub one_tree : behind ≡ 1 → {l : ℕ} → l ≡ get_or table 0 0 → MeasuredOutput outs s (some_extent (length s) l)
     unfolding tree trees
     one_tree b {l} e =
         let W = one_standing all_trees b in
         record {
-          whole = λ e' l' x. let u : length s ≡ e' = cc in let v : l ≡ l' = cc in (record { one = W; small = S.small; few_levels_lem = omega (arith, tree_levels_lem outs s W, S.small) }, omega (arith, whole_size outs s W), omega (arith, e, its_levels all_trees b));
-          bad = λ x. conflict (cc);
+          whole = λ e' l' x. let u = (same_extent x).0 in let v = (same_extent x).1 in (record { one = W; small = S.small; few_levels_lem = omega (arith, tree_levels_lem outs s W, S.small) }, omega (arith, whole_size outs s W), omega (arith, e, its_levels all_trees b));
+          none = λ x. conflict (cc);
         }
 
   -- symbol number j - 1, which is k, in front of them
@@ -56,17 +59,17 @@ module _ {outs s table : List ℕ} {j behind : ℕ} (S : OutputStanding outs s t
     in_front = let g : j - 1 + 1 ≡ j = omega arith in letter_here s (j - 1) 0 (omega (arith, S.inside)) e ∙ ap (λ i. k ∷ drop i s) g
 
     -- where not all can be read from there on, s is no tree
-    broken : Broken {A = ⊥} (symbol_of outs) (k ∷ drop j s) → MeasuredOutput outs s Bad
+    broken : Broken {A = ⊥} (symbol_of outs) (k ∷ drop j s) → MeasuredOutput outs s None
     broken b = not_whole (λ (W : WholeOutput outs s). b (rw in_front at (all_drop (symbol_of outs) s (j - 1) W.one.all)))
 
-    pub not_known : length outs ≤ k → MeasuredOutput outs s Bad
+    pub not_known : length outs ≤ k → MeasuredOutput outs s None
     not_known g = broken (standing.not_known (symbol_of outs) k (drop j s) (symbol_missing outs k g))
 
     module _ {n : ℕ} (g : k < length outs) (q : n ≡ get_or outs k 0) where
       its_letter : symbol_of {A = ⊥} outs k ≡ symbol k n
       its_letter = symbol_there outs k g ∙ ap (symbol k) (sym q)
 
-      pub children_missing : behind < n → MeasuredOutput outs s Bad
+      pub children_missing : behind < n → MeasuredOutput outs s None
       children_missing l = broken (too_few (symbol_of outs) k S.trees k n its_letter l)
 
       pub few_levels_lem : {deep : ℕ} → deep ≡ most n (noted table behind) → deep ≤ 4096
@@ -79,3 +82,13 @@ module _ {outs s table : List ℕ} {j behind : ℕ} (S : OutputStanding outs s t
         inside = omega (arith, S.inside);
         trees = rw in_front (one_symbol (symbol_of outs) k S.trees k n its_letter l (omega (arith, few_behind, S.long)) d);
       }
+
+-- ---- what measuring answers
+module _ {outs s : List ℕ} where
+  pub was_whole : {r : Option Extent} → MeasuredOutput outs s r → is_some r ≡ true → WholeOutput outs s
+  was_whole {r = Some x} M h = (M.whole x.end x.levels refl).0
+  was_whole {r = None} M h = conflict (cc)
+
+  pub was_none : {r : Option Extent} → MeasuredOutput outs s r → is_some r ≡ false → WholeOutput outs s → ⊥
+  was_none {r = Some x} M h = conflict (cc)
+  was_none {r = None} M h = M.none refl

@@ -15,7 +15,6 @@ use codes::symbol::symbol_of;
 use formats::file::copy_at;
 use trees::alphabet::{alphabets_right, output_ranks};
 use trees::refusal::Refusal;
-use trees::tree::Extent;
 
 // The byte at this place, or 0 where there is none.
 fn byte_at(s: &[u8], i: usize) -> u8
@@ -45,7 +44,7 @@ fn collect(text: &[u8], table: &mut [u8; 4096]) -> usize
     while i < text.len() && n < 4096 {
         let tail = &text[i..];
         if tag_opens(tail) {
-            table[n] = symbol_of(byte_at(tail, 1), byte_at(tail, 2));
+            table[n] = symbol_of(byte_at(tail, 1), byte_at(tail, 2)).unwrap_or(64);
             n += 1;
         }
         i += 1;
@@ -81,10 +80,7 @@ fn is_xml(ranks: &[u8], s: &[u8], text: &[u8]) -> bool
     requires { length ranks.now ≤ 64 }
     ensures { Decides (Both ranks.now s.now text.now) result }
 {
-    match measure_output(ranks, s) {
-        Extent::Tree(_, _) => xml_stands(ranks, s, text),
-        Extent::Bad => false,
-    }
+    measure_output(ranks, s).is_some() && xml_stands(ranks, s, text)
 }
 
 // Reads the XML of an output tree, and writes the tree to the start of the area `plan`: how many symbols it has.

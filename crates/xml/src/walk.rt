@@ -4,7 +4,6 @@ ghost use Rattle.trees.specs.Inner.Symbols.{trees};
 ghost use Rattle.xml.specs.Inner.Walk.{frames, rest_behind, Walk, to_come, tags_left, Steps};
 
 use crate::tag::Tag;
-use trees::bytes::wide;
 
 // The tag of a step, which symbol comes next, and how many nodes are then open.
 #[derive(Drop)]
@@ -27,10 +26,10 @@ fn enter(
     ensures { Steps ranks.now s.now (rest_behind (frames opened.old wanted.old depth) (trees ranks.now (drop at s.now))) (tags_left s.now at depth) opened.new wanted.new result }
 {
     let k = s[at];
-    let rank = ranks[wide(k)];
+    let rank = ranks[usize::from(k)];
     if rank == 0 {
         return Step {
-            tag: Tag::Empty(wide(k)),
+            tag: Tag::Empty(usize::from(k)),
             at: at + 1,
             depth: depth,
         };
@@ -38,7 +37,7 @@ fn enter(
     opened[depth] = k;
     wanted[depth] = rank;
     Step {
-        tag: Tag::Opening(wide(k)),
+        tag: Tag::Opening(usize::from(k)),
         at: at + 1,
         depth: depth + 1,
     }
@@ -67,7 +66,7 @@ pub(crate) fn next_tag(
         }
     }
     Step {
-        tag: Tag::Closing(wide(opened[depth - 1])),
+        tag: Tag::Closing(usize::from(opened[depth - 1])),
         at: at,
         depth: depth - 1,
     }

@@ -10,9 +10,7 @@ use crate::measure::measure_output;
 use crate::tag::write_tag;
 use crate::walk::next_tag;
 use trees::alphabet::{alphabets_right, output_ranks};
-use trees::bytes::wide;
 use trees::refusal::Refusal;
-use trees::tree::Extent;
 
 // How many bytes the tags of a node with so many children have.
 fn node_size(rank: usize) -> usize
@@ -29,7 +27,7 @@ fn text_size(ranks: &[u8], s: &[u8]) -> usize
     let mut size = 0;
     let mut i = 0;
     while i < s.len() {
-        size += node_size(wide(ranks[wide(s[i])]));
+        size += node_size(usize::from(ranks[usize::from(s[i])]));
         i += 1;
     }
     size
@@ -63,15 +61,12 @@ pub fn write_xml(stock: &[u8], plan: &[u8], text: &mut [u8]) -> Result<usize, Re
         return Err(Refusal::BadAlphabets);
     }
     let ranks = output_ranks(stock);
-    match measure_output(ranks, plan) {
-        Extent::Tree(_, _) => {
-            let n = text_size(ranks, plan);
-            if text.len() < n {
-                return Err(Refusal::ShortTarget);
-            }
-            let size = put_xml(ranks, plan, text);
-            Ok(size)
-        }
-        Extent::Bad => Err(Refusal::BadOutput),
+    if measure_output(ranks, plan).is_none() {
+        return Err(Refusal::BadOutput);
     }
+    let size = text_size(ranks, plan);
+    if text.len() < size {
+        return Err(Refusal::ShortTarget);
+    }
+    Ok(put_xml(ranks, plan, text))
 }

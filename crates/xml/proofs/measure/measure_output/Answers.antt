@@ -12,10 +12,10 @@ loop-j-init c = end_standing c.args.ranks.now c.args.s.now (replicate {A = ℕ} 
 
 -- the levels that are noted
 pub overflow_cast-levels : goal.overflow_cast-levels
-overflow_cast-levels c = omega (arith, few_levels_lem c.loop-j.invariant c.loop-j-test.true c.wide-k.ensures (omega arith) c.wide-n.ensures c.most_levels-deep.ensures)
+overflow_cast-levels c = omega (arith, few_levels_lem c.loop-j.invariant c.loop-j-test.true c.from-k.ensures (omega arith) c.from-n.ensures c.most_levels-deep.ensures)
 
 pub loop-j-preserved : goal.loop-j-preserved
-loop-j-preserved c = symbol_read c.loop-j.invariant c.loop-j-test.true c.wide-k.ensures (omega arith) c.wide-n.ensures (omega arith) c.most_levels-deep.ensures
+loop-j-preserved c = symbol_read c.loop-j.invariant c.loop-j-test.true c.from-k.ensures (omega arith) c.from-n.ensures (omega arith) c.most_levels-deep.ensures
 
 pub returns-then-s-gt4096 : goal.returns-then-s-gt4096
 returns-then-s-gt4096 c = too_long (omega (arith, c.if-s-gt4096.true))
@@ -24,10 +24,10 @@ pub bounds-s-j : goal.bounds-s-j
 bounds-s-j c = omega (arith, c.loop-j.invariant.inside)
 
 pub returns-then-k-ranks : goal.returns-then-k-ranks
-returns-then-k-ranks c = not_known c.loop-j.invariant c.loop-j-test.true c.wide-k.ensures (omega arith)
+returns-then-k-ranks c = not_known c.loop-j.invariant c.loop-j-test.true c.from-k.ensures (omega arith)
 
 pub returns-then-n-behind : goal.returns-then-n-behind
-returns-then-n-behind c = children_missing c.loop-j.invariant c.loop-j-test.true c.wide-k.ensures (omega arith) c.wide-n.ensures (omega arith)
+returns-then-n-behind c = children_missing c.loop-j.invariant c.loop-j-test.true c.from-k.ensures (omega arith) c.from-n.ensures (omega arith)
 
 pub slice_bounds-most_levels-end : goal.slice_bounds-most_levels-end
 slice_bounds-most_levels-end c = sym c.loop-j.invariant.long
@@ -51,4 +51,4 @@ pub returns-then-behind-ne1 : goal.returns-then-behind-ne1
 returns-then-behind-ne1 c = not_one_tree c.loop-j.invariant (omega arith) (λ e. omega (arith, e, c.if-behind-ne1.true))
 
 pub returns : goal.returns
-returns c = one_tree c.loop-j.invariant (omega arith) (omega arith) c.number.ensures
+returns c = one_tree c.loop-j.invariant (omega arith) (omega arith) c.from.ensures

@@ -1,8 +1,9 @@
 -- `collect` meets its contract. The invariant: the symbols of the tags passed stand in the table. Assumes nothing.
 use mathlib.Core.List.{[], ◌∷◌}
-use mathlib.Core.Path.{sym, ap₂, ◌∙◌}
+use mathlib.Core.Path.{sym, ap, ap₂, ◌∙◌}
 use Rattle.trees.proofs.Stock.{to_end}
 use Rattle.codes.specs.Inner.Table.{symbol_with}
+use Rattle.std.specs.Option.{unwrap_or}
 use Rattle.xml.proofs.Collecting.{collect_none, collect_skip, collect_one, collect_end, collect_full}
 use Rattle.xml.proofs.read.collect.Goals as goal
 use Rattle.xml.proofs.read.collect.Goals.{then-tag_opens, else-tag_opens}
@@ -18,7 +19,7 @@ loop-i-preserved c =
     let o = c.tag_opens.ensures in
     let e = to_end l.i c.args.text.now in
     elim c.if-tag_opens.branch [
-      | then-tag_opens w ↦ rw (w.table-is, w.n-is) (collect_one l.invariant t e m (sym o ∙ w.if-tag_opens.true) (w.symbol_of.ensures ∙ ap₂ (λ x y. symbol_with (x ∷ y ∷ [])) w.byte_at.ensures w.byte_at-then-tag_opens.ensures))
+      | then-tag_opens w ↦ rw (w.table-is, w.n-is) (collect_one l.invariant t e m (sym o ∙ w.if-tag_opens.true) (w.unwrap_or.ensures ∙ ap (λ o. unwrap_or o 64) (w.symbol_of.ensures ∙ ap₂ (λ x y. symbol_with (x ∷ y ∷ [])) w.byte_at.ensures w.byte_at-then-tag_opens.ensures)))
       | else-tag_opens w ↦ rw (w.table-is, w.n-is) (collect_skip l.invariant t e (sym o ∙ w.if-tag_opens.false))
     ]
 

@@ -30,4 +30,4 @@ pub returns : goal.returns
 returns c =
     let d = c.args.depth in
     let e : d ≡ d - 1 + 1 = elim c.if-at-s.branch [ then-at-s+else-depth-eq0+else-n-gt0 w ↦ omega arith | else-at-s w ↦ omega (arith, still_open c.requires.1 w.if-at-s.false) ] in
-    close_step c.requires.0 (d - 1) c.wide.result e c.wide.ensures (elim c.if-at-s.branch [ then-at-s+else-depth-eq0+else-n-gt0 w ↦ inl (omega (arith, w.if-n-gt0.false)) | else-at-s w ↦ inr w.if-at-s.false ])
+    close_step c.requires.0 (d - 1) c.from.result e c.from.ensures (elim c.if-at-s.branch [ then-at-s+else-depth-eq0+else-n-gt0 w ↦ inl (omega (arith, w.if-n-gt0.false)) | else-at-s w ↦ inr w.if-at-s.false ])
