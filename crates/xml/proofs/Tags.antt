@@ -12,7 +12,9 @@ use Rattle.trees.specs.Refusal.{Decides}
 use Rattle.trees.proofs.Deciding.{decides_same}
 use Rattle.codes.specs.Codes.{symbol_code}
 use Rattle.xml.specs.Xml.{tag}
-use Rattle.xml.specs.Inner.Tags.{Begins}
+use Rattle.xml.specs.Inner.Tags.{tag_text, Begins}
+use Rattle.xml.specs.declared.tag.Tag.{Tag}
+use Rattle.xml.specs.declared.tag.Tag.TheVariants as tags
 
 pub begins_room : (w l : List ℕ) → Begins w l → length w ≤ length l
 begins_room [] l b = omega arith
@@ -71,3 +73,9 @@ module _ (before behind text : List ℕ) (k at : ℕ) where
       (λ d. both_at before (symbol_code k ++ behind) text at a (both_at (symbol_code k) behind text (at + length before) (rw e at b) d))
       (λ d. second_at (symbol_code k) behind text (at + length before) (second_at before (symbol_code k ++ behind) text at d))
       D
+
+-- no tag has more than 5 bytes
+pub tag_short : (t : Tag) → length (tag_text t) ≤ 5
+tag_short (tags.Empty k) = omega arith
+tag_short (tags.Opening k) = omega arith
+tag_short (tags.Closing k) = omega arith

@@ -29,7 +29,7 @@ fn enter(
     let rank = ranks[usize::from(k)];
     if rank == 0 {
         return Step {
-            tag: Tag::Empty(usize::from(k)),
+            tag: Tag::Empty(k),
             at: at + 1,
             depth: depth,
         };
@@ -37,7 +37,7 @@ fn enter(
     opened[depth] = k;
     wanted[depth] = rank;
     Step {
-        tag: Tag::Opening(usize::from(k)),
+        tag: Tag::Opening(k),
         at: at + 1,
         depth: depth + 1,
     }
@@ -66,7 +66,7 @@ pub(crate) fn next_tag(
         }
     }
     Step {
-        tag: Tag::Closing(usize::from(opened[depth - 1])),
+        tag: Tag::Closing(opened[depth - 1]),
         at: at,
         depth: depth - 1,
     }
