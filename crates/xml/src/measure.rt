@@ -14,19 +14,13 @@ pub(crate) fn measure_output(ranks: &[u8], s: &[u8]) -> Option<Extent>
     }
     let mut levels = [0u16; 4096];
     let mut behind: usize = 0;
-    let mut j = s.len();
-    while j > 0 {
-        j -= 1;
-        let k = usize::from(s[j]);
-        if k >= ranks.len() {
+    for symbol in s.iter().rev() {
+        let rank = usize::from(*ranks.get(usize::from(*symbol))?);
+        if rank > behind {
             return None;
         }
-        let n = usize::from(ranks[k]);
-        if n > behind {
-            return None;
-        }
-        let deep = most_levels(&levels, behind, n);
-        behind -= n;
+        let deep = most_levels(&levels, behind, rank);
+        behind -= rank;
         levels[behind] = (deep + 1) as u16;
         behind += 1;
     }

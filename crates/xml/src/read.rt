@@ -20,10 +20,7 @@ use trees::refusal::Refusal;
 fn byte_at(s: &[u8], i: usize) -> u8
     ensures { result ≡ get_or s.now i 0 }
 {
-    if i < s.len() {
-        return s[i];
-    }
-    0
+    s.get(i).copied().unwrap_or(0)
 }
 
 // Whether a tag begins here that does not close a node.
@@ -40,14 +37,15 @@ fn collect(text: &[u8], table: &mut [u8; 4096]) -> usize
     ensures { Collects text.now table.new result }
 {
     let mut n = 0;
-    let mut i = 0;
-    while i < text.len() && n < 4096 {
+    for i in 0..text.len() {
+        if n == 4096 {
+            return n;
+        }
         let tail = &text[i..];
         if tag_opens(tail) {
             table[n] = symbol_of(byte_at(tail, 1), byte_at(tail, 2)).unwrap_or(64);
             n += 1;
         }
-        i += 1;
     }
     n
 }

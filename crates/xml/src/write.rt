@@ -25,10 +25,8 @@ fn text_size(ranks: &[u8], s: &[u8]) -> usize
     ensures { result ≡ length (xml (tree ranks.now s.now)) }
 {
     let mut size = 0;
-    let mut i = 0;
-    while i < s.len() {
-        size += node_size(usize::from(ranks[usize::from(s[i])]));
-        i += 1;
+    for symbol in s {
+        size += node_size(usize::from(ranks[usize::from(*symbol)]));
     }
     size
 }
