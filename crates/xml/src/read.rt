@@ -10,7 +10,7 @@ ghost use Rattle.xml.specs.Inner.Measured.{WholeOutput};
 
 use crate::measure::measure_output;
 use crate::tag::{tag_size, tag_stands};
-use crate::walk::next_tag;
+use crate::walk::TagWalk;
 use codes::symbol::symbol_of;
 use formats::file::copy_at;
 use trees::alphabet::{alphabets_right, output_ranks};
@@ -55,20 +55,13 @@ fn xml_stands(ranks: &[u8], s: &[u8], text: &[u8]) -> bool
     requires { WholeOutput ranks.now s.now × (length ranks.now ≤ 64) }
     ensures { Decides (xml (tree ranks.now s.now) ≡ text.now) result }
 {
-    let mut opened = [0u8; 4096];
-    let mut wanted = [0u8; 4096];
-    let mut at = 0;
-    let mut depth = 0;
+    let mut walk = TagWalk::start();
     let mut end = 0;
-    while at < s.len() || depth > 0 {
-        let step = next_tag(ranks, s, at, depth, &mut opened, &mut wanted);
-        let tag = step.tag;
+    while let Some(tag) = walk.next_tag(ranks, s) {
         if !tag_stands(text, end, tag) {
             return false;
         }
         end += tag_size(tag);
-        at = step.at;
-        depth = step.depth;
     }
     end == text.len()
 }

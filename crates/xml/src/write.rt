@@ -8,7 +8,7 @@ ghost use Rattle.xml.specs.Inner.Measured.{WholeOutput, node_size};
 
 use crate::measure::measure_output;
 use crate::tag::write_tag;
-use crate::walk::next_tag;
+use crate::walk::TagWalk;
 use trees::alphabet::{alphabets_right, output_ranks};
 use trees::refusal::Refusal;
 
@@ -36,17 +36,10 @@ fn put_xml(ranks: &[u8], s: &[u8], text: &mut [u8]) -> usize
     requires { WholeOutput ranks.now s.now × (length ranks.now ≤ 64) × (length (xml (tree ranks.now s.now)) ≤ length text.old) }
     ensures { Put (xml (tree ranks.now s.now)) text.old text.new result }
 {
-    let mut opened = [0u8; 4096];
-    let mut wanted = [0u8; 4096];
-    let mut at = 0;
-    let mut depth = 0;
+    let mut walk = TagWalk::start();
     let mut end = 0;
-    while at < s.len() || depth > 0 {
-        let step = next_tag(ranks, s, at, depth, &mut opened, &mut wanted);
-        let tag = step.tag;
+    while let Some(tag) = walk.next_tag(ranks, s) {
         end = write_tag(text, end, tag);
-        at = step.at;
-        depth = step.depth;
     }
     end
 }
