@@ -64,9 +64,6 @@ module _ (before behind text : List ℕ) (k at : ℕ) where
   pub no_code : {code : List ℕ} → code ≡ symbol_code k → (Begins code (drop (at + length before) text) → ⊥) → Begins (tag before k behind) (drop at text) → ⊥
   no_code e f b = f (rw e (first_at_lem (symbol_code k) behind text (at + length before) (second_at before (symbol_code k ++ behind) text at b)))
 
-  pub code_room : {code : List ℕ} → at ≤ length text → code ≡ symbol_code k → Begins before (drop at text) → Begins code (drop (at + length before) text) → at + length before + 2 ≤ length text
-  code_room h e a b = room_at (symbol_code k) text (at + length before) (room_at before text at h a) (rw e at b)
-
   pub last_decides : {code : List ℕ} {r : Bool} → code ≡ symbol_code k → Begins before (drop at text) → Begins code (drop (at + length before) text) → Decides (Begins behind (drop (at + length before + 2) text)) r → Decides (Begins (tag before k behind) (drop at text)) r
   last_decides e a b D =
       decides_same

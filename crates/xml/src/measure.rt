@@ -12,6 +12,7 @@ pub(crate) fn measure_output(ranks: &[u8], s: &[u8]) -> Option<Extent>
     if s.len() > 4096 {
         return None;
     }
+    // Stays: a table with its length, since nothing is allocated.
     let mut levels = [0u16; 4096];
     let mut behind: usize = 0;
     for symbol in s.iter().rev() {

@@ -12,7 +12,6 @@ use crate::measure::measure_output;
 use crate::tag::{tag_size, tag_stands};
 use crate::walk::TagWalk;
 use codes::symbol::symbol_of;
-use formats::file::copy_at;
 use trees::alphabet::{alphabets_right, output_ranks};
 use trees::refusal::Refusal;
 
@@ -81,6 +80,7 @@ pub fn read_xml(stock: &[u8], text: &[u8], plan: &mut [u8]) -> Result<usize, Ref
     if !alphabets_right(stock) {
         return Err(Refusal::BadAlphabets);
     }
+    // Stays: a table with its length, since nothing is allocated.
     let mut table = [0u8; 4096];
     let n = collect(text, &mut table);
     let kinds = &table[..n];
@@ -91,6 +91,6 @@ pub fn read_xml(stock: &[u8], text: &[u8], plan: &mut [u8]) -> Result<usize, Ref
     if plan.len() < n {
         return Err(Refusal::ShortTarget);
     }
-    copy_at(kinds, plan, 0);
+    plan[..n].copy_from_slice(kinds);
     Ok(n)
 }

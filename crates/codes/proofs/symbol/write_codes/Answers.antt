@@ -2,7 +2,6 @@
 use Prim.Native.Nat.{◌*◌}
 use native.Mathlib.Omega.{arith}
 use mathlib.Core.Path.{◌≡◌, refl, ap, ◌∙◌}
-use lib.ListN.{length}
 use lib.Seq.{sets}
 use Rattle.trees.proofs.Judging.{refuse, pass, accept}
 use Rattle.codes.specs.Codes.{codes}
@@ -15,9 +14,6 @@ returns-then-area-lt128 c = refuse (λ h. omega (arith, c.if-area-lt128.true)) r
 pub loop-k-init : goal.loop-k-init
 unfolding codes
 loop-k-init c = refl
-
-pub copy_at-requires : goal.copy_at-requires
-copy_at-requires c = omega (arith, ap length c.symbol_code.ensures, c.if-area-lt128.false)
 
 pub loop-k-preserved : goal.loop-k-preserved
 loop-k-preserved c = let l = c.loop-k in codes_more c.args.area.now l.k l.invariant (c.copy_at.ensures ∙ ap (sets l.area (2 * l.k)) c.symbol_code.ensures)

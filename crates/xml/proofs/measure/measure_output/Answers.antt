@@ -4,7 +4,7 @@ use native.Mathlib.Omega.{arith}
 use mathlib.Core.List.{List}
 use mathlib.Core.Path.{◌≡◌, ap, ◌∙◌}
 use lib.ListN.{length, get_or, replicate, length-replicate}
-use Rattle.xml.proofs.Standing.{end_standing, not_known, children_missing, few_levels_lem, symbol_read, not_one_tree, one_tree}
+use Rattle.xml.proofs.Standing.{end_standing, not_known, children_missing, few_levels_lem, symbol_read, one_tree}
 use Rattle.xml.proofs.measure.measure_output.Goals as goal
 
 pub loop-symbol-init : goal.loop-symbol-init
@@ -39,9 +39,6 @@ loop-symbol-preserved c =
     let r = c.in_ok-get.ensures.lookup in
     let k = known_rank c.args.ranks.now c.from.ensures r.3.0 (r.4 (omega arith) 0) c.from-rank.ensures in
     symbol_read c.loop-symbol.invariant _ _ c.in-Some.ensures.steps k.0 k.1 c.if-rank-behind.false c.most_levels-deep.ensures
-
-pub returns-then-behind-ne1 : goal.returns-then-behind-ne1
-returns-then-behind-ne1 c = not_one_tree c.loop-symbol.invariant c.in-None.ensures.steps.0 c.if-behind-ne1.true
 
 pub returns : goal.returns
 returns c = one_tree c.loop-symbol.invariant c.in-None.ensures.steps.0 c.if-behind-ne1.false c.from-2.ensures

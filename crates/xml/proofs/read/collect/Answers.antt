@@ -6,12 +6,9 @@ use mathlib.Core.Path.{sym, ap, ap₂, ◌∙◌}
 use Rattle.trees.proofs.Stock.{to_end}
 use Rattle.codes.specs.Inner.Table.{symbol_with}
 use Rattle.std.specs.Option.{unwrap_or}
-use Rattle.xml.proofs.Collecting.{collect_none, collect_skip, collect_one, collect_end, collect_full}
+use Rattle.xml.proofs.Collecting.{collect_skip, collect_one, collect_end, collect_full}
 use Rattle.xml.proofs.read.collect.Goals as goal
 use Rattle.xml.proofs.read.collect.Goals.{then-tag_opens, else-tag_opens}
-
-pub loop-i-init : goal.loop-i-init
-loop-i-init c = collect_none _ _ c.requires
 
 pub loop-i-preserved : goal.loop-i-preserved
 loop-i-preserved c =

