@@ -1,6 +1,6 @@
 -- What the promise of the codes comes to.
 -- Assumes nothing.
-use Rattle.std.specs.Prelude.{Option, Result}
+use Rattle.std.specs.Prelude.{Result, Some}
 use Rattle.trees.specs.declared.refusal.Refusal.{Refusal}
 use Prim.Native.Nat.{ℕ, zero, suc, ◌+◌, ◌*◌, ◌≤◌, ◌<◌}
 use native.Mathlib.Nat.{div-add-mod', le_of_suc-le-suc, eq-or-lt_of_le}
@@ -14,27 +14,16 @@ use Rattle.trees.specs.Refusal.{Holds}
 use Rattle.trees.proofs.Judging.{must_accept}
 use Rattle.codes.specs.Codes.{symbol_code, codes}
 use Rattle.codes.specs.Answers.{codes_area, WritesCodes}
-use Rattle.codes.specs.Inner.Table.{symbol_from, symbol_with}
-use Rattle.codes.proofs.Table.{search_ends, search_goes}
+use Rattle.codes.specs.Inner.Table.{symbol_with}
+use Rattle.codes.proofs.Table.{found_by_code}
 use Rattle.codes.proofs.Writing.{codes_long}
 
 -- no two symbols have one code
 pub code_unique : (j k : ℕ) → symbol_code j ≡ symbol_code k → j ≡ k
 code_unique j k e = omega (arith, ap (λ x. get_or x 0 0) e, ap (λ x. get_or x 1 0) e, div-add-mod' j 8, div-add-mod' k 8)
 
--- the search for the code of symbol k, from symbol j on, finds k
-search_finds : (k j n : ℕ) → j ≤ k → k < j + n → symbol_from (symbol_code k) j n ≡ k
-search_finds k j zero h g = absurd (omega arith)
-search_finds k j (suc n) h g = ⊎_elim here (λ l. behind l (search_finds k (suc j) n l (omega arith))) (eq-or-lt_of_le h)
-  where
-    here : j ≡ k → symbol_from (symbol_code k) j (suc n) ≡ k
-    here e = search_ends (symbol_code k) j n (ap symbol_code e) ∙ e
-
-    behind : j < k → symbol_from (symbol_code k) (suc j) n ≡ k → symbol_from (symbol_code k) j (suc n) ≡ k
-    behind l f = search_goes (symbol_code k) j n (λ e. omega (arith, code_unique j k e)) ∙ f
-
-pub code_found : (k : ℕ) → k < 64 → symbol_with (symbol_code k) ≡ k
-code_found k h = search_finds k 0 64 (omega arith) (omega arith)
+pub code_found : (k : ℕ) → k < 64 → symbol_with (symbol_code k) ≡ Some k
+code_found k h = found_by_code k h (λ j. code_unique j k)
 
 -- among the codes of the first n symbols, that of symbol k stands from byte 2 k on
 pub codes_at : (n k : ℕ) → k < n → take 2 (drop (2 * k) (codes n)) ≡ symbol_code k

@@ -16,11 +16,6 @@ unfolding codes
 codes_long zero = refl
 codes_long (suc n) = omega (arith, length-append (codes n) (symbol_code n), codes_long n)
 
--- none is written yet
-pub codes_none : (area : List ℕ) → area ≡ sets area 0 (codes 0)
-unfolding codes
-codes_none area = refl
-
 -- the code of symbol k is written behind those before it
 pub codes_more : (start : List ℕ) {area area' : List ℕ} (k : ℕ) → area ≡ sets start 0 (codes k) → area' ≡ sets area (2 * k) (symbol_code k) → area' ≡ sets start 0 (codes (k + 1))
 unfolding codes

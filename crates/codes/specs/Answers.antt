@@ -1,7 +1,7 @@
 -- What the function that writes all codes promises.
-use Rattle.std.specs.Prelude.{Err, None, Ok, Option, Result, Some, ℕ, ◌≤◌, List, ◌≡◌, length}
+use Rattle.std.specs.Prelude.{Result, ℕ, ◌≤◌, List, ◌≡◌, length}
 use Rattle.trees.specs.declared.refusal.Refusal.{Refusal}
-use Rattle.trees.specs.Refusal.{outcome_of, refusal_number, Outcome, accepted, refused, done, check, Judged}
+use Rattle.trees.specs.Refusal.{outcome_of, done, check, Judged}
 use Rattle.std.proofs.lemmas.List.Edits.{sets}
 use Rattle.codes.specs.Codes.{codes}
 

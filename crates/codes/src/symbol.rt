@@ -1,11 +1,11 @@
 // The codes of output symbols, from a table that has them in the order of the operators' card (02, F-5).
-ghost use Rattle.std.specs.Prelude.{◌<◌, [], ◌∷◌, ◌≡◌, T};
+ghost use Rattle.std.specs.Prelude.{◌<◌, [], ◌∷◌, ◌≡◌, position};
+ghost use Rattle.std.specs.Str.{bytes_eq};
 ghost use Rattle.codes.specs.Codes.{symbol_code};
 ghost use Rattle.codes.specs.Answers.{WritesCodes};
-ghost use Rattle.codes.specs.Inner.Table.{coded, symbol_with};
+ghost use Rattle.codes.specs.Inner.Table.{code_table, symbol_with};
 
 use formats::file::copy_at;
-use trees::bytes::wide;
 use trees::refusal::Refusal;
 
 // The code of every output symbol, by number.
@@ -18,9 +18,9 @@ const CODES: [[u8; 2]; 64] = [
     *b"H5", *b"H6", *b"H7", *b"H8",
 ];
 
-// The table, which passes a test of every entry.
+// The table, entry by entry that of the definition.
 fn table() -> [[u8; 2]; 64]
-    ensures { T (coded 0 64 result) }
+    ensures { result ≡ code_table }
 {
     CODES
 }
@@ -30,24 +30,22 @@ pub fn symbol_code(k: usize) -> [u8; 2]
     requires { k < 64 }
     ensures { result ≡ symbol_code k }
 {
-    let codes = table();
-    codes[k]
+    table()[k]
 }
 
-// The output symbol that has this code, or 64 where none has: the table is searched for it.
-pub fn symbol_of(letter: u8, digit: u8) -> u8
+// The place of a code in a table.
+fn place_of(codes: &[[u8; 2]; 64], code: [u8; 2]) -> Option<usize>
+    ensures { result ≡ position (λ c. bytes_eq c code) codes.now }
+{
+    codes.iter().position(|c| *c == code)
+}
+
+// The output symbol that has this code: the table is searched for it.
+pub fn symbol_of(letter: u8, digit: u8) -> Option<u8>
     ensures { result ≡ symbol_with (letter ∷ digit ∷ []) }
 {
-    let codes = table();
-    let mut symbol: u8 = 0;
-    while symbol < 64 {
-        let code = codes[wide(symbol)];
-        if code[0] == letter && code[1] == digit {
-            return symbol;
-        }
-        symbol += 1;
-    }
-    64
+    let symbol = place_of(&table(), [letter, digit])?;
+    Some(symbol as u8)
 }
 
 // Writes the codes of all 64 output symbols to the start of the area, two bytes each.
@@ -57,11 +55,8 @@ pub fn write_codes(area: &mut [u8]) -> Result<(), Refusal>
     if area.len() < 128 {
         return Err(Refusal::ShortArea);
     }
-    let mut k = 0;
-    while k < 64 {
-        let code = symbol_code(k);
-        copy_at(&code, area, 2 * k);
-        k += 1;
+    for k in 0..64 {
+        copy_at(&symbol_code(k), area, 2 * k);
     }
     Ok(())
 }

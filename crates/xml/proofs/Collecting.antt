@@ -9,6 +9,7 @@ use mathlib.Core.Path.{◌≡◌, refl, sym, ap, ap₂, ◌∙◌}
 use lib.ListN.{length, get_or, take, drop, set, length-set, length-drop, drop_of_length-le}
 use lib.Seq.{drop-drop, take_all, take_at, length-take-le, take-suc-set}
 use borrow.Author.Tests.{ne_eqb}
+use Rattle.std.specs.Option.{unwrap_or}
 use Rattle.theory.specs.Size.{size}
 use Rattle.theory.specs.Term.{Tree, Terms, var, node, none, more}
 use Rattle.trees.specs.Code.{Ranked, AllRanked, code, preorder, preorders}
@@ -34,7 +35,7 @@ skip_code k w h = skip (65 + k / 8) ((49 + k % 8) ∷ w) (λ e. omega arith) ∙
 -- a tag that does not close has its symbol
 kinds_open : (k : ℕ) (w : List ℕ) → k < 64 → kinds_in (60 ∷ (symbol_code k ++ w)) ≡ k ∷ kinds_in w
 unfolding kinds_in
-kinds_open k w h = rw (ne_eqb (65 + k / 8) 47 (λ e. omega arith)) (ap₂ ◌∷◌ (code_found k h) (skip_code k w h))
+kinds_open k w h = rw (ne_eqb (65 + k / 8) 47 (λ e. omega arith)) (ap₂ ◌∷◌ (ap (λ o. unwrap_or o 64) (code_found k h)) (skip_code k w h))
 
 kinds_empty : (k : ℕ) (w : List ℕ) → k < 64 → kinds_in (empty k ++ w) ≡ k ∷ kinds_in w
 unfolding kinds_in
@@ -91,7 +92,7 @@ module _ (outs : List ℕ) where
 
 -- ---- the loop
 -- one byte of a text that is not at its end
-kinds_step : (l : List ℕ) → 0 < length l → kinds_in l ≡ cons_if (opens l) (symbol_with (get_or l 1 0 ∷ get_or l 2 0 ∷ [])) (kinds_in (drop 1 l))
+kinds_step : (l : List ℕ) → 0 < length l → kinds_in l ≡ cons_if (opens l) (unwrap_or (symbol_with (get_or l 1 0 ∷ get_or l 2 0 ∷ [])) 64) (kinds_in (drop 1 l))
 unfolding kinds_in
 kinds_step [] h = absurd (omega arith)
 kinds_step (x ∷ l) h = refl
@@ -109,7 +110,7 @@ collect_none text table h = record { few = omega arith; inside = omega arith; lo
 
 module _ {text table : List ℕ} {n i : ℕ} (C : Collected text table n i) where
   module _ (inside : i < length text) {tail : List ℕ} (lent : tail ≡ drop i text) where
-    step_here : kinds_in (drop i text) ≡ cons_if (opens tail) (symbol_with (get_or tail 1 0 ∷ get_or tail 2 0 ∷ [])) (kinds_in (drop (i + 1) text))
+    step_here : kinds_in (drop i text) ≡ cons_if (opens tail) (unwrap_or (symbol_with (get_or tail 1 0 ∷ get_or tail 2 0 ∷ [])) 64) (kinds_in (drop (i + 1) text))
     step_here = rw (lent, ← drop-drop 1 i text) (kinds_step (drop i text) (omega (arith, length-drop i text)))
 
     -- no tag begins here that does not close
@@ -117,7 +118,7 @@ module _ {text table : List ℕ} {n i : ℕ} (C : Collected text table n i) wher
     collect_skip f = record { few = C.few; inside = omega arith; long = C.long; kept = ap (◌++◌ (take n table)) (sym (rw f at step_here)) ∙ C.kept }
 
     -- one does
-    pub collect_one : {k : ℕ} → n < 4096 → opens tail ≡ true → k ≡ symbol_with (get_or tail 1 0 ∷ get_or tail 2 0 ∷ []) → Collected text (set table n k) (n + 1) (i + 1)
+    pub collect_one : {k : ℕ} → n < 4096 → opens tail ≡ true → k ≡ unwrap_or (symbol_with (get_or tail 1 0 ∷ get_or tail 2 0 ∷ [])) 64 → Collected text (set table n k) (n + 1) (i + 1)
     collect_one {k} h f e =
         let o : kinds_in (drop i text) ≡ k ∷ kinds_in (drop (i + 1) text) = rw (f, ← e) at step_here in
         let g : n < length table = omega (arith, C.long) in

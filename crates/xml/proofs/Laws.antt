@@ -1,6 +1,6 @@
 -- What the promises of the writer and the reader of XML come to.
 -- Assumes nothing.
-use Rattle.std.specs.Prelude.{Err, None, Ok, Option, Result, Some}
+use Rattle.std.specs.Prelude.{Ok, Result}
 use Rattle.trees.specs.declared.refusal.Refusal.{Refusal}
 use Rattle.trees.specs.Refusal.{outcome_of, accepted, done, Holds}
 use Prim.Native.Nat.{ℕ, ◌+◌, ◌*◌, ◌≤◌}

@@ -12,7 +12,9 @@ use Rattle.trees.specs.Refusal.{Decides}
 use Rattle.trees.proofs.Deciding.{decides_same}
 use Rattle.codes.specs.Codes.{symbol_code}
 use Rattle.xml.specs.Xml.{tag}
-use Rattle.xml.specs.Inner.Tags.{Begins}
+use Rattle.xml.specs.Inner.Tags.{tag_text, Begins}
+use Rattle.xml.specs.declared.tag.Tag.{Tag}
+use Rattle.xml.specs.declared.tag.Tag.TheVariants as tags
 
 pub begins_room : (w l : List ℕ) → Begins w l → length w ≤ length l
 begins_room [] l b = omega arith
@@ -62,12 +64,15 @@ module _ (before behind text : List ℕ) (k at : ℕ) where
   pub no_code : {code : List ℕ} → code ≡ symbol_code k → (Begins code (drop (at + length before) text) → ⊥) → Begins (tag before k behind) (drop at text) → ⊥
   no_code e f b = f (rw e (first_at_lem (symbol_code k) behind text (at + length before) (second_at before (symbol_code k ++ behind) text at b)))
 
-  pub code_room : {code : List ℕ} → at ≤ length text → code ≡ symbol_code k → Begins before (drop at text) → Begins code (drop (at + length before) text) → at + length before + 2 ≤ length text
-  code_room h e a b = room_at (symbol_code k) text (at + length before) (room_at before text at h a) (rw e at b)
-
   pub last_decides : {code : List ℕ} {r : Bool} → code ≡ symbol_code k → Begins before (drop at text) → Begins code (drop (at + length before) text) → Decides (Begins behind (drop (at + length before + 2) text)) r → Decides (Begins (tag before k behind) (drop at text)) r
   last_decides e a b D =
       decides_same
       (λ d. both_at before (symbol_code k ++ behind) text at a (both_at (symbol_code k) behind text (at + length before) (rw e at b) d))
       (λ d. second_at (symbol_code k) behind text (at + length before) (second_at before (symbol_code k ++ behind) text at d))
       D
+
+-- no tag has more than 5 bytes
+pub tag_short : (t : Tag) → length (tag_text t) ≤ 5
+tag_short (tags.Empty k) = omega arith
+tag_short (tags.Opening k) = omega arith
+tag_short (tags.Closing k) = omega arith

@@ -7,10 +7,11 @@ use native.Mathlib.Omega.{arith}
 use mathlib.Core.Bool.{Bool, true, false}
 use mathlib.Core.List.{List, [], ◌∷◌, ◌++◌, append_assoc, append-nil}
 use mathlib.Core.Logic.{◌⊎◌, inl, inr}
-use mathlib.Core.Path.{◌≡◌, refl, sym, ap, ap₂, ◌∙◌}
+use mathlib.Core.Path.{◌≡◌, refl, sym, ap, ◌∙◌}
 use lib.Dec.{leb}
-use lib.ListN.{length, get_or, drop, set, replicate, length-set, length-replicate, drop_of_length-le}
-use lib.Seq.{get_or-set_same, get_or-set_other}
+use lib.ListN.{length, get_or, take, drop, set, length-set, drop_of_length-le}
+use lib.Seq.{take-suc, take-suc-set}
+use Rattle.std.proofs.lemmas.List.{reverse-append}
 use borrow.Author.Tests.{le-leb, leb-true}
 use Rattle.theory.specs.Term.{Terms, node, none, more, count}
 use Rattle.theory.specs.Inner.Forests.{letters_all}
@@ -22,36 +23,22 @@ use Rattle.trees.proofs.Forest.{all_drop}
 use Rattle.trees.proofs.Letters.{symbol_there as symbol_letter, symbol_missing}
 use Rattle.xml.specs.Xml.{xml, xmls, opening, closing, empty}
 use Rattle.xml.specs.Inner.Measured.{WholeOutput}
-use Rattle.xml.specs.Inner.Walk.{frames, rest, rest_behind, Walk, to_come, tags_left, Steps}
+use Rattle.xml.specs.Inner.Walk.{open_node, frames, AllKnown, rest, rest_behind, Starts, Walk, to_come, tags_left, Steps}
+use Rattle.xml.specs.declared.tag.Tag.{Tag}
 use Rattle.xml.specs.declared.tag.Tag.TheVariants as tags
-use Rattle.xml.specs.declared.walk.Step.{Step}
+use Rattle.xml.specs.declared.walk.OpenNode.{OpenNode}
+use Rattle.xml.specs.declared.walk.TagWalk.{TagWalk}
 
 -- ---- the open nodes
--- they are those that the tables hold below d
-frames_same : (o o' w w' : List ℕ) (d : ℕ) → ((i : ℕ) → i < d → get_or o' i 0 ≡ get_or o i 0) → ((i : ℕ) → i < d → get_or w' i 0 ≡ get_or w i 0) → frames o' w' d ≡ frames o w d
+-- one more, or another one in the place of the last
+frames_set : (nodes : List OpenNode) (d : ℕ) (x : OpenNode) → d < length nodes → frames (set nodes d x) (d + 1) ≡ x ∷ frames nodes d
 unfolding frames
-frames_same o o' w w' zero f g = refl
-frames_same o o' w w' (suc d) f g = ap₂ ◌∷◌ (ap₂ (λ x y. (x, y)) (f d (omega arith)) (g d (omega arith))) (frames_same o o' w w' d (λ i h. f i (omega arith)) (λ i h. g i (omega arith)))
+frames_set nodes d x h = rw (add-one, take-suc-set nodes d x h) (reverse-append (take d nodes) (x ∷ []))
 
--- one node more
-frames_push : (o w : List ℕ) (d k n : ℕ) → d < length o → d < length w → frames (set o d k) (set w d n) (d + 1) ≡ (k, n) ∷ frames o w d
+-- the last one, before the others
+frames_last : (nodes : List OpenNode) (d : ℕ) (x : OpenNode) → d < length nodes → frames nodes (d + 1) ≡ get_or nodes d x ∷ frames nodes d
 unfolding frames
-frames_push o w d k n h l =
-    rw (add-one)
-    (ap₂ ◌∷◌ (ap₂ (λ x y. (x, y)) (get_or-set_same o d k 0 h) (get_or-set_same w d n 0 l)) (frames_same o (set o d k) w (set w d n) d (λ i b. get_or-set_other o d i k 0 (omega arith)) (λ i b. get_or-set_other w d i n 0 (omega arith))))
-
--- another number of children to come for the last one
-frames_count : (o w : List ℕ) (d n : ℕ) → d < length w → frames o (set w d n) (suc d) ≡ (get_or o d 0, n) ∷ frames o w d
-unfolding frames
-frames_count o w d n l = ap₂ ◌∷◌ (ap₂ (λ x y. (x, y)) refl (get_or-set_same w d n 0 l)) (frames_same o o w (set w d n) d (λ i b. refl) (λ i b. get_or-set_other w d i n 0 (omega arith)))
-
--- a table whose entries are low, and a low one stored
-set_low : (o : List ℕ) (d k i : ℕ) → ((j : ℕ) → get_or o j 0 < 64) → k < 64 → get_or (set o d k) i 0 < 64
-set_low [] d k i f h = f i
-set_low (x ∷ o) zero k zero f h = h
-set_low (x ∷ o) zero k (suc i) f h = f (suc i)
-set_low (x ∷ o) (suc d) k zero f h = f zero
-set_low (x ∷ o) (suc d) k (suc i) f h = set_low o d k i (λ j. f (suc j)) h
+frames_last nodes d x h = rw (add-one, take-suc nodes d x h) (reverse-append (take d nodes) (get_or nodes d x ∷ []))
 
 -- ---- the trees from a symbol on
 -- a symbol that is not broken is known
@@ -92,28 +79,28 @@ found outs s one at inside =
     record { known = known; enough = enough; here = ap (trees outs) here ∙ put_here ∙ rw (le-leb n (count G) enough) }
 
 -- ---- the text still to come
-module _ (fs : List (ℕ × ℕ)) where
+module _ (fs : List OpenNode) where
   -- a node with no children
   empty_first : (k r : ℕ) (G : Terms ⊥) → r ≡ 0 → xml (node k (firsts r G)) ++ rest fs (rests r G) ≡ empty k ++ rest fs G
   unfolding xml firsts rests
   empty_first k r G e = rw e
 
   -- one with children is open behind its first tag
-  node_first : (k r : ℕ) (G : Terms ⊥) → 0 < r → r ≤ count G → xml (node k (firsts r G)) ++ rest fs (rests r G) ≡ opening k ++ rest ((k, r) ∷ fs) G
+  node_first : (k r : ℕ) (G : Terms ⊥) → 0 < r → r ≤ count G → xml (node k (firsts r G)) ++ rest fs (rests r G) ≡ opening k ++ rest (open_node k r ∷ fs) G
   unfolding xml firsts rests rest count
   node_first k zero G h l = absurd (omega arith)
   node_first k (suc r) none h l = absurd (omega arith)
   node_first k (suc r) (more t ts) h l = rw (append_assoc (opening k), append_assoc (xml t ++ xmls (firsts r ts)))
 
   -- a child of the last open node comes
-  child_next : (k n : ℕ) (ts : Terms ⊥) → 0 < count ts → 0 < n → rest ((k, n) ∷ fs) ts ≡ rest_behind ((k, n - 1) ∷ fs) ts
+  child_next : (k n : ℕ) (ts : Terms ⊥) → 0 < count ts → 0 < n → rest (open_node k n ∷ fs) ts ≡ rest_behind (open_node k (n - 1) ∷ fs) ts
   unfolding rest xml firsts rests count
   child_next k n none h l = absurd (omega arith)
   child_next k zero (more t ts) h l = absurd (omega arith)
   child_next k (suc n) (more t ts) h l = let p : suc n - 1 ≡ n = omega arith in rw p (append_assoc (xml t) (xmls (firsts n ts)) (closing k ++ rest fs (rests n ts)))
 
   -- none does, and the node is closed
-  closed_next : (k n : ℕ) (ts : Terms ⊥) → (n ≡ 0) ⊎ (ts ≡ none) → rest ((k, n) ∷ fs) ts ≡ closing k ++ rest fs ts
+  closed_next : (k n : ℕ) (ts : Terms ⊥) → (n ≡ 0) ⊎ (ts ≡ none) → rest (open_node k n ∷ fs) ts ≡ closing k ++ rest fs ts
   unfolding rest xml firsts rests
   closed_next k n ts (inl e) = rw e
   closed_next k zero ts (inr e) = refl
@@ -126,31 +113,32 @@ root_next none = refl
 root_next (more t ts) = refl
 
 -- ---- the steps
-module _ {outs s : List ℕ} {at depth : ℕ} {opened wanted : List ℕ} (W : Walk outs s at depth opened wanted) where
-  -- the symbol at `at` is one of the alphabet
-  pub symbol_there : at < length s → get_or s at 0 < length outs
-  symbol_there h = (found outs s W.one at h).known
+module _ {outs s : List ℕ} {w : TagWalk} (W : Walk outs s w) where
+  -- the symbol at w.at is one of the alphabet
+  pub symbol_there : w.at < length s → get_or s w.at 0 < length outs
+  symbol_there h = (found outs s W.one w.at h).known
 
-  module _ (h : at < length s) (k : ℕ) (e : k ≡ get_or s at 0) where
-    found_here : Found outs s at k
-    found_here = rw e (found outs s W.one at h)
+  module _ (h : w.at < length s) (k : ℕ) (e : k ≡ get_or s w.at 0) where
+    found_here : Found outs s w.at k
+    found_here = rw e (found outs s W.one w.at h)
 
     -- it has no children
-    pub entered_leaf : get_or outs k 0 ≡ 0 → Steps outs s (rest_behind (frames opened wanted depth) (trees outs (drop at s))) (tags_left s at depth) opened wanted (record { tag = tags.Empty k; at = at + 1; depth = depth })
+    pub entered_leaf : get_or outs k 0 ≡ 0 → Steps outs s (rest_behind (frames w.nodes w.depth) (trees outs (drop w.at s))) (tags_left s w) (record { at = w.at + 1; depth = w.depth; nodes = w.nodes }) (tags.Empty k)
     entered_leaf z = record {
-      walk = record { one = W.one; kinds = W.kinds; small = W.small; inside = omega arith; shallow = omega (arith, W.shallow); known = W.known; opens = W.opens; lefts = W.lefts };
+      walk = record { one = W.one; kinds = W.kinds; small = W.small; inside = omega arith; shallow = omega (arith, W.shallow); long = W.long; known = W.known };
       known = omega (arith, found_here.known, W.kinds);
-      text = ap (rest_behind (frames opened wanted depth)) found_here.here ∙ empty_first (frames opened wanted depth) k (get_or outs k 0) (trees outs (drop (at + 1) s)) z;
+      text = ap (rest_behind (frames w.nodes w.depth)) found_here.here ∙ empty_first (frames w.nodes w.depth) k (get_or outs k 0) (trees outs (drop (w.at + 1) s)) z;
       fewer = omega arith;
     }
 
     -- it has, and its node is open from here on
-    pub entered_node : (get_or outs k 0 ≡ 0 → ⊥) → Steps outs s (rest_behind (frames opened wanted depth) (trees outs (drop at s))) (tags_left s at depth) (set opened depth k) (set wanted depth (get_or outs k 0)) (record { tag = tags.Opening k; at = at + 1; depth = depth + 1 })
+    pub entered_node : (get_or outs k 0 ≡ 0 → ⊥) → Steps outs s (rest_behind (frames w.nodes w.depth) (trees outs (drop w.at s))) (tags_left s w) (record { at = w.at + 1; depth = w.depth + 1; nodes = set w.nodes w.depth (open_node k (get_or outs k 0)) }) (tags.Opening k)
     entered_node z =
         let n = get_or outs k 0 in
         let some : 0 < n = omega arith in
-        let fs = frames opened wanted depth in
-        let d : depth < 4096 = omega (arith, W.shallow, W.small) in
+        let fs = frames w.nodes w.depth in
+        let low : k < 64 = omega (arith, found_here.known, W.kinds) in
+        let q = frames_set w.nodes w.depth (open_node k n) (omega (arith, W.long, W.shallow, W.small)) in
         record {
           walk = record {
             one = W.one;
@@ -158,81 +146,99 @@ module _ {outs s : List ℕ} {at depth : ℕ} {opened wanted : List ℕ} (W : Wa
             small = W.small;
             inside = omega arith;
             shallow = omega (arith, W.shallow);
-            known = λ i. set_low opened depth k i W.known (omega (arith, found_here.known, W.kinds));
-            opens = length-set opened depth k ∙ W.opens;
-            lefts = length-set wanted depth n ∙ W.lefts;
+            long = length-set w.nodes w.depth (open_node k n) ∙ W.long;
+            known = rw q (low, W.known);
           };
-          known = omega (arith, found_here.known, W.kinds);
+          known = low;
           text =
               ap (rest_behind fs) found_here.here
-              ∙ node_first fs k n (trees outs (drop (at + 1) s)) some found_here.enough
-              ∙ ap (λ f. opening k ++ rest f (trees outs (drop (at + 1) s))) (sym (frames_push opened wanted depth k n (omega (arith, W.opens)) (omega (arith, W.lefts))));
+              ∙ node_first fs k n (trees outs (drop (w.at + 1) s)) some found_here.enough
+              ∙ ap (λ f. opening k ++ rest f (trees outs (drop (w.at + 1) s))) (sym q);
           fewer = omega arith;
         }
 
-  -- the next tag is that of the root
-  pub root_step : depth ≡ 0 → to_come outs s at depth opened wanted ≡ rest_behind (frames opened wanted depth) (trees outs (drop at s))
+  -- no node is open: the next tag is that of the root
+  pub root_step : w.depth ≡ 0 → to_come outs s w ≡ rest_behind (frames w.nodes w.depth) (trees outs (drop w.at s))
   unfolding frames
-  root_step z = rw z (root_next (trees outs (drop at s)))
+  root_step z = rw z (root_next (trees outs (drop w.at s)))
 
-  -- or of a child of the last open node
-  pub child_step : at < length s → (d : ℕ) → depth ≡ d + 1 → 0 < get_or wanted d 0 → to_come outs s at depth opened wanted ≡ rest_behind (frames opened (set wanted d (get_or wanted d 0 - 1)) depth) (trees outs (drop at s))
-  unfolding frames count
-  child_step h d e l =
-      let ts = trees outs (drop at s) in
-      let n = get_or wanted d 0 in
-      let q : depth ≡ suc d = e ∙ add-one d in
-      let b : d < length wanted = omega (arith, W.lefts, W.shallow, W.small) in
-      let some : 0 < count ts = rw (found outs s W.one at h).here (omega arith) in
-      rw q (child_next (frames opened wanted d) (get_or opened d 0) n ts some l ∙ ap (λ f. rest_behind f ts) (sym (frames_count opened wanted d (n - 1) b)))
+  -- or there is none
+  pub end_step : w.depth ≡ 0 → w.at ≡ length s → to_come outs s w ≡ []
+  unfolding frames rest xml trees forest
+  end_step z e = rw (z, drop_of_length-le s {i = w.at} (omega arith))
 
-  -- or it closes that node
-  pub close_step : (d : ℕ) (k : ℕ) → depth ≡ d + 1 → k ≡ get_or opened d 0 → (get_or wanted d 0 ≡ 0) ⊎ (length s ≤ at) → Steps outs s (to_come outs s at depth opened wanted) (tags_left s at depth) opened wanted (record { tag = tags.Closing k; at = at; depth = d })
-  unfolding frames trees forest
-  close_step d k e f w = record {
-    walk = record { one = W.one; kinds = W.kinds; small = W.small; inside = W.inside; shallow = omega (arith, W.shallow); known = W.known; opens = W.opens; lefts = W.lefts };
-    known = omega (arith, W.known d);
-    text = rw (e ∙ add-one d, f) (closed_next (frames opened wanted d) (get_or opened d 0) (get_or wanted d 0) (trees outs (drop at s)) (done w));
-    fewer = omega arith;
-  }
-    where
-      done : (get_or wanted d 0 ≡ 0) ⊎ (length s ≤ at) → (get_or wanted d 0 ≡ 0) ⊎ (trees outs (drop at s) ≡ none)
-      done (inl z) = inl z
-      done (inr l) = inr (ap (forest (symbol_of outs)) (drop_of_length-le s l))
+  -- d nodes are open below the last one
+  module _ (d : ℕ) (e : w.depth ≡ d + 1) (v : OpenNode) where
+    abbrev pub last : OpenNode
+    last = get_or w.nodes d v
+
+    room : d < length w.nodes
+    room = omega (arith, W.long, W.shallow, W.small)
+
+    opened : frames w.nodes w.depth ≡ last ∷ frames w.nodes d
+    opened = ap (frames w.nodes) e ∙ frames_last w.nodes d v room
+
+    last_known : (last.symbol < 64) × AllKnown (frames w.nodes d)
+    last_known = rw opened at W.known
+
+    -- a child of it comes, and is counted
+    module _ (h : w.at < length s) (l : 0 < last.to_come) where
+      abbrev pub counted : List OpenNode
+      counted = set w.nodes d (open_node last.symbol (last.to_come - 1))
+
+      counted_frames : frames counted w.depth ≡ open_node last.symbol (last.to_come - 1) ∷ frames w.nodes d
+      counted_frames = ap (frames counted) e ∙ frames_set w.nodes d (open_node last.symbol (last.to_come - 1)) room
+
+      pub child_walk : Walk outs s (record { at = w.at; depth = w.depth; nodes = counted })
+      child_walk = record {
+        one = W.one;
+        kinds = W.kinds;
+        small = W.small;
+        inside = W.inside;
+        shallow = W.shallow;
+        long = length-set w.nodes d (open_node last.symbol (last.to_come - 1)) ∙ W.long;
+        known = rw counted_frames last_known;
+      }
+
+      pub child_step : to_come outs s w ≡ rest_behind (frames counted w.depth) (trees outs (drop w.at s))
+      unfolding count
+      child_step =
+          let ts = trees outs (drop w.at s) in
+          let some : 0 < count ts = rw (found outs s W.one w.at h).here (omega arith) in
+          rw (opened, counted_frames) (child_next (frames w.nodes d) last.symbol last.to_come ts some l)
+
+    -- it is closed
+    pub close_step : (last.to_come ≡ 0) ⊎ (length s ≤ w.at) → Steps outs s (to_come outs s w) (tags_left s w) (record { at = w.at; depth = d; nodes = w.nodes }) (tags.Closing last.symbol)
+    unfolding trees forest
+    close_step x = record {
+      walk = record { one = W.one; kinds = W.kinds; small = W.small; inside = W.inside; shallow = omega (arith, W.shallow); long = W.long; known = last_known.1 };
+      known = last_known.0;
+      text = rw opened (closed_next (frames w.nodes d) last.symbol last.to_come (trees outs (drop w.at s)) (done x));
+      fewer = omega arith;
+    }
+      where
+        done : (last.to_come ≡ 0) ⊎ (length s ≤ w.at) → (last.to_come ≡ 0) ⊎ (trees outs (drop w.at s) ≡ none)
+        done (inl z) = inl z
+        done (inr l) = inr (ap (forest (symbol_of outs)) (drop_of_length-le s l))
 
 -- what is still to come, said in another way
-pub restart : {outs s x y : List ℕ} {m : ℕ} {o w : List ℕ} {r : Step} → y ≡ x → Steps outs s x m o w r → Steps outs s y m o w r
+pub restart : {outs s x y : List ℕ} {m : ℕ} {w : TagWalk} {t : Tag} → y ≡ x → Steps outs s x m w t → Steps outs s y m w t
 restart e S = record { walk = S.walk; known = S.known; text = e ∙ S.text; fewer = S.fewer }
-
--- a node is open where the symbols have all come and the text has not
-pub still_open : {at n depth : ℕ} → (at < n) ⊎ (0 < depth) → n ≤ at → 0 < depth
-still_open (inl h) l = absurd (omega arith)
-still_open (inr h) l = h
 
 -- ---- the whole walk
 -- before its first step all of the text is still to come
-pub start_text : (outs s opened wanted : List ℕ) → IsTree outs s → to_come outs s 0 0 opened wanted ≡ xml (tree outs s)
+pub start_text : (outs s : List ℕ) → IsTree outs s → (w : TagWalk) → Starts w → to_come outs s w ≡ xml (tree outs s)
 unfolding frames rest xml tree trees
-start_text outs s opened wanted one = ap xmls (single (forest (symbol_of outs) s) one.one) ∙ append-nil (xml (first (forest (symbol_of outs) s)))
+start_text outs s one w b = rw (b.0, b.1) (ap xmls (single (forest (symbol_of outs) s) one.one) ∙ append-nil (xml (first (forest (symbol_of outs) s))))
 
-low_zeros : (n i : ℕ) → get_or (replicate {A = ℕ} n 0) i 0 < 64
-low_zeros zero i = omega arith
-low_zeros (suc n) zero = omega arith
-low_zeros (suc n) (suc i) = low_zeros n i
-
-pub walk_start : {outs s : List ℕ} → WholeOutput outs s → length outs ≤ 64 → Walk outs s 0 0 (replicate {A = ℕ} 4096 0) (replicate {A = ℕ} 4096 0)
-walk_start O h = record {
+pub walk_start : {outs s : List ℕ} → WholeOutput outs s → length outs ≤ 64 → (w : TagWalk) → Starts w → Walk outs s w
+unfolding frames
+walk_start O h w b = record {
   one = O.one;
   kinds = h;
   small = O.small;
-  inside = omega arith;
-  shallow = omega arith;
-  known = low_zeros 4096;
-  opens = length-replicate {A = ℕ} 4096 0;
-  lefts = length-replicate {A = ℕ} 4096 0;
+  inside = omega (arith, b.0);
+  shallow = omega (arith, b.1);
+  long = b.2;
+  known = rw (b.1) tt;
 }
-
--- and behind its last one none is
-pub end_text : (outs s opened wanted : List ℕ) {at depth : ℕ} → length s ≤ at → depth ≤ 0 → to_come outs s at depth opened wanted ≡ []
-unfolding frames rest xml trees forest
-end_text outs s opened wanted {at} {depth} h l = let z : depth ≡ 0 = omega arith in rw (z, drop_of_length-le s h)

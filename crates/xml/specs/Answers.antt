@@ -1,7 +1,7 @@
 -- What the writer and the reader of XML promise: each turns an output tree from one form into the other.
-use Rattle.std.specs.Prelude.{Err, None, Ok, Option, Result, Some, ℕ, ◌≤◌, List, ◌≡◌, length}
+use Rattle.std.specs.Prelude.{Result, ℕ, ◌≤◌, List, ◌≡◌, length}
 use Rattle.trees.specs.declared.refusal.Refusal.{Refusal}
-use Rattle.trees.specs.Refusal.{outcome_of, refusal_number, Outcome, accepted, refused, Checks, done, check, Judged}
+use Rattle.trees.specs.Refusal.{outcome_of, Checks, done, check, Judged}
 use Rattle.std.proofs.lemmas.List.Edits.{sets}
 use Rattle.theory.specs.Term.{Tree}
 use Rattle.trees.specs.Alphabets.{outputs, alphabet_check}

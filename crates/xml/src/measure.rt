@@ -2,37 +2,34 @@
 // of the levels of each tree that stands behind: a tree may have 4,096 levels, and no function calls itself.
 ghost use Rattle.xml.specs.Inner.Measured.{MeasuredOutput};
 
-use trees::bytes::{number, wide};
 use trees::levels::most_levels;
 use trees::tree::Extent;
 
 // Measures the bytes as one output tree of at most 4,096 nodes. A symbol takes as many of the trees behind it as its rank says, and is one, a level higher.
-pub(crate) fn measure_output(ranks: &[u8], s: &[u8]) -> Extent
+pub(crate) fn measure_output(ranks: &[u8], s: &[u8]) -> Option<Extent>
     ensures { MeasuredOutput ranks.now s.now result }
 {
     if s.len() > 4096 {
-        return Extent::Bad;
+        return None;
     }
+    // Stays: a table with its length, since nothing is allocated.
     let mut levels = [0u16; 4096];
     let mut behind: usize = 0;
-    let mut j = s.len();
-    while j > 0 {
-        j -= 1;
-        let k = wide(s[j]);
-        if k >= ranks.len() {
-            return Extent::Bad;
+    for symbol in s.iter().rev() {
+        let rank = usize::from(*ranks.get(usize::from(*symbol))?);
+        if rank > behind {
+            return None;
         }
-        let n = wide(ranks[k]);
-        if n > behind {
-            return Extent::Bad;
-        }
-        let deep = most_levels(&levels, behind, n);
-        behind -= n;
+        let deep = most_levels(&levels, behind, rank);
+        behind -= rank;
         levels[behind] = (deep + 1) as u16;
         behind += 1;
     }
     if behind != 1 {
-        return Extent::Bad;
+        return None;
     }
-    Extent::Tree(s.len(), number(levels[0]))
+    Some(Extent {
+        end: s.len(),
+        levels: usize::from(levels[0]),
+    })
 }

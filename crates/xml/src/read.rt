@@ -10,21 +10,16 @@ ghost use Rattle.xml.specs.Inner.Measured.{WholeOutput};
 
 use crate::measure::measure_output;
 use crate::tag::{tag_size, tag_stands};
-use crate::walk::next_tag;
+use crate::walk::TagWalk;
 use codes::symbol::symbol_of;
-use formats::file::copy_at;
 use trees::alphabet::{alphabets_right, output_ranks};
 use trees::refusal::Refusal;
-use trees::tree::Extent;
 
 // The byte at this place, or 0 where there is none.
 fn byte_at(s: &[u8], i: usize) -> u8
     ensures { result ≡ get_or s.now i 0 }
 {
-    if i < s.len() {
-        return s[i];
-    }
-    0
+    s.get(i).copied().unwrap_or(0)
 }
 
 // Whether a tag begins here that does not close a node.
@@ -41,14 +36,15 @@ fn collect(text: &[u8], table: &mut [u8; 4096]) -> usize
     ensures { Collects text.now table.new result }
 {
     let mut n = 0;
-    let mut i = 0;
-    while i < text.len() && n < 4096 {
+    for i in 0..text.len() {
+        if n == 4096 {
+            return n;
+        }
         let tail = &text[i..];
         if tag_opens(tail) {
-            table[n] = symbol_of(byte_at(tail, 1), byte_at(tail, 2));
+            table[n] = symbol_of(byte_at(tail, 1), byte_at(tail, 2)).unwrap_or(64);
             n += 1;
         }
-        i += 1;
     }
     n
 }
@@ -58,20 +54,13 @@ fn xml_stands(ranks: &[u8], s: &[u8], text: &[u8]) -> bool
     requires { WholeOutput ranks.now s.now × (length ranks.now ≤ 64) }
     ensures { Decides (xml (tree ranks.now s.now) ≡ text.now) result }
 {
-    let mut opened = [0u8; 4096];
-    let mut wanted = [0u8; 4096];
-    let mut at = 0;
-    let mut depth = 0;
+    let mut walk = TagWalk::start();
     let mut end = 0;
-    while at < s.len() || depth > 0 {
-        let step = next_tag(ranks, s, at, depth, &mut opened, &mut wanted);
-        let tag = step.tag;
+    while let Some(tag) = walk.next_tag(ranks, s) {
         if !tag_stands(text, end, tag) {
             return false;
         }
         end += tag_size(tag);
-        at = step.at;
-        depth = step.depth;
     }
     end == text.len()
 }
@@ -81,10 +70,7 @@ fn is_xml(ranks: &[u8], s: &[u8], text: &[u8]) -> bool
     requires { length ranks.now ≤ 64 }
     ensures { Decides (Both ranks.now s.now text.now) result }
 {
-    match measure_output(ranks, s) {
-        Extent::Tree(_, _) => xml_stands(ranks, s, text),
-        Extent::Bad => false,
-    }
+    measure_output(ranks, s).is_some() && xml_stands(ranks, s, text)
 }
 
 // Reads the XML of an output tree, and writes the tree to the start of the area `plan`: how many symbols it has.
@@ -94,6 +80,7 @@ pub fn read_xml(stock: &[u8], text: &[u8], plan: &mut [u8]) -> Result<usize, Ref
     if !alphabets_right(stock) {
         return Err(Refusal::BadAlphabets);
     }
+    // Stays: a table with its length, since nothing is allocated.
     let mut table = [0u8; 4096];
     let n = collect(text, &mut table);
     let kinds = &table[..n];
@@ -104,6 +91,6 @@ pub fn read_xml(stock: &[u8], text: &[u8], plan: &mut [u8]) -> Result<usize, Ref
     if plan.len() < n {
         return Err(Refusal::ShortTarget);
     }
-    copy_at(kinds, plan, 0);
+    plan[..n].copy_from_slice(kinds);
     Ok(n)
 }

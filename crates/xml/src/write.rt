@@ -8,11 +8,9 @@ ghost use Rattle.xml.specs.Inner.Measured.{WholeOutput, node_size};
 
 use crate::measure::measure_output;
 use crate::tag::write_tag;
-use crate::walk::next_tag;
+use crate::walk::TagWalk;
 use trees::alphabet::{alphabets_right, output_ranks};
-use trees::bytes::wide;
 use trees::refusal::Refusal;
-use trees::tree::Extent;
 
 // How many bytes the tags of a node with so many children have.
 fn node_size(rank: usize) -> usize
@@ -27,10 +25,8 @@ fn text_size(ranks: &[u8], s: &[u8]) -> usize
     ensures { result ≡ length (xml (tree ranks.now s.now)) }
 {
     let mut size = 0;
-    let mut i = 0;
-    while i < s.len() {
-        size += node_size(wide(ranks[wide(s[i])]));
-        i += 1;
+    for symbol in s {
+        size += node_size(usize::from(ranks[usize::from(*symbol)]));
     }
     size
 }
@@ -40,17 +36,10 @@ fn put_xml(ranks: &[u8], s: &[u8], text: &mut [u8]) -> usize
     requires { WholeOutput ranks.now s.now × (length ranks.now ≤ 64) × (length (xml (tree ranks.now s.now)) ≤ length text.old) }
     ensures { Put (xml (tree ranks.now s.now)) text.old text.new result }
 {
-    let mut opened = [0u8; 4096];
-    let mut wanted = [0u8; 4096];
-    let mut at = 0;
-    let mut depth = 0;
+    let mut walk = TagWalk::start();
     let mut end = 0;
-    while at < s.len() || depth > 0 {
-        let step = next_tag(ranks, s, at, depth, &mut opened, &mut wanted);
-        let tag = step.tag;
+    while let Some(tag) = walk.next_tag(ranks, s) {
         end = write_tag(text, end, tag);
-        at = step.at;
-        depth = step.depth;
     }
     end
 }
@@ -63,15 +52,12 @@ pub fn write_xml(stock: &[u8], plan: &[u8], text: &mut [u8]) -> Result<usize, Re
         return Err(Refusal::BadAlphabets);
     }
     let ranks = output_ranks(stock);
-    match measure_output(ranks, plan) {
-        Extent::Tree(_, _) => {
-            let n = text_size(ranks, plan);
-            if text.len() < n {
-                return Err(Refusal::ShortTarget);
-            }
-            let size = put_xml(ranks, plan, text);
-            Ok(size)
-        }
-        Extent::Bad => Err(Refusal::BadOutput),
+    if measure_output(ranks, plan).is_none() {
+        return Err(Refusal::BadOutput);
     }
+    let size = text_size(ranks, plan);
+    if text.len() < size {
+        return Err(Refusal::ShortTarget);
+    }
+    Ok(put_xml(ranks, plan, text))
 }

@@ -1,7 +1,8 @@
 -- The tags as the code has them, and what comparing them answers.
 use Rattle.std.specs.Prelude.{ℕ, ◌<◌, List, ◌≡◌, length, take}
-use Rattle.xml.specs.Xml.{opening, closing, empty}
+use Rattle.xml.specs.Xml.{tag, opening, closing, empty}
 use Rattle.xml.specs.declared.tag.Tag.{Tag}
+use Rattle.xml.specs.declared.tag.TagParts.{TagParts}
 use Rattle.xml.specs.declared.tag.Tag.TheVariants as tags
 
 abbrev pub tag_text : Tag → List ℕ
@@ -9,11 +10,18 @@ tag_text (tags.Empty k) = empty k
 tag_text (tags.Opening k) = opening k
 tag_text (tags.Closing k) = closing k
 
+abbrev pub tag_symbol : Tag → ℕ
+tag_symbol (tags.Empty k) = k
+tag_symbol (tags.Opening k) = k
+tag_symbol (tags.Closing k) = k
+
 -- its symbol has a code
 abbrev pub Known : Tag → Type 0
-Known (tags.Empty k) = k < 64
-Known (tags.Opening k) = k < 64
-Known (tags.Closing k) = k < 64
+Known t = tag_symbol t < 64
+
+-- its parts, one behind the other, are its text
+abbrev pub HasParts : Tag → TagParts → Type 0
+HasParts t p = (p.symbol ≡ tag_symbol t) × (tag_text t ≡ tag p.before.now p.symbol p.behind.now)
 
 -- l begins with w
 abbrev pub Begins : List ℕ → List ℕ → Type 0

@@ -1,49 +1,66 @@
 -- A walk over the code of an output tree, tag by tag, with the nodes that are open: of each its symbol and how many children are still to come.
-use Rattle.std.specs.Prelude.{ℕ, zero, suc, ◌+◌, ◌*◌, ◌-◌, ◌≤◌, ◌<◌, List, [], ◌∷◌, ◌++◌, ◌≡◌, length, get_or, drop}
+use Rattle.std.specs.Prelude.{ℕ, ◌+◌, ◌*◌, ◌-◌, ◌≤◌, ◌<◌, List, [], ◌∷◌, ◌++◌, ◌≡◌, Option, Some, None, length, take, drop, reverse}
 use Rattle.theory.specs.Term.{Terms, none, more}
 use Rattle.trees.specs.Inner.Decode.{firsts, rests}
 use Rattle.trees.specs.Inner.Symbols.{trees, IsTree}
 use Rattle.xml.specs.Xml.{xml, xmls, closing}
 use Rattle.xml.specs.Inner.Tags.{tag_text, Known}
-use Rattle.xml.specs.declared.walk.Step.{Step}
+use Rattle.xml.specs.declared.tag.Tag.{Tag}
+use Rattle.xml.specs.declared.walk.OpenNode.{OpenNode}
+use Rattle.xml.specs.declared.walk.TagWalk.{TagWalk}
 
--- the open nodes, the last first, from the tables of their symbols and of the children to come
-unfoldable pub frames : List ℕ → List ℕ → ℕ → List (ℕ × ℕ)
-frames opened wanted zero = []
-frames opened wanted (suc d) = (get_or opened d 0, get_or wanted d 0) ∷ frames opened wanted d
+abbrev pub open_node : ℕ → ℕ → OpenNode
+open_node k n = record { symbol = k; to_come = n }
+
+-- the first `depth` nodes, the last first
+unfoldable pub frames : List OpenNode → ℕ → List OpenNode
+frames nodes depth = reverse (take depth nodes)
+
+-- their symbols have codes
+abbrev pub AllKnown : List OpenNode → Type 0
+AllKnown [] = Unit {0}
+AllKnown (f ∷ fs) = (f.symbol < 64) × AllKnown fs
 
 -- the text still to come, where these nodes are open and ts are the trees behind
-unfoldable pub rest : List (ℕ × ℕ) → Terms ⊥ → List ℕ
+unfoldable pub rest : List OpenNode → Terms ⊥ → List ℕ
 rest [] ts = xmls ts
-rest (f ∷ fs) ts = xmls (firsts f.1 ts) ++ (closing f.0 ++ rest fs (rests f.1 ts))
+rest (f ∷ fs) ts = xmls (firsts f.to_come ts) ++ (closing f.symbol ++ rest fs (rests f.to_come ts))
 
 -- the same where the first of these trees is a child of the last open node that is counted no more, or the root
-abbrev pub rest_behind : List (ℕ × ℕ) → Terms ⊥ → List ℕ
+abbrev pub rest_behind : List OpenNode → Terms ⊥ → List ℕ
 rest_behind fs none = rest fs none
 rest_behind fs (more t ts) = xml t ++ rest fs ts
 
--- the tree is s; the walk is at symbol `at`, and `depth` nodes are open
-pub record Walk (outs s : List ℕ) (at depth : ℕ) (opened wanted : List ℕ) : Type 0 where
+-- before the first tag
+abbrev pub Starts : TagWalk → Type 0
+Starts w = (w.at ≡ 0) × (w.depth ≡ 0) × (length w.nodes ≡ 4096)
+
+-- the tree is s; the walk is at symbol w.at, and w.depth nodes are open
+pub record Walk (outs s : List ℕ) (w : TagWalk) : Type 0 where
   pub one : IsTree outs s
   pub kinds : length outs ≤ 64
   pub small : length s ≤ 4096
-  pub inside : at ≤ length s
-  pub shallow : depth ≤ at
-  pub known : (i : ℕ) → get_or opened i 0 < 64
-  pub opens : length opened ≡ 4096
-  pub lefts : length wanted ≡ 4096
+  pub inside : w.at ≤ length s
+  pub shallow : w.depth ≤ w.at
+  pub long : length w.nodes ≡ 4096
+  pub known : AllKnown (frames w.nodes w.depth)
 
 -- the text still to come
-abbrev pub to_come : List ℕ → List ℕ → ℕ → ℕ → List ℕ → List ℕ → List ℕ
-to_come outs s at depth opened wanted = rest (frames opened wanted depth) (trees outs (drop at s))
+abbrev pub to_come : List ℕ → List ℕ → TagWalk → List ℕ
+to_come outs s w = rest (frames w.nodes w.depth) (trees outs (drop w.at s))
 
 -- and at most so many tags
-abbrev pub tags_left : List ℕ → ℕ → ℕ → ℕ
-tags_left s at depth = 2 * (length s - at) + depth
+abbrev pub tags_left : List ℕ → TagWalk → ℕ
+tags_left s w = 2 * (length s - w.at) + w.depth
 
 -- one step: its tag begins the text `before`, and what is still to come is the rest
-pub record Steps (outs s before : List ℕ) (most : ℕ) (opened wanted : List ℕ) (r : Step) : Type 0 where
-  pub walk : Walk outs s r.at r.depth opened wanted
-  pub known : Known r.tag
-  pub text : before ≡ tag_text r.tag ++ to_come outs s r.at r.depth opened wanted
-  pub fewer : tags_left s r.at r.depth < most
+pub record Steps (outs s before : List ℕ) (most : ℕ) (w : TagWalk) (t : Tag) : Type 0 where
+  pub walk : Walk outs s w
+  pub known : Known t
+  pub text : before ≡ tag_text t ++ to_come outs s w
+  pub fewer : tags_left s w < most
+
+-- a step from w to w', or no text is still to come
+abbrev pub NextTag : List ℕ → List ℕ → TagWalk → TagWalk → Option Tag → Type 0
+NextTag outs s w w' None = to_come outs s w ≡ []
+NextTag outs s w w' (Some t) = Steps outs s (to_come outs s w) (tags_left s w) w' t

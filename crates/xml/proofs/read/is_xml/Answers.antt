@@ -1,13 +1,15 @@
 -- `is_xml` meets its contract. Assumes nothing.
+use mathlib.Core.Path.{sym, ◌∙◌}
 use Rattle.trees.proofs.Deciding.{decides_no}
 use Rattle.xml.proofs.Converting.{both_decides, no_both}
+use Rattle.xml.proofs.Standing.{was_whole, was_none}
 use Rattle.xml.proofs.read.is_xml.Goals as goal
 
 pub xml_stands-requires : goal.xml_stands-requires
-xml_stands-requires c = ((c.measure_output.ensures.whole _ _ c.in-Some.is).0, c.requires)
+xml_stands-requires c = (was_whole c.measure_output.ensures (sym c.is_some.ensures ∙ c.if-is_some.true), c.requires)
 
-pub returns-in-Some : goal.returns-in-Some
-returns-in-Some c = both_decides (c.measure_output.ensures.whole _ _ c.in-Some.is).0 c.xml_stands.ensures
+pub returns-then-is_some : goal.returns-then-is_some
+returns-then-is_some c = both_decides (was_whole c.measure_output.ensures (sym c.is_some.ensures ∙ c.if-is_some.true)) c.xml_stands.ensures
 
-pub returns-in-None : goal.returns-in-None
-returns-in-None c = decides_no (no_both (c.measure_output.ensures.bad c.in-None.is))
+pub returns-else-is_some : goal.returns-else-is_some
+returns-else-is_some c = let e = c.if-is_some.false in rw e (decides_no (no_both (was_none c.measure_output.ensures (sym c.is_some.ensures ∙ e))))

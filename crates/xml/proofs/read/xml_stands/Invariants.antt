@@ -5,9 +5,9 @@ use Rattle.xml.specs.Inner.Walk.{Walk, to_come, tags_left}
 use Rattle.xml.proofs.Comparing.{Comparing}
 use Rattle.xml.proofs.read.xml_stands.Given as goal
 
-abbrev pub invariant-loop-at : goal.invariant-loop-at
-invariant-loop-at l =
-    Walk l.ranks l.s l.at l.depth l.opened l.wanted × Comparing (xml (tree l.ranks l.s)) l.text (to_come l.ranks l.s l.at l.depth l.opened l.wanted) l.end
+abbrev pub invariant-loop-tag : goal.invariant-loop-tag
+invariant-loop-tag l =
+    Walk l.ranks l.s l.walk × Comparing (xml (tree l.ranks l.s)) l.text (to_come l.ranks l.s l.walk) l.end
 
-abbrev pub decreases-loop-at : goal.decreases-loop-at
-decreases-loop-at l = tags_left l.s l.at l.depth
+abbrev pub decreases-loop-tag : goal.decreases-loop-tag
+decreases-loop-tag l = tags_left l.s l.walk

@@ -5,9 +5,9 @@ use Rattle.xml.specs.Xml.{xml}
 use Rattle.xml.specs.Inner.Walk.{Walk, to_come, tags_left}
 use Rattle.xml.proofs.write.put_xml.Given as goal
 
-abbrev pub invariant-loop-at : goal.invariant-loop-at
-invariant-loop-at l =
-    Walk l.ranks l.s l.at l.depth l.opened l.wanted × Writing (xml (tree l.ranks l.s)) 0 l.initial.text (to_come l.ranks l.s l.at l.depth l.opened l.wanted) l.end l.text
+abbrev pub invariant-loop-tag : goal.invariant-loop-tag
+invariant-loop-tag l =
+    Walk l.ranks l.s l.walk × Writing (xml (tree l.ranks l.s)) 0 l.initial.text (to_come l.ranks l.s l.walk) l.end l.text
 
-abbrev pub decreases-loop-at : goal.decreases-loop-at
-decreases-loop-at l = tags_left l.s l.at l.depth
+abbrev pub decreases-loop-tag : goal.decreases-loop-tag
+decreases-loop-tag l = tags_left l.s l.walk

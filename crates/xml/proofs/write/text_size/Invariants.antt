@@ -1,11 +1,6 @@
--- `text_size` meets its contract. The invariant: the tags of the symbols before i have this size. Assumes nothing.
-use Prim.Native.Nat.{◌-◌}
-use lib.ListN.{length}
+-- `text_size` meets its contract. The invariant: the tags of the symbols passed have this size. Assumes nothing.
 use Rattle.xml.proofs.Lengths.{Added}
 use Rattle.xml.proofs.write.text_size.Given as goal
 
-abbrev pub invariant-loop-i : goal.invariant-loop-i
-invariant-loop-i l = Added l.ranks l.s l.size l.i
-
-abbrev pub decreases-loop-i : goal.decreases-loop-i
-decreases-loop-i l = length l.s - l.i
+abbrev pub invariant-loop-symbol : goal.invariant-loop-symbol
+invariant-loop-symbol l = Added l.ranks l.s l.size l.symbol-index
