@@ -1,6 +1,6 @@
 -- A loop that writes a list from a position on, piece by piece, as far as there is room, and counts on up to a limit; and counts levels.
 -- Assumes nothing.
-use Prim.Native.Nat.{ℕ, ◌+◌, ◌-◌, ◌≤◌, ◌<◌, min, max}
+use Prim.Native.Nat.{ℕ, ◌+◌, ◌≤◌, ◌<◌, min, max}
 use native.Mathlib.Numerals.{add-one}
 use native.Mathlib.Omega.{arith}
 use mathlib.Core.Path.{◌≡◌, refl, sym, ap, ap₂, ◌∙◌}
@@ -114,13 +114,12 @@ module _ {w start short before : List ℕ} {l limit n m : ℕ} (F : Wrote w 0 li
   }
 
   -- there was room for it, and it was copied from there
-  pub copied : {after : List ℕ} → n ≤ length start → length start ≤ limit → n ≤ length before → m ≤ 256 → after ≡ sets before 0 (take (n - 0) short) → Emitted w l before after n m
+  pub copied : {after : List ℕ} → n ≤ length start → length start ≤ limit → n ≤ length before → m ≤ 256 → after ≡ sets before 0 (take n short) → Emitted w l before after n m
   copied h i k few e =
       let f : n ≡ length w = omega (arith, F.end) in
-      let g : n - 0 ≡ length w = omega arith in
       record {
         fits = λ _. (f, D.right (omega arith));
-        wrote = λ _ _. e ∙ ap (sets before 0) (ap₂ take g (F.wrote (omega arith)) ∙ start_of w start (omega arith));
+        wrote = λ _ _. e ∙ ap (sets before 0) (ap₂ take f (F.wrote (omega arith)) ∙ start_of w start (omega arith));
         full = λ x. absurd (omega arith);
         deep = λ x. absurd (omega arith);
       }

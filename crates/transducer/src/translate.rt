@@ -1,4 +1,4 @@
-// Result<usize, Refusal> (01: sewing): what the transducer of a file gives on an input tree.
+// Translation (01: sewing): what the transducer of a file gives on an input tree.
 ghost use Rattle.std.specs.Prelude.{◌≡◌, ◌+◌, ◌/◌, ◌%◌, ◌^◌, ◌≤◌, ◌<◌, min, max, length, get_or, set, take, drop};
 ghost use Rattle.std.proofs.lemmas.List.Edits.{sets};
 ghost use Rattle.formats.specs.Inner.Layout.{body_number};
@@ -11,12 +11,11 @@ use crate::depth::fill_depths;
 use formats::bodies::fill_starts;
 use formats::file::{copy_at, counts_end, read_transducer};
 use trees::alphabet::{input_ranks, output_ranks};
-use trees::bytes::{larger, number, wide};
 use trees::refusal::Refusal;
 use trees::tree::measure_all;
 
 // Where what was written ends, and how many levels it has, or 257 where there are more.
-#[derive(Drop)]
+#[derive(Clone, Copy, Debug, PartialEq, Eq)]
 struct Emission {
     end: usize,
     levels: usize,
@@ -27,7 +26,7 @@ fn body_at(ins: &[u8], s: &[u8], q: usize, p: usize) -> usize
     requires { (p < length s.now) × (body_number ins.now q (get_or s.now p 0) < 2 ^ 64) }
     ensures { result ≡ body_number ins.now q (get_or s.now p 0) }
 {
-    1 + q * ins.len() + wide(s[p])
+    1 + q * ins.len() + usize::from(s[p])
 }
 
 // Where what is noted of state `q` and the tree at `p` stands.
@@ -54,37 +53,12 @@ fn noted(key: u32, levels: usize) -> u32
     512 * key + levels as u32
 }
 
-// A number that was noted.
-fn long(x: u32) -> usize
-    ensures { result ≡ x }
-{
-    x as usize
-}
-
-// How far what is written is noted: up to the limit, and not past 32 bits.
-fn near(limit: usize) -> usize
-    ensures { result ≡ min limit 4294967295 }
-{
-    if limit < 4294967295 {
-        limit
-    } else {
-        4294967295
-    }
-}
-
 // The larger of `levels` and of `more` levels at this depth, or 257 where that is more.
 fn deeper(levels: usize, depth: u8, more: usize) -> usize
     requires { (levels ≤ 257) × (more ≤ 257) }
     ensures { result ≡ few_levels (max levels (depth + more)) }
 {
-    let other = wide(depth) + more;
-    if other <= levels {
-        return levels;
-    }
-    if other > 257 {
-        return 257;
-    }
-    other
+    levels.max((usize::from(depth) + more).min(257))
 }
 
 // `have` and `n` more, or one past `limit` where that passes it.
@@ -92,23 +66,7 @@ fn added(have: usize, n: usize, limit: usize) -> usize
     requires { (have ≤ limit) × (limit + 1 < 2 ^ 64) }
     ensures { result ≡ min (have + n) (limit + 1) }
 {
-    if n > limit - have {
-        limit + 1
-    } else {
-        have + n
-    }
-}
-
-// Copies the `n` symbols from `from` on to `at`, behind them.
-fn copy_within(out: &mut [u8], from: usize, n: usize, at: usize)
-    requires { (from + n ≤ at) × (at + n ≤ length out.old) }
-    ensures { out.new ≡ sets out.old at (take n (drop from out.old)) }
-{
-    let mut k = 0;
-    while k < n {
-        out[at + k] = out[from + k];
-        k += 1;
-    }
+    have.saturating_add(n).min(limit + 1)
 }
 
 // Writes one symbol at `at`, where there is room for it.
@@ -151,21 +109,21 @@ fn apply(
     let key = note_key(q, p);
     let note = keys[k];
     if note / 512 == key {
-        let n = long(sizes[k]);
+        let n = sizes[k] as usize;
         let e = added(at, n, limit);
         *deep = (note % 512) as usize;
         if e > out.len() {
             return e;
         }
-        let place = long(places[k]);
+        let place = places[k] as usize;
         if place > 0 {
-            copy_within(out, place - n, n, at);
+            out.copy_within(place - n..place, at);
             return e;
         }
     }
     let b = body_at(ins, s, q, p);
-    let from = number(starts[b]);
-    let to = number(starts[b + 1]);
+    let from = usize::from(starts[b]);
+    let to = usize::from(starts[b + 1]);
     let r = walk(
         from,
         to,
@@ -185,7 +143,7 @@ fn apply(
         out,
         limit,
     );
-    if r <= near(limit) {
+    if r <= limit.min(u32::MAX as usize) {
         keys[k] = noted(key, *deep);
         sizes[k] = (r - at) as u32;
         places[k] = r as u32;
@@ -221,25 +179,23 @@ fn walk(
 {
     let mut w = at;
     let mut levels = 0;
-    let mut j = from;
-    while j < to {
+    for j in from..to {
         if w > limit {
             *deep = levels;
             return w;
         }
-        let i = wide(marks[2 * j]);
+        let i = usize::from(marks[2 * j]);
         let x = marks[2 * j + 1];
         let d = depths[j];
-        j += 1;
         if i == 0 {
             put(out, w, x);
             w += 1;
             levels = deeper(levels, d, 1);
             continue;
         }
-        let mut l: usize = 0;
+        let mut l = 0;
         w = apply(
-            wide(x),
+            usize::from(x),
             skip(ends, below, i - 1),
             left,
             w,
@@ -324,7 +280,7 @@ fn emit(
     let mut keys = [0u32; 4096];
     let mut sizes = [0u32; 4096];
     let mut short = [0u8; 8192];
-    let mut levels: usize = 0;
+    let mut levels = 0;
     let n = fill(
         ins,
         starts,
@@ -338,26 +294,17 @@ fn emit(
         &mut sizes,
         &mut levels,
         &mut short,
-        larger(out.len(), 8192),
+        out.len().max(8192),
     );
     if n > out.len() {
-        return Emission {
-            end: n,
-            levels: levels,
-        };
+        return Emission { end: n, levels };
     }
     if levels > 256 {
-        return Emission {
-            end: n,
-            levels: levels,
-        };
+        return Emission { end: n, levels };
     }
     if n <= 8192 {
-        copy_at(&short[0..n], out, 0);
-        return Emission {
-            end: n,
-            levels: levels,
-        };
+        copy_at(&short[..n], out, 0);
+        return Emission { end: n, levels };
     }
     let end = fill(
         ins,
@@ -374,10 +321,7 @@ fn emit(
         out,
         out.len(),
     );
-    Emission {
-        end: end,
-        levels: levels,
-    }
+    Emission { end, levels }
 }
 
 // Translates by the transducer whose n, counts and marks these are.
@@ -394,6 +338,7 @@ fn translate_by(
 {
     let ins = input_ranks(stock);
     let bodies = 1 + n * ins.len();
+    // Stay: arrays of fixed size, since nothing is allocated (docs/AREAS.md).
     let mut ends = [0u16; 4096];
     let mut starts = [0u16; 2050];
     let mut depths = [0u8; 8192];
@@ -401,7 +346,7 @@ fn translate_by(
     let tree = measure_all(ins, s).ok_or(Refusal::BadTree)?;
     fill_ends(ins, s, &mut ends);
     fill_depths(output_ranks(stock), &starts, bodies, marks, &mut depths);
-    let to = number(starts[1]);
+    let to = usize::from(starts[1]);
     let w = emit(ins, &starts, marks, &depths, s, &ends, to, tree.levels, out);
     if w.end > out.len() {
         return Err(Refusal::LongOutput);

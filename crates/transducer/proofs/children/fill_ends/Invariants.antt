@@ -6,6 +6,3 @@ use Rattle.transducer.proofs.children.fill_ends.Given as goal
 
 abbrev pub invariant-loop-k : goal.invariant-loop-k
 invariant-loop-k l = NotedFrom l.ins l.s l.ends l.k × (length l.ends ≡ length l.initial.ends)
-
-abbrev pub decreases-loop-k : goal.decreases-loop-k
-decreases-loop-k l = l.k

@@ -6,7 +6,8 @@ use native.Mathlib.Omega.{arith}
 use lib.ListN.{get_or}
 use Rattle.transducer.specs.Inner.Written.{applied, walked, applied_levels, walked_levels}
 use Rattle.transducer.proofs.Filling.{begin, one_more_lem, word_more, wrote_as, passed, finish, begin_levels, levels_more, levels_passed, levels_done, one_level, levelled_as}
-use Rattle.transducer.proofs.Noting.{standing_on, one_standing, no_room, levels_noted, copy_fits, copied_again}
+use Rattle.trees.proofs.Numbers.{min_is}
+use Rattle.transducer.proofs.Noting.{copy_is, standing_on, one_standing, no_room, levels_noted, copy_fits, copied_again}
 use Rattle.transducer.proofs.Walks.{walk_symbol, levels_symbol, to_skip, to_apply, walk_end, levels_end, body_fits, body_walk, some_left, few_noted}
 use Rattle.transducer.proofs.translate.+apply_walk.Goals as goal
 
@@ -38,8 +39,8 @@ apply-returns-then-e-out t c =
     let k = c.slot-k.result in
     let f = (few_noted P.0).1 in
     let e = c.if-note-key.true ∙ c.note_key-key.ensures in
-    let n = no_room P.2 P.3 k a.q a.p f e c.long-n.ensures c.added-e.ensures c.if-e-out.true in
-    record { wrote = n.0; levelled = levels_noted P.2 P.3 k a.q a.p f e c.long-n.ensures c.added-e.ensures refl; standing = n.1 }
+    let n = no_room P.2 P.3 k a.q a.p f e refl c.added-e.ensures c.if-e-out.true in
+    record { wrote = n.0; levelled = levels_noted P.2 P.3 k a.q a.p f e refl c.added-e.ensures refl; standing = n.1 }
 
 pub apply-offset_bounds-places-k : goal.apply-offset_bounds-places-k
 apply-offset_bounds-places-k t c = omega (arith, c.slot-k.ensures)
@@ -50,13 +51,13 @@ apply-bounds-places-k t c = omega (arith, c.slot-k.ensures)
 pub apply-overflow_sub-place : goal.apply-overflow_sub-place
 apply-overflow_sub-place t c =
     let P = c.requires in
-    (copy_fits P.2 P.3 c.slot-k.result c.args.q c.args.p (few_noted P.0).1 (c.if-note-key.true ∙ c.note_key-key.ensures) c.long-n.ensures c.added-e.ensures c.if-e-out.false c.long-place.ensures c.if-place-gt0.true).0
+    (copy_fits P.2 P.3 c.slot-k.result c.args.q c.args.p (few_noted P.0).1 (c.if-note-key.true ∙ c.note_key-key.ensures) refl c.added-e.ensures c.if-e-out.false refl c.if-place-gt0.true).0
 
 pub apply-copy_within-requires : goal.apply-copy_within-requires
 apply-copy_within-requires t c =
     let P = c.requires in
-    let f = copy_fits P.2 P.3 c.slot-k.result c.args.q c.args.p (few_noted P.0).1 (c.if-note-key.true ∙ c.note_key-key.ensures) c.long-n.ensures c.added-e.ensures c.if-e-out.false c.long-place.ensures c.if-place-gt0.true in
-    (f.1, f.2)
+    let f = copy_fits P.2 P.3 c.slot-k.result c.args.q c.args.p (few_noted P.0).1 (c.if-note-key.true ∙ c.note_key-key.ensures) refl c.added-e.ensures c.if-e-out.false refl c.if-place-gt0.true in
+    record { start_le_end = omega arith; in_bounds = omega arith; dest_in_bounds = omega arith; not_exhausted = tt }
 
 pub apply-returns-then-place-gt0 : goal.apply-returns-then-place-gt0
 apply-returns-then-place-gt0 t c =
@@ -65,8 +66,9 @@ apply-returns-then-place-gt0 t c =
     let k = c.slot-k.result in
     let f = (few_noted P.0).1 in
     let e = c.if-note-key.true ∙ c.note_key-key.ensures in
-    let n = copied_again P.2 P.3 k a.q a.p f e c.long-n.ensures c.added-e.ensures c.if-e-out.false c.long-place.ensures c.if-place-gt0.true c.copy_within.ensures in
-    record { wrote = n.0; levelled = levels_noted P.2 P.3 k a.q a.p f e c.long-n.ensures c.added-e.ensures refl; standing = n.1 }
+    let fits = copy_fits P.2 P.3 k a.q a.p f e refl c.added-e.ensures c.if-e-out.false refl c.if-place-gt0.true in
+    let n = copied_again P.2 P.3 k a.q a.p f e refl c.added-e.ensures c.if-e-out.false refl c.if-place-gt0.true (c.copy_within.ensures.after ∙ copy_is a.out.now _ _ _ a.at (omega arith) (omega arith) fits.2) in
+    record { wrote = n.0; levelled = levels_noted P.2 P.3 k a.q a.p f e refl c.added-e.ensures refl; standing = n.1 }
 
 pub apply-body_at-b-requires : goal.apply-body_at-b-requires
 apply-body_at-b-requires t c = let R = c.requires.0 in (R.place, omega (arith, body_fits R, R.all_starts))
@@ -92,54 +94,54 @@ apply-overflow_sub-left t c = omega (arith, some_left c.requires.0)
 pub apply-walk-r-requires : goal.apply-walk-r-requires
 apply-walk-r-requires t c =
     let P = c.requires in
-    let w = body_walk P.0 c.body_at-b.ensures c.number-from.ensures c.number-to.ensures in
+    let w = body_walk P.0 c.body_at-b.ensures c.from-from.ensures c.from-to.ensures in
     (omega (arith, w.3, some_left P.0), (w.0, P.1, P.2, P.3))
 
 pub apply-noted-requires : goal.apply-noted-requires
 apply-noted-requires t c = let f = few_noted c.requires.0 in (omega (arith, c.note_key-key.ensures, f.0, f.1), omega (arith, c.walk-r.ensures.levelled.few))
 
-pub apply-offset_bounds-keys-k-then-r-near : goal.apply-offset_bounds-keys-k-then-r-near
-apply-offset_bounds-keys-k-then-r-near t c = omega (arith, c.slot-k.ensures)
+pub apply-offset_bounds-keys-k-then-r-min : goal.apply-offset_bounds-keys-k-then-r-min
+apply-offset_bounds-keys-k-then-r-min t c = omega (arith, c.slot-k.ensures)
 
-pub apply-bounds-keys-k-then-r-near : goal.apply-bounds-keys-k-then-r-near
-apply-bounds-keys-k-then-r-near t c = omega (arith, c.slot-k.ensures)
+pub apply-bounds-keys-k-then-r-min : goal.apply-bounds-keys-k-then-r-min
+apply-bounds-keys-k-then-r-min t c = omega (arith, c.slot-k.ensures)
 
 pub apply-overflow_sub-sizes : goal.apply-overflow_sub-sizes
 apply-overflow_sub-sizes t c = omega (arith, c.walk-r.ensures.wrote.end, c.requires.3.low)
 
 pub apply-overflow_cast-sizes : goal.apply-overflow_cast-sizes
-apply-overflow_cast-sizes t c = omega (arith, c.if-r-near.true, c.near.ensures)
+apply-overflow_cast-sizes t c = omega (arith, c.if-r-min.true, c.min.ensures, min_is c.args.limit 4294967295)
 
-pub apply-offset_bounds-sizes-k-then-r-near : goal.apply-offset_bounds-sizes-k-then-r-near
-apply-offset_bounds-sizes-k-then-r-near t c = omega (arith, c.slot-k.ensures)
+pub apply-offset_bounds-sizes-k-then-r-min : goal.apply-offset_bounds-sizes-k-then-r-min
+apply-offset_bounds-sizes-k-then-r-min t c = omega (arith, c.slot-k.ensures)
 
-pub apply-bounds-sizes-k-then-r-near : goal.apply-bounds-sizes-k-then-r-near
-apply-bounds-sizes-k-then-r-near t c = omega (arith, c.slot-k.ensures)
+pub apply-bounds-sizes-k-then-r-min : goal.apply-bounds-sizes-k-then-r-min
+apply-bounds-sizes-k-then-r-min t c = omega (arith, c.slot-k.ensures)
 
 pub apply-overflow_cast-places : goal.apply-overflow_cast-places
-apply-overflow_cast-places t c = omega (arith, c.if-r-near.true, c.near.ensures)
+apply-overflow_cast-places t c = omega (arith, c.if-r-min.true, c.min.ensures, min_is c.args.limit 4294967295)
 
-pub apply-offset_bounds-places-k-then-r-near : goal.apply-offset_bounds-places-k-then-r-near
-apply-offset_bounds-places-k-then-r-near t c = omega (arith, c.slot-k.ensures)
+pub apply-offset_bounds-places-k-then-r-min : goal.apply-offset_bounds-places-k-then-r-min
+apply-offset_bounds-places-k-then-r-min t c = omega (arith, c.slot-k.ensures)
 
-pub apply-bounds-places-k-then-r-near : goal.apply-bounds-places-k-then-r-near
-apply-bounds-places-k-then-r-near t c = omega (arith, c.slot-k.ensures)
+pub apply-bounds-places-k-then-r-min : goal.apply-bounds-places-k-then-r-min
+apply-bounds-places-k-then-r-min t c = omega (arith, c.slot-k.ensures)
 
-pub apply-returns-then-r-near : goal.apply-returns-then-r-near
-apply-returns-then-r-near t c =
+pub apply-returns-then-r-min : goal.apply-returns-then-r-min
+apply-returns-then-r-min t c =
     let a = c.args in
     let P = c.requires in
-    let w = body_walk P.0 c.body_at-b.ensures c.number-from.ensures c.number-to.ensures in
+    let w = body_walk P.0 c.body_at-b.ensures c.from-from.ensures c.from-to.ensures in
     let E = c.walk-r.ensures in
     let W = wrote_as w.1 E.wrote in
     let L = levelled_as (w.2 a.depths.now) E.levelled in
     let N = c.noted.ensures in
-    let low : c.walk-r.result ≤ a.limit = omega (arith, c.if-r-near.true, c.near.ensures) in
+    let low : c.walk-r.result ≤ a.limit = omega (arith, c.if-r-min.true, c.min.ensures, min_is c.args.limit 4294967295) in
     record { wrote = W; levelled = L; standing = one_standing a.out.now E.standing c.slot-k.result a.q a.p (c.walk-r.result - a.at) a.at c.noted.result c.slot-k.ensures (few_noted P.0).1 c.walk-r.auto.out (omega (arith, W.end, low)) W.wrote refl (N.0 ∙ c.note_key-key.ensures) (N.1 ∙ L.right low) refl refl refl }
 
-pub apply-returns-else-r-near : goal.apply-returns-else-r-near
-apply-returns-else-r-near t c =
-    let w = body_walk c.requires.0 c.body_at-b.ensures c.number-from.ensures c.number-to.ensures in
+pub apply-returns-else-r-min : goal.apply-returns-else-r-min
+apply-returns-else-r-min t c =
+    let w = body_walk c.requires.0 c.body_at-b.ensures c.from-from.ensures c.from-to.ensures in
     let W = c.walk-r.ensures in
     record { wrote = wrote_as w.1 W.wrote; levelled = levelled_as (w.2 c.args.depths.now) W.levelled; standing = W.standing }
 
@@ -147,13 +149,13 @@ pub walk-loop-j-init : goal.walk-loop-j-init
 walk-loop-j-init t c =
     let a = c.args in
     let P = c.requires in
-    (omega arith, P.0.ordered, begin (walked a.ins.now a.starts.now a.marks.now a.s.now a.below a.from a.to) a.out.now P.3, begin_levels _ _ _, P.2)
+    (begin (walked a.ins.now a.starts.now a.marks.now a.s.now a.below a.from a.to) a.out.now P.3, begin_levels (walked_levels a.ins.now a.starts.now a.marks.now a.depths.now a.s.now a.below a.from a.to) a.limit a.at, P.2)
 
 pub walk-shape_of-out-then-w-limit : goal.walk-shape_of-out-then-w-limit
-walk-shape_of-out-then-w-limit t c = c.loop-j.invariant.2.same
+walk-shape_of-out-then-w-limit t c = c.loop-j.invariant.0.same
 
 pub walk-returns-then-w-limit : goal.walk-returns-then-w-limit
-walk-returns-then-w-limit t c = let l = c.loop-j in record { wrote = passed l.invariant.2 (omega (arith, c.if-w-limit.true)); levelled = levels_passed l.invariant.3 (omega (arith, c.if-w-limit.true)); standing = l.invariant.4 }
+walk-returns-then-w-limit t c = let l = c.loop-j in record { wrote = passed l.invariant.0 (omega (arith, c.if-w-limit.true)); levelled = levels_passed l.invariant.1 (omega (arith, c.if-w-limit.true)); standing = l.invariant.2 }
 
 pub walk-overflow_mul-j : goal.walk-overflow_mul-j
 walk-overflow_mul-j t c = omega (arith, c.requires.0.inside)
@@ -173,14 +175,11 @@ walk-bounds-marks-j-in-loop-j t c = omega (arith, c.requires.0.inside)
 pub walk-bounds-depths-j : goal.walk-bounds-depths-j
 walk-bounds-depths-j t c = let P = c.requires in omega (arith, c.loop-j-test.true, P.0.inside, P.1.few_marks)
 
-pub walk-overflow_add-j : goal.walk-overflow_add-j
-walk-overflow_add-j t c = omega (arith, c.requires.0.inside)
-
 pub walk-overflow_add-w : goal.walk-overflow_add-w
 walk-overflow_add-w t c = omega (arith, c.if-w-limit.false, c.requires.3.small)
 
 pub walk-deeper-levels-requires : goal.walk-deeper-levels-requires
-walk-deeper-levels-requires t c = (c.loop-j.invariant.3.few, omega arith)
+walk-deeper-levels-requires t c = (c.loop-j.invariant.1.few, omega arith)
 
 pub walk-loop-j-preserved-then-i-eq0 : goal.walk-loop-j-preserved-then-i-eq0
 walk-loop-j-preserved-then-i-eq0 t c =
@@ -189,27 +188,27 @@ walk-loop-j-preserved-then-i-eq0 t c =
     let l = c.loop-j in
     let less = c.loop-j-test.true in
     let low : l.w ≤ a.limit = omega (arith, c.if-w-limit.false) in
-    let z = sym c.wide-i.ensures ∙ c.if-i-eq0.true in
+    let z = sym c.from-i.ensures ∙ c.if-i-eq0.true in
     let e = walk_symbol a.ins.now a.starts.now a.marks.now a.s.now a.below l.j a.to less P.0.inside z in
     let f = levels_symbol a.ins.now a.starts.now a.marks.now a.s.now a.below l.j a.to less P.0.inside a.depths.now (omega (arith, P.0.inside, P.1.few_marks, P.1.all_depths)) z in
     let x = get_or a.marks.now (2 * l.j + 1) 0 in
-    (omega arith, omega arith, one_more_lem l.invariant.2 x (walked a.ins.now a.starts.now a.marks.now a.s.now a.below (l.j + 1) a.to) low e refl c.put.ensures, levels_more l.invariant.3 (get_or a.depths.now l.j 0) 1 1 (walked_levels a.ins.now a.starts.now a.marks.now a.depths.now a.s.now a.below (l.j + 1) a.to) low f (one_level a.limit (l.w + 1)) c.deeper-levels.ensures, standing_on (x ∷ []) l.invariant.4 c.put.ensures (omega arith))
+    (one_more_lem l.invariant.0 x (walked a.ins.now a.starts.now a.marks.now a.s.now a.below (l.j + 1) a.to) low e refl c.put.ensures, levels_more l.invariant.1 (get_or a.depths.now l.j 0) 1 1 (walked_levels a.ins.now a.starts.now a.marks.now a.depths.now a.s.now a.below (l.j + 1) a.to) low f (one_level a.limit (l.w + 1)) c.deeper-levels.ensures, standing_on (x ∷ []) l.invariant.2 c.put.ensures (omega arith))
 
 pub walk-skip-requires : goal.walk-skip-requires
 walk-skip-requires t c =
     let l = c.loop-j in
-    λ k h. to_skip c.requires.0 l.j l.invariant.0 c.loop-j-test.true c.wide-i.ensures c.if-i-eq0.false k (omega arith)
+    λ k h. to_skip c.requires.0 l.j l.auto.j c.loop-j-test.true c.from-i.ensures c.if-i-eq0.false k (omega arith)
 
 pub walk-apply-w-requires : goal.walk-apply-w-requires
 walk-apply-w-requires t c =
     let P = c.requires in
     let l = c.loop-j in
     let less = c.loop-j-test.true in
-    let w = to_apply P.0 l.j l.invariant.0 less c.wide-i.ensures c.if-i-eq0.false c.wide.ensures c.skip.ensures in
-    (omega (arith, l.invariant.0, less), (w.0, P.1, l.invariant.4, record { low = omega (arith, c.if-w-limit.false); inside = omega (arith, l.invariant.2.same, P.3.inside); small = P.3.small }))
+    let w = to_apply P.0 l.j l.auto.j less c.from-i.ensures c.if-i-eq0.false c.from.ensures c.skip.ensures in
+    (omega (arith, l.auto.j, less), (w.0, P.1, l.invariant.2, record { low = omega (arith, c.if-w-limit.false); inside = omega (arith, l.invariant.0.same, P.3.inside); small = P.3.small }))
 
 pub walk-deeper-levels-requires-in-loop-j : goal.walk-deeper-levels-requires-in-loop-j
-walk-deeper-levels-requires-in-loop-j t c = (omega (arith, c.loop-j.invariant.3.few), c.apply-w.ensures.levelled.few)
+walk-deeper-levels-requires-in-loop-j t c = (omega (arith, c.loop-j.invariant.1.few), c.apply-w.ensures.levelled.few)
 
 pub walk-loop-j-preserved : goal.walk-loop-j-preserved
 walk-loop-j-preserved t c =
@@ -217,19 +216,19 @@ walk-loop-j-preserved t c =
     let P = c.requires in
     let l = c.loop-j in
     let less = c.loop-j-test.true in
-    let w = to_apply P.0 l.j l.invariant.0 less c.wide-i.ensures c.if-i-eq0.false c.wide.ensures c.skip.ensures in
-    let q = c.wide.result in
+    let w = to_apply P.0 l.j l.auto.j less c.from-i.ensures c.if-i-eq0.false c.from.ensures c.skip.ensures in
+    let q = c.from.result in
     let p = c.skip.result in
     let A = c.apply-w.ensures in
     let low : l.w ≤ a.limit = omega (arith, c.if-w-limit.false) in
     let f = w.2 a.depths.now (omega (arith, P.0.inside, P.1.few_marks, P.1.all_depths)) in
-    (omega arith, omega arith, word_more l.invariant.2 (applied a.ins.now a.starts.now a.marks.now a.s.now q p) (walked a.ins.now a.starts.now a.marks.now a.s.now a.below (l.j + 1) a.to) w.1 c.apply-w.auto.out A.wrote, levels_more l.invariant.3 (get_or a.depths.now l.j 0) (applied_levels a.ins.now a.starts.now a.marks.now a.depths.now a.s.now q p) c.apply-w.new.deep (walked_levels a.ins.now a.starts.now a.marks.now a.depths.now a.s.now a.below (l.j + 1) a.to) low f A.levelled c.deeper-levels-in-loop-j.ensures, A.standing)
+    (word_more l.invariant.0 (applied a.ins.now a.starts.now a.marks.now a.s.now q p) (walked a.ins.now a.starts.now a.marks.now a.s.now a.below (l.j + 1) a.to) w.1 c.apply-w.auto.out A.wrote, levels_more l.invariant.1 (get_or a.depths.now l.j 0) (applied_levels a.ins.now a.starts.now a.marks.now a.depths.now a.s.now q p) c.apply-w.new.deep (walked_levels a.ins.now a.starts.now a.marks.now a.depths.now a.s.now a.below (l.j + 1) a.to) low f A.levelled c.deeper-levels-in-loop-j.ensures, A.standing)
 
 pub walk-shape_of-out : goal.walk-shape_of-out
-walk-shape_of-out t c = c.loop-j.invariant.2.same
+walk-shape_of-out t c = c.loop-j.invariant.0.same
 
 pub walk-returns : goal.walk-returns
 walk-returns t c =
     let a = c.args in
     let l = c.loop-j in
-    record { wrote = finish l.invariant.2 (walk_end a.ins.now a.starts.now a.marks.now a.s.now a.below l.j a.to l.invariant.1 c.loop-j-test.false); levelled = levels_done l.invariant.3 (levels_end a.ins.now a.starts.now a.marks.now a.depths.now a.s.now a.below l.j a.to l.invariant.1 c.loop-j-test.false); standing = l.invariant.4 }
+    record { wrote = finish l.invariant.0 (walk_end a.ins.now a.starts.now a.marks.now a.s.now a.below l.j a.to (l.auto.j-end c.requires.0.ordered) c.loop-j-test.false); levelled = levels_done l.invariant.1 (levels_end a.ins.now a.starts.now a.marks.now a.depths.now a.s.now a.below l.j a.to (l.auto.j-end c.requires.0.ordered) c.loop-j-test.false); standing = l.invariant.2 }

@@ -29,25 +29,25 @@ pub emit-w-requires : goal.emit-w-requires
 emit-w-requires c =
     let F = c.fill_starts in
     let E = c.fill_ends in
-    (can_walk c.requires c.input_ranks-ins.ensures c.measure_all.ensures (some_given _ c.ok_or.ensures.value c.in_ok-tree.was) F.new.starts F.ensures.starts (F.auto.starts ∙ length-replicate {A = ℕ} 2050 0) c.number-to.result c.number-to.ensures E.ensures (E.auto.ends ∙ length-replicate {A = ℕ} 4096 0), depths_fit c.requires c.fill_depths.ensures.long)
+    (can_walk c.requires c.input_ranks-ins.ensures c.measure_all.ensures (some_given _ c.ok_or.ensures.value c.in_ok-tree.was) F.new.starts F.ensures.starts (F.auto.starts ∙ length-replicate {A = ℕ} 2050 0) c.from-to.result c.from-to.ensures E.ensures (E.auto.ends ∙ length-replicate {A = ℕ} 4096 0), depths_fit c.requires c.fill_depths.ensures.long)
 
 pub returns-then-w-out : goal.returns-then-w-out
 returns-then-w-out c =
     let F = c.fill_starts in
     let D = c.fill_depths in
-    too_long c.requires c.input_ranks-ins.ensures c.measure_all.ensures (some_given _ c.ok_or.ensures.value c.in_ok-tree.was) F.new.starts F.ensures.starts (F.auto.starts ∙ length-replicate {A = ℕ} 2050 0) c.number-to.result c.number-to.ensures c.output_ranks.ensures D.new.depths D.ensures.noted c.emit-w.ensures (omega (arith, c.if-w-out.true))
+    too_long c.requires c.input_ranks-ins.ensures c.measure_all.ensures (some_given _ c.ok_or.ensures.value c.in_ok-tree.was) F.new.starts F.ensures.starts (F.auto.starts ∙ length-replicate {A = ℕ} 2050 0) c.from-to.result c.from-to.ensures c.output_ranks.ensures D.new.depths D.ensures.noted c.emit-w.ensures (omega (arith, c.if-w-out.true))
 
 pub returns-then-w-gt256 : goal.returns-then-w-gt256
 returns-then-w-gt256 c =
     let F = c.fill_starts in
     let D = c.fill_depths in
-    too_deep c.requires c.input_ranks-ins.ensures c.measure_all.ensures (some_given _ c.ok_or.ensures.value c.in_ok-tree.was) F.new.starts F.ensures.starts (F.auto.starts ∙ length-replicate {A = ℕ} 2050 0) c.number-to.result c.number-to.ensures c.output_ranks.ensures D.new.depths D.ensures.noted c.emit-w.ensures (omega (arith, c.if-w-out.false)) (omega (arith, c.if-w-gt256.true))
+    too_deep c.requires c.input_ranks-ins.ensures c.measure_all.ensures (some_given _ c.ok_or.ensures.value c.in_ok-tree.was) F.new.starts F.ensures.starts (F.auto.starts ∙ length-replicate {A = ℕ} 2050 0) c.from-to.result c.from-to.ensures c.output_ranks.ensures D.new.depths D.ensures.noted c.emit-w.ensures (omega (arith, c.if-w-out.false)) (omega (arith, c.if-w-gt256.true))
 
 pub returns : goal.returns
 returns c =
     let F = c.fill_starts in
     let D = c.fill_depths in
-    all_written c.requires c.input_ranks-ins.ensures c.measure_all.ensures (some_given _ c.ok_or.ensures.value c.in_ok-tree.was) F.new.starts F.ensures.starts (F.auto.starts ∙ length-replicate {A = ℕ} 2050 0) c.number-to.result c.number-to.ensures c.output_ranks.ensures D.new.depths D.ensures.noted c.emit-w.ensures (omega (arith, c.if-w-out.false)) (omega (arith, c.if-w-gt256.false))
+    all_written c.requires c.input_ranks-ins.ensures c.measure_all.ensures (some_given _ c.ok_or.ensures.value c.in_ok-tree.was) F.new.starts F.ensures.starts (F.auto.starts ∙ length-replicate {A = ℕ} 2050 0) c.from-to.result c.from-to.ensures c.output_ranks.ensures D.new.depths D.ensures.noted c.emit-w.ensures (omega (arith, c.if-w-out.false)) (omega (arith, c.if-w-gt256.false))
 
 pub returns-in_err-tree : goal.returns-in_err-tree
 returns-in_err-tree c =
