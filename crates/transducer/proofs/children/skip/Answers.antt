@@ -1,13 +1,10 @@
 -- `skip` meets its contract. The invariant: what is left to skip from here ends as all from the start, and no step leaves the table. Assumes nothing.
 use Prim.Native.Nat.{◌+◌, ◌-◌}
-use mathlib.Core.Path.{◌≡◌, refl, sym, ap, ◌∙◌}
+use mathlib.Core.Path.{◌≡◌, sym, ap, ◌∙◌}
 use native.Mathlib.Omega.{arith}
 use Rattle.transducer.specs.Inner.Written.{hop}
 use Rattle.transducer.proofs.Walks.{hop_next, hop_more}
 use Rattle.transducer.proofs.children.skip.Goals as goal
-
-pub loop-init : goal.loop-init
-loop-init c = let z : c.args.n - 0 ≡ c.args.n = omega arith in rw z (refl, c.requires)
 
 pub offset_bounds-ends-p : goal.offset_bounds-ends-p
 unfolding hop

@@ -16,9 +16,6 @@ pub loop-j-init : goal.loop-j-init
 unfolding stack
 loop-j-init c = let a = c.args in (omega arith, refl, begin (depths_of a.outs.now [] (slice a.from a.to (pairs a.marks.now))) a.depths.now a.from)
 
-pub children-n-requires : goal.children-n-requires
-children-n-requires c = λ e. c.requires.4 c.loop-j.j (omega (arith, c.loop-j.invariant.0)) c.loop-j-test.true e
-
 pub loop-j-preserved : goal.loop-j-preserved
 loop-j-preserved c =
     let a = c.args in
