@@ -8,12 +8,6 @@ use Rattle.trees.proofs.Tried.{none_refused, some_given}
 use Rattle.transducer.proofs.Translating.{starts_fit, not_tree, can_walk, bodies_there, depths_fit, too_long, too_deep, all_written}
 use Rattle.transducer.proofs.translate.translate_by.Goals as goal
 
-pub overflow_mul-bodies : goal.overflow_mul-bodies
-overflow_mul-bodies c = omega (arith, (starts_fit c.requires c.input_ranks-ins.ensures).1)
-
-pub overflow_add-bodies : goal.overflow_add-bodies
-overflow_add-bodies c = omega (arith, (starts_fit c.requires c.input_ranks-ins.ensures).1)
-
 pub fill_starts-requires : goal.fill_starts-requires
 fill_starts-requires c = starts_fit c.requires c.input_ranks-ins.ensures
 
