@@ -2,8 +2,8 @@
 -- Assumes nothing.
 use Prim.Native.Nat.{ℕ, ◌+◌, ◌-◌, ◌*◌, ◌≤◌, ◌<◌}
 use native.Mathlib.Omega.{arith}
-use mathlib.Core.Bool.{true, false}
-use mathlib.Core.Logic.{◌⊎◌, ⊎_elim}
+use mathlib.Core.Bool.{Bool}
+use mathlib.Core.Logic.{◌⊎◌}
 use mathlib.Core.Path.{◌≡◌, refl, sym, ap, ◌∙◌}
 use mathlib.Core.List.{List, ◌∷◌}
 use lib.ListN.{length, get_or, set, length-set}
@@ -13,14 +13,14 @@ use Rattle.trees.specs.Inner.Measured.{MeasuredWhole, noted, most}
 use Rattle.trees.specs.Refusal.{Decides}
 use Rattle.trees.specs.declared.tree.Extent.{Extent}
 use Rattle.trees.specs.Inner.Measured.{some_extent}
-use Rattle.std.specs.Prelude.{Option, None}
+use Rattle.std.specs.Prelude.{Option, Some, None, is_some}
 use Rattle.trees.proofs.Deciding.{decides_no}
 use Rattle.trees.proofs.Forest.{all_drop}
 use Rattle.trees.proofs.Standing.{Standing, Broken, no_letter, not_known, one_call, too_few, one_symbol, no_tree, none_standing, measured_standing}
 use Rattle.trees.proofs.Standing as standing
 use Rattle.formats.specs.Inner.Layout.{mark_of, pairs}
 use Rattle.formats.specs.Inner.Marked.{part}
-use Rattle.formats.proofs.Marks.{letter_far, letter_no_state, letter_call, letter_no_symbol, letter_symbol, next_mark}
+use Rattle.formats.proofs.Marks.{letter_no_call, letter_call, letter_no_symbol, letter_symbol, next_mark}
 use Rattle.formats.proofs.Pairs.{pairs_length}
 
 -- of the marks number `from` up to `to`, those from number j on are the code of k trees, whose levels the table has
@@ -52,9 +52,6 @@ module _ {outs bytes table : List ℕ} {n r from to j k : ℕ} (S : BodyStanding
     all_trees : Standing (mark_of outs n r) (part bytes from to) table k
     all_trees = rw at_start at S.trees
 
-    pub not_one_body : (k ≡ 1 → ⊥) → MeasuredWhole (mark_of outs n r) (part bytes from to) from None
-    not_one_body f = none_standing all_trees f
-
     pub one_measured : {l : ℕ} → k ≡ 1 → l ≡ get_or table 0 0 → MeasuredWhole (mark_of outs n r) (part bytes from to) from (some_extent to l)
     one_measured {l} o e =
         let p : from + length (part bytes from to) ≡ to = omega (arith, ap (λ i. length (part bytes i to)) at_start, part_long, S.high, at_start) in
@@ -78,7 +75,7 @@ module _ {outs bytes table : List ℕ} {n r from to j k : ℕ} (S : BodyStanding
     call_read z l g = one_more_lem (length-set table k 0) (one_call (mark_of outs n r) (i, x) S.trees (i, x) (letter_call outs n r i x z l g) (omega (arith, few_behind, S.long)))
 
     pub call_refused : 0 < i → (r < i) ⊎ ((i ≤ r) × (n ≤ x)) → MeasuredWhole (mark_of outs n r) (part bytes from to) from None
-    call_refused z o = broken (not_known (mark_of outs n r) (i, x) (part bytes j to) (⊎_elim (λ g. letter_far outs n r i x z g) (λ g. letter_no_state outs n r i x z g.0 g.1) o))
+    call_refused z o = broken (not_known (mark_of outs n r) (i, x) (part bytes j to) (letter_no_call outs n r i x z o))
 
     pub symbol_refused : i ≡ 0 → length outs ≤ x → MeasuredWhole (mark_of outs n r) (part bytes from to) from None
     symbol_refused z g = broken (not_known (mark_of outs n r) (i, x) (part bytes j to) (letter_no_symbol outs n r i x z g))
@@ -96,10 +93,7 @@ module _ {outs bytes table : List ℕ} {n r from to j k : ℕ} (S : BodyStanding
       pub symbol_read : {deep : ℕ} → m ≤ k → deep ≡ most m (noted table k) → BodyStanding outs n r bytes from to (set table (k - m) (deep + 1)) (j - 1) (k - m + 1)
       symbol_read {deep} l d = one_more_lem (length-set table (k - m) (deep + 1)) (one_symbol (mark_of outs n r) (i, x) S.trees x m its_letter l (omega (arith, few_behind, S.long)) d)
 
--- ---- what was measured decides whether it is one
-module _ (outs bytes : List ℕ) (n r from to : ℕ) {x : Option Extent} (M : MeasuredWhole (mark_of outs n r) (part bytes from to) from x) where
-  pub is_body : {e l : ℕ} → x ≡ some_extent e l → Decides (Whole (mark_of outs n r) (part bytes from to)) true
-  is_body q = record { sound = λ t. (M.whole _ _ q).0; complete = λ W. refl }
-
-  pub no_body : x ≡ None → Decides (Whole (mark_of outs n r) (part bytes from to)) false
-  no_body q = decides_no (M.none q)
+-- what was measured decides whether it is one
+pub body_decided : (outs bytes : List ℕ) (n r from to : ℕ) {x : Option Extent} {b : Bool} → MeasuredWhole (mark_of outs n r) (part bytes from to) from x → b ≡ is_some x → Decides (Whole (mark_of outs n r) (part bytes from to)) b
+body_decided outs bytes n r from to {x = Some e} M q = rw q (record { sound = λ t. (M.whole e.end e.levels refl).0; complete = λ W. refl })
+body_decided outs bytes n r from to {x = None} M q = rw q (decides_no (M.none refl))

@@ -4,13 +4,10 @@ use Prim.Native.Nat.{ℕ, ◌+◌, ◌*◌, ◌≤◌, ◌<◌}
 use native.Mathlib.Nat.{mul-le-mul}
 use native.Mathlib.Omega.{arith}
 use mathlib.Core.Bool.{false}
-use mathlib.Core.Logic.{◌⊎◌, ⊎_elim}
-use mathlib.Core.Path.{◌≡◌, refl, ap, ◌∙◌}
+use mathlib.Core.Path.{◌≡◌, refl}
 use mathlib.Core.List.{List}
-use lib.Dec.{eqb}
 use lib.ListN.{length, get_or}
 use borrow.Author.Count.{below_more}
-use borrow.Author.Tests.{eqb-true, eq-eqb}
 use Rattle.theory.proofs.Terms.{conflict}
 use Rattle.formats.specs.Inner.Layout.{offset, body, body_number, body_count, count_at, Summed, Right, Starts, InBounds, Short, Wholes}
 use Rattle.trees.specs.Refusal.{Decides}
@@ -29,9 +26,6 @@ count_none counts = record { each = λ k h. absurd (omega arith); sum_is = refl;
 
 module _ {counts : List ℕ} {m j sum : ℕ} (C : Counting counts j sum) where
   module _ (long : length counts ≡ 2 * m) (less : j < m) {c : ℕ} (e : c ≡ count_at counts j) where
-    pub count_bad : {bytes : List ℕ} → (c ≡ 0) ⊎ (64 < c) → Decides (Summed counts bytes m) false
-    count_bad {bytes} o = record { sound = λ e. conflict (cc); complete = λ D. let w = D.each j less in let z : ⊥ = ⊎_elim (λ h. omega arith) (λ h. omega arith) o in absurd z }
-
     pub count_many : {bytes : List ℕ} → 8192 < sum + c → Decides (Summed counts bytes m) false
     count_many {bytes} h = record { sound = λ e. conflict (cc); complete = λ D. let z : ⊥ = omega (arith, offset_next counts j (omega arith), offset_most counts (j + 1) m (omega arith), D.few, C.sum_is) in absurd z }
 
@@ -41,13 +35,6 @@ module _ {counts : List ℕ} {m j sum : ℕ} (C : Counting counts j sum) where
       sum_is = omega (arith, offset_next counts j (omega arith), C.sum_is);
       few = g;
     }
-
-  pub count_end : {bytes : List ℕ} → j ≡ m → Decides (Summed counts bytes m) (eqb (length bytes) (2 * sum))
-  count_end {bytes} e = record {
-    sound = λ b. let q = eqb-true (length bytes) (2 * sum) b in let o : sum ≡ offset counts m = C.sum_is ∙ ap (offset counts) e in
-        record { each = λ k h. C.each k (omega arith); few = omega (arith, C.few); all = omega arith };
-    complete = λ D. let o : sum ≡ offset counts m = C.sum_is ∙ ap (offset counts) e in eq-eqb (length bytes) (2 * sum) (omega (arith, D.all));
-  }
 
 -- ---- the bodies
 pub few_bodies : {ins counts bytes : List ℕ} {n : ℕ} → Right ins n counts bytes → body_count ins n < 2050

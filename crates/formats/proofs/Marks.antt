@@ -3,6 +3,7 @@
 use Prim.Native.Nat.{ℕ, suc, ◌+◌, ◌*◌, ◌≤◌, ◌<◌}
 use native.Mathlib.Omega.{arith}
 use mathlib.Core.Bool.{Bool}
+use mathlib.Core.Logic.{◌⊎◌, ⊎_elim}
 use mathlib.Core.Path.{◌≡◌, sym, ap₂, ◌∙◌}
 use mathlib.Core.List.{List, ◌∷◌}
 use lib.ListN.{length, get_or, take}
@@ -14,19 +15,23 @@ use Rattle.trees.specs.Inner.Symbols.{symbol_of}
 use Rattle.formats.specs.Inner.Layout.{mark_of, pairs, body, body_number, body_count, InBounds, Short}
 use Rattle.formats.specs.Inner.Marked.{part}
 use Rattle.trees.specs.Refusal.{Decides}
-use Rattle.formats.proofs.Pairs.{pairs_length, number_less, part_cons}
+use Rattle.formats.proofs.Pairs.{pairs_length, part_cons}
 
 -- ---- the letter of a mark
 module _ (outs : List ℕ) (n r : ℕ) where
-  pub letter_far : (i x : ℕ) → 0 < i → r < i → mark_of outs n r (i, x) ≡ unknown
+  letter_far : (i x : ℕ) → 0 < i → r < i → mark_of outs n r (i, x) ≡ unknown
   unfolding mark_of
   letter_far ℕ.zero x h g = absurd (omega arith)
   letter_far (suc i) x h g = simp (lt-leb (suc i) r g)
 
-  pub letter_no_state : (i x : ℕ) → 0 < i → i ≤ r → n ≤ x → mark_of outs n r (i, x) ≡ unknown
+  letter_no_state : (i x : ℕ) → 0 < i → i ≤ r → n ≤ x → mark_of outs n r (i, x) ≡ unknown
   unfolding mark_of
   letter_no_state ℕ.zero x h l g = absurd (omega arith)
   letter_no_state (suc i) x h l g = simp (le-leb (suc i) r l, le-ltb x n g)
+
+  -- a call that cannot be made
+  pub letter_no_call : (i x : ℕ) → 0 < i → (r < i) ⊎ ((i ≤ r) × (n ≤ x)) → mark_of outs n r (i, x) ≡ unknown
+  letter_no_call i x h o = ⊎_elim (λ g. letter_far i x h g) (λ g. letter_no_state i x h g.0 g.1) o
 
   pub letter_call : (i x : ℕ) → 0 < i → i ≤ r → x < n → mark_of outs n r (i, x) ≡ call (i, x)
   unfolding mark_of
@@ -65,9 +70,6 @@ next_body ins outs n start bytes q a old new = below_more (BodyOk ins outs n sta
 
 pub next_state : (ins outs : List ℕ) (n : ℕ) (start : ℕ → ℕ) (bytes : List ℕ) (q a : ℕ) → length ins ≤ a → ((p b : ℕ) → p < q → b < length ins → BodyOk ins outs n start bytes p b) → ((b : ℕ) → b < a → BodyOk ins outs n start bytes q b) → (p b : ℕ) → p < q + 1 → b < length ins → BodyOk ins outs n start bytes p b
 next_state ins outs n start bytes q a h old new p b l m = below_more (λ p. BodyOk ins outs n start bytes p b) q (λ k g. old k b g m) (new b (omega arith)) p l
-
-pub bounds_fit : {ins starts bytes : List ℕ} {n q a : ℕ} → InBounds ins n starts bytes → q < n → a < length ins → body_number ins q a + 1 < length starts
-bounds_fit {ins} {n = n} {q} {a} L h g = omega (arith, number_less ins q n a h g, L.long)
 
 pub bounds_part : {ins starts bytes : List ℕ} {n j from to : ℕ} → InBounds ins n starts bytes → Short ins n starts → j < body_count ins n → from ≡ get_or starts j 0 → to ≡ get_or starts (j + 1) 0 → (from ≤ to) × (to ≤ from + 64) × (2 * to ≤ length bytes)
 bounds_part {j = j} L S h f g = (rw (f, g) (L.ordered j h), rw (f, g) (S j h), rw g (L.inside (j + 1) (omega arith)))

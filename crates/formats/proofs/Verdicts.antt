@@ -3,7 +3,6 @@
 use Rattle.std.specs.Prelude.{Err, Ok, Result}
 use Rattle.trees.specs.Refusal.{outcome_of, done, Holds, IsJudged}
 use Prim.Native.Nat.{ℕ, ◌+◌, ◌-◌, ◌*◌, ◌≤◌, ◌<◌}
-use native.Mathlib.Nat.{mul-le-mul}
 use native.Mathlib.Omega.{arith}
 use mathlib.Core.Logic.{inl, inr}
 use mathlib.Core.List.{List, [], ◌∷◌, ◌++◌}
@@ -27,10 +26,6 @@ use Rattle.formats.proofs.Sheets.{counted_right, right_counted, encodes_wholes, 
 module _ {stock : List ℕ} (A : Alphabets stock) {ins : List ℕ} (e : ins ≡ inputs stock) where
   pub few_symbols : length ins ≤ 16
   few_symbols = rw e A.ins.few
-
-  -- at most 2,049 bodies
-  pub few_bodies : {n : ℕ} → n ≤ 128 → body_count ins n < 2050
-  few_bodies h = omega (arith, mul-le-mul h few_symbols)
 
   module _ {n : ℕ} {counts bytes : List ℕ} where
     right : Counted (length (inputs stock)) n counts bytes → Right ins n counts bytes

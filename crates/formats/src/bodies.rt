@@ -1,35 +1,37 @@
 // The counts and the bodies of a transducer's file: whether they are right, and where each body starts.
 ghost use Rattle.std.specs.Prelude.{◌≡◌, ◌+◌, ◌*◌, ◌≤◌, ◌<◌, length, get_or};
 ghost use Rattle.trees.specs.Inner.Decode.{forest, Whole};
-ghost use Rattle.formats.specs.Inner.Layout.{offset, mark_of, Summed, Starts, KeptBehind, InBounds, Short, Wholes};
+ghost use Rattle.formats.specs.Inner.Layout.{count_at, offset, mark_of, Summed, Starts, KeptBehind, InBounds, Short, Wholes};
 ghost use Rattle.trees.specs.Inner.Measured.{measured, MeasuredWhole};
 ghost use Rattle.formats.specs.Inner.Marked.{part};
 ghost use Rattle.trees.specs.Refusal.{Decides};
 
-use trees::bytes::{number, wide};
 use trees::levels::most_levels;
 use trees::tree::Extent;
+
+// The count of body number `j`: two bytes, the high one first.
+fn count(counts: &[u8], j: usize) -> usize
+    requires { 2 * j + 1 < length counts.now }
+    ensures { result ≡ count_at counts.now j }
+{
+    256 * usize::from(counts[2 * j]) + usize::from(counts[2 * j + 1])
+}
 
 // Whether the counts of `bodies` bodies are right, and the marks as many as they say.
 pub(crate) fn counts_right(counts: &[u8], bodies: usize, marks: &[u8]) -> bool
     requires { length counts.now ≡ 2 * bodies }
     ensures { Decides (Summed counts.now marks.now bodies) result }
 {
-    let mut sum: usize = 0;
-    let mut j = 0;
-    while j < bodies {
-        let c = 256 * wide(counts[2 * j]) + wide(counts[2 * j + 1]);
-        if c == 0 {
-            return false;
-        }
-        if c > 64 {
+    let mut sum = 0;
+    for j in 0..bodies {
+        let c = count(counts, j);
+        if c == 0 || c > 64 {
             return false;
         }
         sum += c;
         if sum > 8192 {
             return false;
         }
-        j += 1;
     }
     marks.len() == 2 * sum
 }
@@ -40,18 +42,17 @@ pub fn fill_starts(counts: &[u8], bodies: usize, starts: &mut [u16])
     ensures starts { Starts counts.now starts.new bodies }
     ensures kept_behind { KeptBehind starts.old starts.new bodies }
 {
-    let mut sum: usize = 0;
-    let mut j = 0;
+    let mut sum = 0;
     starts[0] = 0;
-    while j < bodies {
-        sum += 256 * wide(counts[2 * j]) + wide(counts[2 * j + 1]);
-        j += 1;
-        starts[j] = sum as u16;
+    for j in 0..bodies {
+        sum += count(counts, j);
+        starts[j + 1] = sum as u16;
     }
 }
 
-// Measures the tree of marks that begins with mark number `at`, in a body that ends at `to`, of at most `room` levels:
-// where it ends and how many levels it has. There are `n` states, and calls on `r` children; a call has no level.
+// Measures the tree of marks that begins with mark number `at`, in a body that ends at `to`, of at most
+// `room` levels: where it ends and how many levels it has. There are `n` states, and calls on `r`
+// children; a call has no level.
 pub fn measure_marks(
     outs: &[u8],
     n: usize,
@@ -67,13 +68,10 @@ pub fn measure_marks(
     if at >= to {
         return None;
     }
-    let i = wide(marks[2 * at]);
-    let x = wide(marks[2 * at + 1]);
+    let i = usize::from(marks[2 * at]);
+    let x = usize::from(marks[2 * at + 1]);
     if i > 0 {
-        if i > r {
-            return None;
-        }
-        if x >= n {
+        if i > r || x >= n {
             return None;
         }
         return Some(Extent {
@@ -81,29 +79,25 @@ pub fn measure_marks(
             levels: 0,
         });
     }
-    if room == 0 {
+    if room == 0 || x >= outs.len() {
         return None;
     }
-    if x >= outs.len() {
-        return None;
-    }
-    let mut left = wide(outs[x]);
-    let mut p = at + 1;
-    let mut deep = 0;
-    while left > 0 {
-        let child = measure_marks(outs, n, r, marks, p, to, room - 1)?;
-        p = child.end;
-        deep = deep.max(child.levels);
-        left -= 1;
+    let mut end = at + 1;
+    let mut levels = 0;
+    for _ in 0..outs[x] {
+        let child = measure_marks(outs, n, r, marks, end, to, room - 1)?;
+        end = child.end;
+        levels = levels.max(child.levels);
     }
     Some(Extent {
-        end: p,
-        levels: deep + 1,
+        end,
+        levels: levels + 1,
     })
 }
 
-// Measures the marks number `from` up to `to` as one tree: where it ends and how many levels it has. From the last mark back, each symbol takes its children from the trees
-// behind it, whose levels the table has; a call has none.
+// Measures the marks number `from` up to `to` as one tree: where it ends and how many levels it has.
+// From the last mark back, each symbol takes its children from the trees behind it, whose levels the
+// table has; a call has none.
 fn measure_body(
     outs: &[u8],
     n: usize,
@@ -115,13 +109,12 @@ fn measure_body(
     requires { (from ≤ to) × (to ≤ from + 64) × (2 * to ≤ length marks.now) }
     ensures { MeasuredWhole (mark_of outs.now n r) (part marks.now from to) from result }
 {
+    // Stays: an array of fixed size, since nothing is allocated (docs/AREAS.md).
     let mut levels = [0u16; 64];
-    let mut behind: usize = 0;
-    let mut j = to;
-    while from < j {
-        j -= 1;
-        let i = wide(marks[2 * j]);
-        let x = wide(marks[2 * j + 1]);
+    let mut behind = 0;
+    for j in (from..to).rev() {
+        let i = usize::from(marks[2 * j]);
+        let x = usize::from(marks[2 * j + 1]);
         if i > 0 {
             if i > r || x >= n {
                 return None;
@@ -131,7 +124,7 @@ fn measure_body(
             if x >= outs.len() {
                 return None;
             }
-            let m = wide(outs[x]);
+            let m = usize::from(outs[x]);
             if m > behind {
                 return None;
             }
@@ -146,7 +139,7 @@ fn measure_body(
     }
     Some(Extent {
         end: to,
-        levels: number(levels[0]),
+        levels: usize::from(levels[0]),
     })
 }
 
@@ -155,10 +148,7 @@ fn one_body(outs: &[u8], n: usize, r: usize, marks: &[u8], from: usize, to: usiz
     requires { (from ≤ to) × (to ≤ from + 64) × (2 * to ≤ length marks.now) }
     ensures { Decides (Whole (mark_of outs.now n r) (part marks.now from to)) result }
 {
-    match measure_body(outs, n, r, marks, from, to) {
-        Some(_) => true,
-        None => false,
-    }
+    measure_body(outs, n, r, marks, from, to).is_some()
 }
 
 // Whether every body is one tree of known marks.
@@ -166,23 +156,25 @@ pub(crate) fn bodies_whole(ins: &[u8], outs: &[u8], n: usize, starts: &[u16], ma
     requires { InBounds ins.now n starts.now marks.now × Short ins.now n starts.now }
     ensures { Decides (Wholes ins.now outs.now n (λ j. get_or starts.now j 0) marks.now) result }
 {
-    let first = number(starts[1]);
-    if !one_body(outs, n, 1, marks, number(starts[0]), first) {
+    if !one_body(
+        outs,
+        n,
+        1,
+        marks,
+        usize::from(starts[0]),
+        usize::from(starts[1]),
+    ) {
         return false;
     }
-    let mut q = 0;
-    while q < n {
-        let mut a = 0;
-        while a < ins.len() {
+    for q in 0..n {
+        for (a, rank) in ins.iter().enumerate() {
             let b = 1 + q * ins.len() + a;
-            let from = number(starts[b]);
-            let to = number(starts[b + 1]);
-            if !one_body(outs, n, wide(ins[a]), marks, from, to) {
+            let from = usize::from(starts[b]);
+            let to = usize::from(starts[b + 1]);
+            if !one_body(outs, n, usize::from(*rank), marks, from, to) {
                 return false;
             }
-            a += 1;
         }
-        q += 1;
     }
     true
 }

@@ -10,7 +10,6 @@ ghost use Rattle.formats.specs.Sheet.{file};
 
 use crate::bodies::{bodies_whole, counts_right, fill_starts};
 use trees::alphabet::{alphabets_right, input_ranks, output_ranks};
-use trees::bytes::wide;
 use trees::refusal::Refusal;
 
 // Where the counts end in a file with n states.
@@ -37,12 +36,10 @@ pub(crate) fn judge_parts(
         return Err(Refusal::BadContents);
     }
     let bodies = 1 + n * ins.len();
-    if counts.len() != 2 * bodies {
+    if counts.len() != 2 * bodies || !counts_right(counts, bodies, marks) {
         return Err(Refusal::BadContents);
     }
-    if !counts_right(counts, bodies, marks) {
-        return Err(Refusal::BadContents);
-    }
+    // Stays: an array of fixed size, since nothing is allocated (docs/AREAS.md).
     let mut starts = [0u16; 2050];
     fill_starts(counts, bodies, &mut starts);
     if !bodies_whole(ins, output_ranks(stock), n, &starts, marks) {
@@ -56,15 +53,11 @@ fn judge_file(stock: &[u8], sheet: &[u8]) -> Result<usize, Refusal>
     requires { Alphabets stock.now }
     ensures { JudgesFile stock.now sheet.now result }
 {
-    if sheet.len() == 0 {
-        return Err(Refusal::BadContents);
-    }
-    let n = wide(sheet[0]);
+    let first = sheet.first().ok_or(Refusal::BadContents)?;
+    let n = usize::from(*first);
     let from = counts_end(stock, n);
-    if sheet.len() < from {
-        return Err(Refusal::BadContents);
-    }
-    judge_parts(stock, n, &sheet[1..from], &sheet[from..])
+    let marks = sheet.get(from..).ok_or(Refusal::BadContents)?;
+    judge_parts(stock, n, &sheet[1..from], marks)
 }
 
 // Reads the file of a transducer.
@@ -82,11 +75,8 @@ pub fn transducer_counts<'a>(stock: &[u8], sheet: &'a [u8]) -> &'a [u8]
     ensures { HandsCounts stock.now sheet.now result.now }
 {
     match read_transducer(stock, sheet) {
-        Ok(n) => {
-            let to = counts_end(stock, n);
-            &sheet[1..to]
-        }
-        Err(_) => &sheet[0..0],
+        Ok(n) => &sheet[1..counts_end(stock, n)],
+        Err(_) => &[],
     }
 }
 
@@ -95,11 +85,8 @@ pub fn transducer_marks<'a>(stock: &[u8], sheet: &'a [u8]) -> &'a [u8]
     ensures { HandsMarks stock.now sheet.now result.now }
 {
     match read_transducer(stock, sheet) {
-        Ok(n) => {
-            let from = counts_end(stock, n);
-            &sheet[from..]
-        }
-        Err(_) => &sheet[0..0],
+        Ok(n) => &sheet[counts_end(stock, n)..],
+        Err(_) => &[],
     }
 }
 
@@ -108,11 +95,7 @@ pub fn copy_at(from: &[u8], area: &mut [u8], at: usize)
     requires { at + length from.now ≤ length area.old }
     ensures { area.new ≡ sets area.old at from.now }
 {
-    let mut j = 0;
-    while j + 1 <= from.len() {
-        area[at + j] = from[j];
-        j += 1;
-    }
+    area[at..at + from.len()].copy_from_slice(from);
 }
 
 // Writes a word as it stands to `text`, from `at` on, and says which position is behind it.
@@ -152,11 +135,6 @@ pub fn write_transducer(
     if !alphabets_right(stock) {
         return Err(Refusal::BadAlphabets);
     }
-    match judge_parts(stock, n, counts, marks) {
-        Ok(m) => {
-            let size = put_file(m, counts, marks, area);
-            Ok(size)
-        }
-        Err(r) => Err(r),
-    }
+    let states = judge_parts(stock, n, counts, marks)?;
+    Ok(put_file(states, counts, marks, area))
 }

@@ -1,6 +1,6 @@
 -- A loop that writes a list from a position on, piece by piece, as far as there is room, and counts on up to a limit; and counts levels.
 -- Assumes nothing.
-use Prim.Native.Nat.{ℕ, ◌+◌, ◌-◌, ◌≤◌, ◌<◌, min, max}
+use Prim.Native.Nat.{ℕ, ◌+◌, ◌≤◌, ◌<◌, min, max}
 use native.Mathlib.Numerals.{add-one}
 use native.Mathlib.Omega.{arith}
 use mathlib.Core.Path.{◌≡◌, refl, sym, ap, ap₂, ◌∙◌}
@@ -70,9 +70,6 @@ cap_add a d l = omega arith
 max_of_three : (a b c : ℕ) → max (max a b) c ≡ max a (max b c)
 max_of_three a b c = omega arith
 
-pub begin_levels : (whole limit w : ℕ) → Deepening whole whole limit w 0
-begin_levels whole limit w = record { few = omega arith; place = λ h. omega arith }
-
 module _ {whole left limit w levels : ℕ} (D : Deepening whole left limit w levels) where
   -- l levels more, below d symbols: of one symbol, or of a call
   pub levels_more : (d l l' rest : ℕ) {w' levels' : ℕ} → w ≤ limit → left ≡ max (d + l) rest → Levelled l limit w' l' → levels' ≡ few_levels (max levels (d + l')) → Deepening whole rest limit w' levels'
@@ -82,10 +79,6 @@ module _ {whole left limit w levels : ℕ} (D : Deepening whole left limit w lev
         let g = f ∙ ap (λ v. few_levels (max levels (d + v))) (L.right k) ∙ cap_add levels d l in
         ap (λ v. few_levels (max v rest)) g ∙ cap_max (max levels (d + l)) rest ∙ ap few_levels (max_of_three levels (d + l) rest) ∙ ap (λ v. few_levels (max levels v)) (sym e) ∙ D.place h;
   }
-
-  -- the limit is passed
-  pub levels_passed : limit < w → Levelled whole limit w levels
-  levels_passed h = record { few = D.few; right = λ k. absurd (omega arith) }
 
   pub levels_done : left ≡ 0 → Levelled whole limit w levels
   levels_done e = record { few = D.few; right = λ k. omega (arith, D.few, D.place k) }
@@ -104,36 +97,13 @@ start_of w l h = ap (take (length w)) (sets-eq w l 0 (omega arith)) ∙ take_at 
 
 -- w, of l levels, was written to `short`, which is not longer than the limit, if there was room for it: n is where it ends, or one past the limit
 module _ {w start short before : List ℕ} {l limit n m : ℕ} (F : Wrote w 0 limit start short n) (D : Levelled l limit n m) (inside : length before ≤ limit) where
-  -- there is no room for it in the area, or it has too many levels
-  pub not_written : (n ≤ length before → 256 < m) → Emitted w l before before n m
-  not_written h = record {
-    fits = λ k. (omega (arith, F.end), D.right (omega arith));
-    wrote = λ k g. absurd (omega (arith, h k));
-    full = λ k. (omega (arith, F.end), refl);
-    deep = λ _. refl;
-  }
-
   -- there was room for it, and it was copied from there
-  pub copied : {after : List ℕ} → n ≤ length start → length start ≤ limit → n ≤ length before → m ≤ 256 → after ≡ sets before 0 (take (n - 0) short) → Emitted w l before after n m
+  pub copied : {after : List ℕ} → n ≤ length start → length start ≤ limit → n ≤ length before → m ≤ 256 → after ≡ sets before 0 (take n short) → Emitted w l before after n m
   copied h i k few e =
       let f : n ≡ length w = omega (arith, F.end) in
-      let g : n - 0 ≡ length w = omega arith in
       record {
         fits = λ _. (f, D.right (omega arith));
-        wrote = λ _ _. e ∙ ap (sets before 0) (ap₂ take g (F.wrote (omega arith)) ∙ start_of w start (omega arith));
+        wrote = λ _ _. e ∙ ap (sets before 0) (ap₂ take f (F.wrote (omega arith)) ∙ start_of w start (omega arith));
         full = λ x. absurd (omega arith);
         deep = λ x. absurd (omega arith);
-      }
-
-  -- there is room for it in the area, and it was written there
-  pub written_there : {after : List ℕ} {r m' : ℕ} → n ≤ length before → m ≤ 256 → Wrote w 0 (length before) before after r → Levelled l (length before) r m' → Emitted w l before after r m'
-  written_there {r = r} {m' = m'} h few W L =
-      let k : length w ≤ length before = omega (arith, F.end) in
-      let e : r ≡ length w = omega (arith, W.end) in
-      let d : m' ≡ few_levels l = L.right (omega arith) in
-      record {
-        fits = λ _. (e, d);
-        wrote = λ _ _. W.wrote (omega arith);
-        full = λ x. absurd (omega arith);
-        deep = λ g. absurd (omega (arith, D.right (omega arith)));
       }

@@ -24,9 +24,6 @@ pub record NotedFrom (ins s ends : List ℕ) (k : ℕ) : Type 0 where
   pub long : length s ≤ length ends
   pub right : Ends ins s ends k (length s)
 
-pub none_noted : {ins s ends : List ℕ} → WholeTree ins s → 4096 ≤ length ends → NotedFrom ins s ends (length s)
-none_noted W h = record { whole = W; inside = omega arith; long = omega (arith, W.small); right = λ k i j. absurd (omega arith) }
-
 pub all_noted : {ins s ends : List ℕ} → NotedFrom ins s ends 0 → Input ins s ends
 unfolding trees
 all_noted F = record { whole = F.whole.one.all; long = F.long; right = F.right }

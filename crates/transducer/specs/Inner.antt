@@ -2,3 +2,4 @@
 pub mod Depth
 pub mod Written
 pub mod Machine
+pub mod Tables

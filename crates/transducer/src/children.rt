@@ -3,18 +3,14 @@ ghost use Rattle.std.specs.Prelude.{◌≡◌, ℕ, ◌≤◌, ◌<◌, length};
 ghost use Rattle.trees.specs.Inner.Measured.{WholeTree};
 ghost use Rattle.transducer.specs.Inner.Written.{hop, Input};
 
-use trees::bytes::{number, wide};
-
 // The tree that stands n trees behind the one at `from`.
 pub fn skip(ends: &[u16], from: usize, n: usize) -> usize
     requires { (k : ℕ) → k < n → hop ends.now k from < length ends.now }
     ensures { result ≡ hop ends.now n from }
 {
     let mut p = from;
-    let mut left = n;
-    while left > 0 {
-        p = number(ends[p]);
-        left -= 1;
+    for _ in 0..n {
+        p = usize::from(ends[p]);
     }
     p
 }
@@ -24,9 +20,8 @@ pub fn fill_ends(ins: &[u8], s: &[u8], ends: &mut [u16])
     requires { WholeTree ins.now s.now × (4096 ≤ length ends.old) }
     ensures { Input ins.now s.now ends.new }
 {
-    let mut k = s.len();
-    while k > 0 {
-        k -= 1;
-        ends[k] = skip(ends, k + 1, wide(ins[wide(s[k])])) as u16;
+    for k in (0..s.len()).rev() {
+        let rank = usize::from(ins[usize::from(s[k])]);
+        ends[k] = skip(ends, k + 1, rank) as u16;
     }
 }

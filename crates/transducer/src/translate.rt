@@ -1,33 +1,46 @@
-// Result<usize, Refusal> (01: sewing): what the transducer of a file gives on an input tree.
+// Translation (01: sewing): what the transducer of a file gives on an input tree.
 ghost use Rattle.std.specs.Prelude.{◌≡◌, ◌+◌, ◌/◌, ◌%◌, ◌^◌, ◌≤◌, ◌<◌, min, max, length, get_or, set, take, drop};
 ghost use Rattle.std.proofs.lemmas.List.Edits.{sets};
 ghost use Rattle.formats.specs.Inner.Layout.{body_number};
 ghost use Rattle.transducer.specs.Answers.{Translates};
 ghost use Rattle.transducer.specs.Inner.Machine.{Machine, TranslatesBy};
-ghost use Rattle.transducer.specs.Inner.Written.{applied, walked, applied_levels, walked_levels, few_levels, Ready, Walkable, note_key, Noted, Standing, Depths, Limits, Wrote, Levelled, Emitted};
+ghost use Rattle.transducer.specs.Inner.Written.{few_levels, note_key, Limits, Wrote, Levelled, Emitted};
+ghost use Rattle.transducer.specs.Inner.Tables.{applied_by, walked_by, applied_levels_by, walked_levels_by, CanApply, CanWalk, NotedBy, Stands};
 
 use crate::children::{fill_ends, skip};
 use crate::depth::fill_depths;
 use formats::bodies::fill_starts;
 use formats::file::{copy_at, counts_end, read_transducer};
 use trees::alphabet::{input_ranks, output_ranks};
-use trees::bytes::{larger, number, wide};
 use trees::refusal::Refusal;
 use trees::tree::measure_all;
 
 // Where what was written ends, and how many levels it has, or 257 where there are more.
-#[derive(Drop)]
+#[derive(Clone, Copy, Debug, PartialEq, Eq)]
 struct Emission {
     end: usize,
     levels: usize,
 }
 
-// The number of the right-hand side of the state `q` and of the symbol at `p` of `s`.
-fn body_at(ins: &[u8], s: &[u8], q: usize, p: usize) -> usize
-    requires { (p < length s.now) × (body_number ins.now q (get_or s.now p 0) < 2 ^ 64) }
-    ensures { result ≡ body_number ins.now q (get_or s.now p 0) }
-{
-    1 + q * ins.len() + wide(s[p])
+// What stays as it is during a translation: the ranks of the input symbols, the right-hand sides, where
+// each of them starts, and the depths of their marks; the input tree, and where its subtrees end.
+#[derive(Clone, Copy)]
+struct Tables<'a> {
+    ins: &'a [u8],
+    starts: &'a [u16; 2050],
+    marks: &'a [u8],
+    depths: &'a [u8; 8192],
+    s: &'a [u8],
+    ends: &'a [u16; 4096],
+}
+
+// What is noted of states and trees: keys with levels, sizes, and where the output of each ends.
+// Stay: tables of fixed size, and 0 for what is not noted, since nothing is allocated (docs/AREAS.md).
+#[derive(Drop)]
+struct Notes {
+    keys: [u32; 4096],
+    sizes: [u32; 4096],
+    places: [u32; 4096],
 }
 
 // Where what is noted of state `q` and the tree at `p` stands.
@@ -54,37 +67,12 @@ fn noted(key: u32, levels: usize) -> u32
     512 * key + levels as u32
 }
 
-// A number that was noted.
-fn long(x: u32) -> usize
-    ensures { result ≡ x }
-{
-    x as usize
-}
-
-// How far what is written is noted: up to the limit, and not past 32 bits.
-fn near(limit: usize) -> usize
-    ensures { result ≡ min limit 4294967295 }
-{
-    if limit < 4294967295 {
-        limit
-    } else {
-        4294967295
-    }
-}
-
 // The larger of `levels` and of `more` levels at this depth, or 257 where that is more.
 fn deeper(levels: usize, depth: u8, more: usize) -> usize
     requires { (levels ≤ 257) × (more ≤ 257) }
     ensures { result ≡ few_levels (max levels (depth + more)) }
 {
-    let other = wide(depth) + more;
-    if other <= levels {
-        return levels;
-    }
-    if other > 257 {
-        return 257;
-    }
-    other
+    levels.max((usize::from(depth) + more).min(257))
 }
 
 // `have` and `n` more, or one past `limit` where that passes it.
@@ -92,23 +80,7 @@ fn added(have: usize, n: usize, limit: usize) -> usize
     requires { (have ≤ limit) × (limit + 1 < 2 ^ 64) }
     ensures { result ≡ min (have + n) (limit + 1) }
 {
-    if n > limit - have {
-        limit + 1
-    } else {
-        have + n
-    }
-}
-
-// Copies the `n` symbols from `from` on to `at`, behind them.
-fn copy_within(out: &mut [u8], from: usize, n: usize, at: usize)
-    requires { (from + n ≤ at) × (at + n ≤ length out.old) }
-    ensures { out.new ≡ sets out.old at (take n (drop from out.old)) }
-{
-    let mut k = 0;
-    while k < n {
-        out[at + k] = out[from + k];
-        k += 1;
-    }
+    have.saturating_add(n).min(limit + 1)
 }
 
 // Writes one symbol at `at`, where there is room for it.
@@ -120,263 +92,145 @@ fn put(out: &mut [u8], at: usize, x: u8)
     }
 }
 
-// Writes what state `q` gives on the tree at `p`, from `at` on, if there is room for it, and says where that ends, or one past
-// `limit` where it passes that; `deep` is then its levels, or 257 where it has more. What is noted to stand in `out` is copied from there.
-// The tree has at most `left` levels. What changes from call to call is passed first, in registers.
-#[cycle(apply_walk)]
-fn apply(
-    q: usize,
-    p: usize,
-    left: usize,
-    at: usize,
-    deep: &mut usize,
-    ins: &[u8],
-    starts: &[u16; 2050],
-    marks: &[u8],
-    depths: &[u8; 8192],
-    s: &[u8],
-    ends: &[u16; 4096],
-    keys: &mut [u32; 4096],
-    sizes: &mut [u32; 4096],
-    places: &mut [u32; 4096],
-    out: &mut [u8],
-    limit: usize,
-) -> usize
-    requires { Ready ins.now starts.now marks.now s.now ends.now q p left × Depths marks.now depths.now × Standing ins.now starts.now marks.now depths.now s.now keys.old sizes.old places.old out.old at × Limits (length out.old) at limit }
-    ensures wrote { Wrote (applied ins.now starts.now marks.now s.now q p) at limit out.old out.new result }
-    ensures levelled { Levelled (applied_levels ins.now starts.now marks.now depths.now s.now q p) limit result deep.new }
-    ensures standing { Standing ins.now starts.now marks.now depths.now s.now keys.new sizes.new places.new out.new result }
-{
-    let k = slot(q, p);
-    let key = note_key(q, p);
-    let note = keys[k];
-    if note / 512 == key {
-        let n = long(sizes[k]);
-        let e = added(at, n, limit);
-        *deep = (note % 512) as usize;
-        if e > out.len() {
-            return e;
-        }
-        let place = long(places[k]);
-        if place > 0 {
-            copy_within(out, place - n, n, at);
-            return e;
-        }
+impl Tables<'_> {
+    // The number of the right-hand side of the state `q` and of the symbol at `p` of the input tree.
+    fn body_at(&self, q: usize, p: usize) -> usize
+        requires { (p < length self.now.s.now) × (body_number self.now.ins.now q (get_or self.now.s.now p 0) < 2 ^ 64) }
+        ensures { result ≡ body_number self.now.ins.now q (get_or self.now.s.now p 0) }
+    {
+        1 + q * self.ins.len() + usize::from(self.s[p])
     }
-    let b = body_at(ins, s, q, p);
-    let from = number(starts[b]);
-    let to = number(starts[b + 1]);
-    let r = walk(
-        from,
-        to,
-        p + 1,
-        left - 1,
-        at,
-        deep,
-        ins,
-        starts,
-        marks,
-        depths,
-        s,
-        ends,
-        keys,
-        sizes,
-        places,
-        out,
-        limit,
-    );
-    if r <= near(limit) {
-        keys[k] = noted(key, *deep);
-        sizes[k] = (r - at) as u32;
-        places[k] = r as u32;
-    }
-    r
-}
 
-// The same of the marks number `from` up to `to`, over the trees that stand from `below` on: each call applies its state.
-#[cycle(apply_walk)]
-fn walk(
-    from: usize,
-    to: usize,
-    below: usize,
-    left: usize,
-    at: usize,
-    deep: &mut usize,
-    ins: &[u8],
-    starts: &[u16; 2050],
-    marks: &[u8],
-    depths: &[u8; 8192],
-    s: &[u8],
-    ends: &[u16; 4096],
-    keys: &mut [u32; 4096],
-    sizes: &mut [u32; 4096],
-    places: &mut [u32; 4096],
-    out: &mut [u8],
-    limit: usize,
-) -> usize
-    requires { Walkable ins.now starts.now marks.now s.now ends.now from to below left × Depths marks.now depths.now × Standing ins.now starts.now marks.now depths.now s.now keys.old sizes.old places.old out.old at × Limits (length out.old) at limit }
-    ensures wrote { Wrote (walked ins.now starts.now marks.now s.now below from to) at limit out.old out.new result }
-    ensures levelled { Levelled (walked_levels ins.now starts.now marks.now depths.now s.now below from to) limit result deep.new }
-    ensures standing { Standing ins.now starts.now marks.now depths.now s.now keys.new sizes.new places.new out.new result }
-{
-    let mut w = at;
-    let mut levels = 0;
-    let mut j = from;
-    while j < to {
-        if w > limit {
-            *deep = levels;
+    // Writes what state `q` gives on the tree at `p`, from `at` on, if there is room for it, and says where
+    // that ends, or one past `limit` where it passes that, and its levels. What is noted to stand in `out`
+    // is copied from there. The tree has at most `left` levels.
+    #[cycle(apply_walk)]
+    fn apply(
+        &self,
+        q: usize,
+        p: usize,
+        left: usize,
+        at: usize,
+        notes: &mut Notes,
+        out: &mut [u8],
+        limit: usize,
+    ) -> Emission
+        requires { CanApply self.now q p left × Stands self.now notes.old out.old at × Limits (length out.old) at limit }
+        ensures wrote { Wrote (applied_by self.now q p) at limit out.old out.new result.end }
+        ensures levelled { Levelled (applied_levels_by self.now q p) limit result.end result.levels }
+        ensures standing { Stands self.now notes.new out.new result.end }
+    {
+        let k = slot(q, p);
+        let key = note_key(q, p);
+        let note = notes.keys[k];
+        if note / 512 == key {
+            let n = notes.sizes[k] as usize;
+            let end = added(at, n, limit);
+            let levels = (note % 512) as usize;
+            if end > out.len() {
+                return Emission { end, levels };
+            }
+            let place = notes.places[k] as usize;
+            if place > 0 {
+                out.copy_within(place - n..place, at);
+                return Emission { end, levels };
+            }
+        }
+        let b = self.body_at(q, p);
+        let from = usize::from(self.starts[b]);
+        let to = usize::from(self.starts[b + 1]);
+        let w = self.walk(from, to, p + 1, left - 1, at, notes, out, limit);
+        if w.end <= limit.min(u32::MAX as usize) {
+            notes.keys[k] = noted(key, w.levels);
+            notes.sizes[k] = (w.end - at) as u32;
+            notes.places[k] = w.end as u32;
+        }
+        w
+    }
+
+    // The same of the marks number `from` up to `to`, over the trees that stand from `below` on: each call
+    // applies its state.
+    #[cycle(apply_walk)]
+    fn walk(
+        &self,
+        from: usize,
+        to: usize,
+        below: usize,
+        left: usize,
+        at: usize,
+        notes: &mut Notes,
+        out: &mut [u8],
+        limit: usize,
+    ) -> Emission
+        requires { CanWalk self.now from to below left × Stands self.now notes.old out.old at × Limits (length out.old) at limit }
+        ensures wrote { Wrote (walked_by self.now below from to) at limit out.old out.new result.end }
+        ensures levelled { Levelled (walked_levels_by self.now below from to) limit result.end result.levels }
+        ensures standing { Stands self.now notes.new out.new result.end }
+    {
+        let ends = self.ends;
+        let mut end = at;
+        let mut levels = 0;
+        for j in from..to {
+            if end > limit {
+                return Emission { end, levels };
+            }
+            let i = usize::from(self.marks[2 * j]);
+            let x = self.marks[2 * j + 1];
+            let d = self.depths[j];
+            if i == 0 {
+                put(out, end, x);
+                end += 1;
+                levels = deeper(levels, d, 1);
+                continue;
+            }
+            let p = skip(ends, below, i - 1);
+            let part = self.apply(usize::from(x), p, left, end, notes, out, limit);
+            end = part.end;
+            levels = deeper(levels, d, part.levels);
+        }
+        Emission { end, levels }
+    }
+
+    // Walks the marks number 0 up to `to` over the whole input tree of `left` levels, where nothing is noted
+    // to stand in `out` yet.
+    fn fill(
+        &self,
+        to: usize,
+        left: usize,
+        notes: &mut Notes,
+        out: &mut [u8],
+        limit: usize,
+    ) -> Emission
+        requires { CanWalk self.now 0 to 0 left × NotedBy self.now notes.old × Limits (length out.old) 0 limit }
+        ensures wrote { Wrote (walked_by self.now 0 0 to) 0 limit out.old out.new result.end }
+        ensures levelled { Levelled (walked_levels_by self.now 0 0 to) limit result.end result.levels }
+        ensures noted { NotedBy self.now notes.new }
+    {
+        notes.places = [0; 4096];
+        self.walk(0, to, 0, left, 0, notes, out, limit)
+    }
+
+    // Writes what they give, if there is room and it has at most 256 levels: to a place of its own first,
+    // where an output of at most 8,192 symbols is copied from.
+    fn emit(&self, to: usize, left: usize, out: &mut [u8]) -> Emission
+        requires { CanWalk self.now 0 to 0 left }
+        ensures { Emitted (walked_by self.now 0 0 to) (walked_levels_by self.now 0 0 to) out.old out.new result.end result.levels }
+    {
+        let mut notes = Notes {
+            keys: [0; 4096],
+            sizes: [0; 4096],
+            places: [0; 4096],
+        };
+        let mut short = [0u8; 8192];
+        let w = self.fill(to, left, &mut notes, &mut short, out.len().max(8192));
+        if w.end > out.len() || w.levels > 256 {
             return w;
         }
-        let i = wide(marks[2 * j]);
-        let x = marks[2 * j + 1];
-        let d = depths[j];
-        j += 1;
-        if i == 0 {
-            put(out, w, x);
-            w += 1;
-            levels = deeper(levels, d, 1);
-            continue;
+        if w.end <= 8192 {
+            copy_at(&short[..w.end], out, 0);
+            return w;
         }
-        let mut l: usize = 0;
-        w = apply(
-            wide(x),
-            skip(ends, below, i - 1),
-            left,
-            w,
-            &mut l,
-            ins,
-            starts,
-            marks,
-            depths,
-            s,
-            ends,
-            keys,
-            sizes,
-            places,
-            out,
-            limit,
-        );
-        levels = deeper(levels, d, l);
-    }
-    *deep = levels;
-    w
-}
-
-// Walks the marks number 0 up to `to` over the whole input tree of `left` levels, where nothing is noted to stand in `out` yet.
-fn fill(
-    ins: &[u8],
-    starts: &[u16; 2050],
-    marks: &[u8],
-    depths: &[u8; 8192],
-    s: &[u8],
-    ends: &[u16; 4096],
-    to: usize,
-    left: usize,
-    keys: &mut [u32; 4096],
-    sizes: &mut [u32; 4096],
-    deep: &mut usize,
-    out: &mut [u8],
-    limit: usize,
-) -> usize
-    requires { Walkable ins.now starts.now marks.now s.now ends.now 0 to 0 left × Depths marks.now depths.now × Noted ins.now starts.now marks.now depths.now s.now keys.old sizes.old × Limits (length out.old) 0 limit }
-    ensures wrote { Wrote (walked ins.now starts.now marks.now s.now 0 0 to) 0 limit out.old out.new result }
-    ensures levelled { Levelled (walked_levels ins.now starts.now marks.now depths.now s.now 0 0 to) limit result deep.new }
-    ensures noted { Noted ins.now starts.now marks.now depths.now s.now keys.new sizes.new }
-{
-    let mut places = [0u32; 4096];
-    walk(
-        0,
-        to,
-        0,
-        left,
-        0,
-        deep,
-        ins,
-        starts,
-        marks,
-        depths,
-        s,
-        ends,
-        keys,
-        sizes,
-        &mut places,
-        out,
-        limit,
-    )
-}
-
-// Writes what they give, if there is room and it has at most 256 levels: to a place of its own first, where an output of at most
-// 8,192 symbols is copied from.
-fn emit(
-    ins: &[u8],
-    starts: &[u16; 2050],
-    marks: &[u8],
-    depths: &[u8; 8192],
-    s: &[u8],
-    ends: &[u16; 4096],
-    to: usize,
-    left: usize,
-    out: &mut [u8],
-) -> Emission
-    requires { Walkable ins.now starts.now marks.now s.now ends.now 0 to 0 left × Depths marks.now depths.now }
-    ensures { Emitted (walked ins.now starts.now marks.now s.now 0 0 to) (walked_levels ins.now starts.now marks.now depths.now s.now 0 0 to) out.old out.new result.end result.levels }
-{
-    let mut keys = [0u32; 4096];
-    let mut sizes = [0u32; 4096];
-    let mut short = [0u8; 8192];
-    let mut levels: usize = 0;
-    let n = fill(
-        ins,
-        starts,
-        marks,
-        depths,
-        s,
-        ends,
-        to,
-        left,
-        &mut keys,
-        &mut sizes,
-        &mut levels,
-        &mut short,
-        larger(out.len(), 8192),
-    );
-    if n > out.len() {
-        return Emission {
-            end: n,
-            levels: levels,
-        };
-    }
-    if levels > 256 {
-        return Emission {
-            end: n,
-            levels: levels,
-        };
-    }
-    if n <= 8192 {
-        copy_at(&short[0..n], out, 0);
-        return Emission {
-            end: n,
-            levels: levels,
-        };
-    }
-    let end = fill(
-        ins,
-        starts,
-        marks,
-        depths,
-        s,
-        ends,
-        to,
-        left,
-        &mut keys,
-        &mut sizes,
-        &mut levels,
-        out,
-        out.len(),
-    );
-    Emission {
-        end: end,
-        levels: levels,
+        self.fill(to, left, &mut notes, out, out.len())
     }
 }
 
@@ -394,6 +248,7 @@ fn translate_by(
 {
     let ins = input_ranks(stock);
     let bodies = 1 + n * ins.len();
+    // Stay: arrays of fixed size, since nothing is allocated (docs/AREAS.md).
     let mut ends = [0u16; 4096];
     let mut starts = [0u16; 2050];
     let mut depths = [0u8; 8192];
@@ -401,8 +256,16 @@ fn translate_by(
     let tree = measure_all(ins, s).ok_or(Refusal::BadTree)?;
     fill_ends(ins, s, &mut ends);
     fill_depths(output_ranks(stock), &starts, bodies, marks, &mut depths);
-    let to = number(starts[1]);
-    let w = emit(ins, &starts, marks, &depths, s, &ends, to, tree.levels, out);
+    let to = usize::from(starts[1]);
+    let tables = Tables {
+        ins,
+        starts: &starts,
+        marks,
+        depths: &depths,
+        s,
+        ends: &ends,
+    };
+    let w = tables.emit(to, tree.levels, out);
     if w.end > out.len() {
         return Err(Refusal::LongOutput);
     }

@@ -1,4 +1,4 @@
--- `measure_marks` meets its contract. The loop's invariant is `Measuring`; with each call the marks left fall. Assumes nothing.
+-- `measure_marks` meets its contract. The loop's invariant is `Measuring`; with each call the levels left fall. Assumes nothing.
 use Prim.Native.Nat.{◌-◌}
 use lib.ListN.{take}
 use Rattle.trees.proofs.Extents.{Measuring}
@@ -6,10 +6,7 @@ use Rattle.formats.specs.Inner.Layout.{mark_of, pairs}
 use Rattle.formats.proofs.bodies.+measure_marks.Given as goal
 
 abbrev pub decreases-measure_marks : goal.decreases-measure_marks
-decreases-measure_marks l = l.to - l.at
+decreases-measure_marks l = l.room
 
-abbrev pub invariant-loop-left : goal.invariant-loop-left
-invariant-loop-left l = Measuring (mark_of l.outs l.n l.r) (take l.to (pairs l.marks)) l.at l.room l.left l.p l.deep
-
-abbrev pub decreases-loop-left : goal.decreases-loop-left
-decreases-loop-left l = l.left
+abbrev pub invariant-loop : goal.invariant-loop
+invariant-loop l = Measuring (mark_of l.outs l.n l.r) (take l.to (pairs l.marks)) l.at l.room (l.end - l.counter) l.end-2 l.levels

@@ -1,10 +1,6 @@
 -- `counts_right` meets its contract. The invariant: the counts passed are right, and the sum is the offset. Assumes nothing.
-use Prim.Native.Nat.{◌-◌, ◌≤◌}
 use Rattle.formats.proofs.Counts.{Counting}
 use Rattle.formats.proofs.bodies.counts_right.Given as goal
 
 abbrev pub invariant-loop-j : goal.invariant-loop-j
-invariant-loop-j l = (l.j ≤ l.bodies) × Counting l.counts l.j l.sum
-
-abbrev pub decreases-loop-j : goal.decreases-loop-j
-decreases-loop-j l = l.bodies - l.j
+invariant-loop-j l = Counting l.counts l.j l.sum

@@ -1,9 +1,8 @@
 -- `measure_body` meets its contract. The invariant: the marks from j on are the code of `behind` trees, whose levels the table has. Assumes nothing.
 use Prim.Native.Nat.{ℕ}
-use mathlib.Core.Path.{sym}
 use native.Mathlib.Omega.{arith}
 use lib.ListN.{replicate, length-replicate}
-use Rattle.formats.proofs.Behind.{end_standing, few_behind, not_one_body, one_measured, call_read, call_refused, symbol_refused, children_missing, few_levels_lem, symbol_read}
+use Rattle.formats.proofs.Behind.{end_standing, one_measured, call_read, call_refused, symbol_refused, children_missing, few_levels_lem, symbol_read}
 use Rattle.formats.proofs.bodies.measure_body.Goals as goal
 use Rattle.formats.proofs.bodies.measure_body.Goals.{then-i-gt0+else-i-r+else-x-n, else-i-gt0+else-x-outs+else-m-behind}
 
@@ -11,53 +10,26 @@ pub loop-j-init : goal.loop-j-init
 loop-j-init c = let p = c.requires in end_standing (replicate {A = ℕ} 64 0) (length-replicate {A = ℕ} 64 0) p.0 p.1 p.2
 
 pub returns-then-i-r : goal.returns-then-i-r
-returns-then-i-r c = call_refused c.loop-j.invariant c.loop-j-test.true c.wide-i.ensures c.wide-x.ensures c.if-i-gt0.true c.then-i-r.either
-
--- there is room for one more
-pub bounds-levels-behind : goal.bounds-levels-behind
-bounds-levels-behind c = omega (arith, few_behind c.loop-j.invariant, c.loop-j-test.true)
+returns-then-i-r c = call_refused c.loop-j.invariant c.loop-j-test.true c.from-i.ensures c.from-x.ensures c.if-i-gt0.true c.then-i-r.either
 
 pub returns-then-x-outs : goal.returns-then-x-outs
-returns-then-x-outs c = symbol_refused c.loop-j.invariant c.loop-j-test.true c.wide-i.ensures c.wide-x.ensures (omega arith) c.if-x-outs.true
+returns-then-x-outs c = symbol_refused c.loop-j.invariant c.loop-j-test.true c.from-i.ensures c.from-x.ensures (omega arith) c.if-x-outs.true
 
 pub returns-then-m-behind : goal.returns-then-m-behind
-returns-then-m-behind c = children_missing c.loop-j.invariant c.loop-j-test.true c.wide-i.ensures c.wide-x.ensures (omega arith) c.if-x-outs.false c.wide-m.ensures c.if-m-behind.true
+returns-then-m-behind c = children_missing c.loop-j.invariant c.loop-j-test.true c.from-i.ensures c.from-x.ensures (omega arith) c.if-x-outs.false c.from-m.ensures c.if-m-behind.true
 
 pub overflow_cast-levels : goal.overflow_cast-levels
-overflow_cast-levels c = omega (arith, few_levels_lem c.loop-j.invariant c.loop-j-test.true c.wide-i.ensures c.wide-x.ensures (omega arith) c.if-x-outs.false c.wide-m.ensures c.most_levels-deep.ensures)
+overflow_cast-levels c = omega (arith, few_levels_lem c.loop-j.invariant c.loop-j-test.true c.from-i.ensures c.from-x.ensures (omega arith) c.if-x-outs.false c.from-m.ensures c.most_levels-deep.ensures)
 
 pub loop-j-preserved : goal.loop-j-preserved
 loop-j-preserved c =
     elim c.if-i-gt0.branch [
-      | then-i-gt0+else-i-r+else-x-n w ↦ rw (w.levels-is, w.behind-is) (call_read c.loop-j.invariant c.loop-j-test.true c.wide-i.ensures c.wide-x.ensures w.if-i-gt0.true w.if-i-r.false w.if-x-n.false)
-      | else-i-gt0+else-x-outs+else-m-behind w ↦ rw (w.levels-is, w.behind-is) (symbol_read c.loop-j.invariant c.loop-j-test.true c.wide-i.ensures c.wide-x.ensures (omega arith) w.if-x-outs.false w.wide-m.ensures w.if-m-behind.false w.most_levels-deep.ensures)
+      | then-i-gt0+else-i-r+else-x-n w ↦ rw (w.levels-is, w.behind-is) (call_read c.loop-j.invariant c.loop-j-test.true c.from-i.ensures c.from-x.ensures w.if-i-gt0.true w.if-i-r.false w.if-x-n.false)
+      | else-i-gt0+else-x-outs+else-m-behind w ↦ rw (w.levels-is, w.behind-is) (symbol_read c.loop-j.invariant c.loop-j-test.true c.from-i.ensures c.from-x.ensures (omega arith) w.if-x-outs.false w.from-m.ensures w.if-m-behind.false w.most_levels-deep.ensures)
     ]
-
-pub overflow_add-behind : goal.overflow_add-behind
-overflow_add-behind c =
-    let f = few_behind c.loop-j.invariant in
-    elim c.if-i-gt0.branch [ then-i-gt0+else-i-r+else-x-n w ↦ omega (arith, f, c.loop-j.invariant.high, c.well_formed) | else-i-gt0+else-x-outs+else-m-behind w ↦ omega (arith, f, c.loop-j.invariant.high, c.well_formed) ]
-
-pub offset_bounds-levels-behind : goal.offset_bounds-levels-behind
-offset_bounds-levels-behind c = omega (arith, bounds-levels-behind c)
-
-pub slice_bounds-most_levels-end : goal.slice_bounds-most_levels-end
-slice_bounds-most_levels-end c = sym c.loop-j.invariant.long
-
-pub most_levels-deep-requires : goal.most_levels-deep-requires
-most_levels-deep-requires c = (omega arith, omega (arith, few_behind c.loop-j.invariant, c.loop-j-test.true, c.loop-j.invariant.long))
 
 pub overflow_add-levels : goal.overflow_add-levels
 overflow_add-levels c = omega (arith, overflow_cast-levels c)
 
-pub offset_bounds-levels-behind-else-i-gt0 : goal.offset_bounds-levels-behind-else-i-gt0
-offset_bounds-levels-behind-else-i-gt0 c = omega (arith, few_behind c.loop-j.invariant, c.loop-j-test.true)
-
-pub bounds-levels-behind-else-i-gt0 : goal.bounds-levels-behind-else-i-gt0
-bounds-levels-behind-else-i-gt0 c = omega (arith, few_behind c.loop-j.invariant, c.loop-j-test.true)
-
-pub returns-then-behind-ne1 : goal.returns-then-behind-ne1
-returns-then-behind-ne1 c = not_one_body c.loop-j.invariant c.loop-j-test.false (λ e. omega (arith, e, c.if-behind-ne1.true))
-
 pub returns : goal.returns
-returns c = one_measured c.loop-j.invariant c.loop-j-test.false (omega arith) c.number.ensures
+returns c = one_measured c.loop-j.invariant c.loop-j-test.false (omega arith) c.from.ensures

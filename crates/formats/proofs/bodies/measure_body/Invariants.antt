@@ -4,6 +4,3 @@ use Rattle.formats.proofs.bodies.measure_body.Given as goal
 
 abbrev pub invariant-loop-j : goal.invariant-loop-j
 invariant-loop-j l = BodyStanding l.outs l.n l.r l.marks l.from l.to l.levels l.j l.behind
-
-abbrev pub decreases-loop-j : goal.decreases-loop-j
-decreases-loop-j l = l.j

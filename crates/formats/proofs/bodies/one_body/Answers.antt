@@ -1,10 +1,6 @@
 -- `one_body` meets its contract. Assumes nothing.
-use borrow.Author.Rules.{rules}
-use Rattle.formats.proofs.Behind.{is_body, no_body}
+use Rattle.formats.proofs.Behind.{body_decided}
 use Rattle.formats.proofs.bodies.one_body.Goals as goal
 
-pub returns-in-Some : goal.returns-in-Some
-returns-in-Some c = search (is_body, rules)
-
-pub returns-in-None : goal.returns-in-None
-returns-in-None c = search (no_body, rules)
+pub returns : goal.returns
+returns c = let a = c.args in body_decided a.outs.now a.marks.now a.n a.r a.from a.to c.measure_body.ensures c.is_some.ensures

@@ -1,37 +1,24 @@
 -- `judge_parts` meets its contract. Assumes nothing.
 use Prim.Native.Nat.{ℕ}
-use native.Mathlib.Nat.{mul-le-mul}
 use native.Mathlib.Omega.{arith}
 use mathlib.Core.Path.{◌∙◌}
 use lib.ListN.{length-replicate}
 use Rattle.formats.specs.Inner.Layout.{Right}
 use Rattle.formats.proofs.Counts.{in_bounds, short_bodies, to_offsets, from_offsets}
 use Rattle.trees.proofs.Deciding.{refuted, held}
-use Rattle.formats.proofs.Verdicts.{few_symbols, few_bodies, many_states, wrong_length, wrong_sums, wrong_body, all_right}
+use Rattle.formats.proofs.Verdicts.{few_symbols, many_states, wrong_length, wrong_sums, wrong_body, all_right}
 use Rattle.formats.proofs.file.judge_parts.Goals as goal
+use Rattle.formats.proofs.file.judge_parts.Goals.{then-counts-bodies-via-then-counts-bodies, then-counts-bodies-via-else-counts-bodies+then-not-counts_right}
 
 pub returns-then-n-gt128 : goal.returns-then-n-gt128
 returns-then-n-gt128 c = many_states c.requires c.input_ranks-ins.ensures (omega (arith, c.if-n-gt128.true))
 
-pub overflow_mul-bodies : goal.overflow_mul-bodies
-overflow_mul-bodies c = omega (arith, mul-le-mul c.if-n-gt128.false (few_symbols c.requires c.input_ranks-ins.ensures))
-
-pub overflow_add-bodies : goal.overflow_add-bodies
-overflow_add-bodies c = omega (arith, mul-le-mul c.if-n-gt128.false (few_symbols c.requires c.input_ranks-ins.ensures))
-
-pub overflow_mul-bodies-2 : goal.overflow_mul-bodies-2
-overflow_mul-bodies-2 c = omega (arith, mul-le-mul c.if-n-gt128.false (few_symbols c.requires c.input_ranks-ins.ensures))
-
 pub returns-then-counts-bodies : goal.returns-then-counts-bodies
-returns-then-counts-bodies c = wrong_length c.requires c.input_ranks-ins.ensures c.if-counts-bodies.true
-
-pub returns-then-not-counts_right : goal.returns-then-not-counts_right
-returns-then-not-counts_right c = wrong_sums c.requires c.input_ranks-ins.ensures (refuted c.counts_right.ensures c.if-not-counts_right.true-raw)
-
-pub fill_starts-requires : goal.fill_starts-requires
-fill_starts-requires c =
-    let S = held c.counts_right.ensures c.if-not-counts_right.false-raw in
-    (omega arith, few_bodies c.requires c.input_ranks-ins.ensures (omega (arith, c.if-n-gt128.false)), omega (arith, S.few))
+returns-then-counts-bodies c =
+    elim c.then-counts-bodies.branch [
+      | then-counts-bodies-via-then-counts-bodies w ↦ wrong_length c.requires c.input_ranks-ins.ensures w.if-counts-bodies.true
+      | then-counts-bodies-via-else-counts-bodies+then-not-counts_right w ↦ wrong_sums c.requires c.input_ranks-ins.ensures (refuted w.counts_right.ensures w.if-not-counts_right.true-raw)
+    ]
 
 pub bodies_whole-requires : goal.bodies_whole-requires
 bodies_whole-requires c =

@@ -1,6 +1,7 @@
 -- `write_transducer` meets its contract. Assumes nothing.
 use native.Mathlib.Omega.{arith}
 use mathlib.Core.Path.{refl}
+use Rattle.std.proofs.lemmas.Result.{err_from_is_err_and}
 use Rattle.trees.proofs.Deciding.{refuted, held}
 use Rattle.trees.proofs.Judging.{refuse, pass}
 use Rattle.formats.proofs.Verdicts.{file_fits, file_written_lem, not_written}
@@ -15,13 +16,15 @@ returns-then-not-alphabets_right c = pass (omega (arith, c.if-area-lt20483.false
 pub judge_parts-requires : goal.judge_parts-requires
 judge_parts-requires c = held c.alphabets_right.ensures c.if-not-alphabets_right.false-raw
 
-pub put_file-size-requires : goal.put_file-size-requires
-put_file-size-requires c =
-    let w = file_fits c.args.stock.now c.args.n c.args.counts.now c.args.marks.now (held c.alphabets_right.ensures c.if-not-alphabets_right.false-raw) c.judge_parts.ensures c.in-Ok.m c.in-Ok.is in
+pub put_file-requires : goal.put_file-requires
+put_file-requires c =
+    let w = file_fits c.args.stock.now c.args.n c.args.counts.now c.args.marks.now (held c.alphabets_right.ensures c.if-not-alphabets_right.false-raw) c.judge_parts.ensures c.in_ok-states.states c.in_ok-states.was in
     (w.0, omega (arith, w.1, c.if-area-lt20483.false))
 
-pub returns-in-Ok : goal.returns-in-Ok
-returns-in-Ok c = file_written_lem c.args.stock.now c.args.n c.args.counts.now c.args.marks.now (held c.alphabets_right.ensures c.if-not-alphabets_right.false-raw) c.judge_parts.ensures c.in-Ok.m c.in-Ok.is (omega (arith, c.if-area-lt20483.false)) c.put_file-size.ensures
+pub returns : goal.returns
+returns c = file_written_lem c.args.stock.now c.args.n c.args.counts.now c.args.marks.now (held c.alphabets_right.ensures c.if-not-alphabets_right.false-raw) c.judge_parts.ensures c.in_ok-states.states c.in_ok-states.was (omega (arith, c.if-area-lt20483.false)) c.put_file.ensures
 
-pub returns-in-Err : goal.returns-in-Err
-returns-in-Err c = not_written c.args.stock.now c.args.n c.args.counts.now c.args.marks.now (held c.alphabets_right.ensures c.if-not-alphabets_right.false-raw) c.judge_parts.ensures c.in-Err.r c.in-Err.is (omega (arith, c.if-area-lt20483.false))
+pub returns-in_err-states : goal.returns-in_err-states
+returns-in_err-states c =
+    let p = err_from_is_err_and c.from_residual.result c.from_residual.ensures.1 in
+    rw (p.1, p.2) (not_written c.args.stock.now c.args.n c.args.counts.now c.args.marks.now (held c.alphabets_right.ensures c.if-not-alphabets_right.false-raw) c.judge_parts.ensures c.in_err-states.field-0.0 c.in_err-states.was (omega (arith, c.if-area-lt20483.false)))

@@ -1,11 +1,6 @@
 -- `fill_ends` meets its contract. The loop's invariant: the ends from position k on are noted. Assumes nothing.
-use mathlib.Core.Path.{◌≡◌}
-use lib.ListN.{length}
 use Rattle.transducer.proofs.Subtrees.{NotedFrom}
 use Rattle.transducer.proofs.children.fill_ends.Given as goal
 
 abbrev pub invariant-loop-k : goal.invariant-loop-k
-invariant-loop-k l = NotedFrom l.ins l.s l.ends l.k × (length l.ends ≡ length l.initial.ends)
-
-abbrev pub decreases-loop-k : goal.decreases-loop-k
-decreases-loop-k l = l.k
+invariant-loop-k l = NotedFrom l.ins l.s l.ends l.k

@@ -8,8 +8,5 @@ use Rattle.transducer.proofs.depth.children.Goals as goal
 pub returns-then-i-gt0 : goal.returns-then-i-gt0
 returns-then-i-gt0 c = let a = c.args in under_call a.ranks.now a.i a.x (omega arith)
 
-pub bounds-ranks-wide : goal.bounds-ranks-wide
-bounds-ranks-wide c = omega (arith, c.wide.ensures, c.requires (omega (arith)))
-
-pub returns : goal.returns
-returns c = let a = c.args in ap (λ k. get_or a.ranks.now k 0) c.wide.ensures ∙ under_symbol a.ranks.now a.i a.x (omega arith)
+pub returns-else-i-gt0 : goal.returns-else-i-gt0
+returns-else-i-gt0 c = let a = c.args in ap (λ k. get_or a.ranks.now k 0) c.from.ensures ∙ under_symbol a.ranks.now a.i a.x (omega arith)

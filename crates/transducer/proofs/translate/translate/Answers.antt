@@ -16,12 +16,6 @@ counts_end-from-requires c = (accepted_alphabets c.args.stock.now c.args.sheet.n
 pub slice_bounds-translate_by-end : goal.slice_bounds-translate_by-end
 slice_bounds-translate_by-end c = omega (arith, c.counts_end-from.ensures, accepted_long c.args.stock.now c.args.sheet.now c.in_ok-n.n c.read_transducer.ensures c.in_ok-n.was)
 
-pub slice_bounds-translate_by-count : goal.slice_bounds-translate_by-count
-slice_bounds-translate_by-count c = omega (arith, c.counts_end-from.ensures, accepted_long c.args.stock.now c.args.sheet.now c.in_ok-n.n c.read_transducer.ensures c.in_ok-n.was)
-
-pub slice_bounds-translate_by-start : goal.slice_bounds-translate_by-start
-slice_bounds-translate_by-start c = omega (arith, c.counts_end-from.ensures, accepted_long c.args.stock.now c.args.sheet.now c.in_ok-n.n c.read_transducer.ensures c.in_ok-n.was)
-
 pub translate_by-requires : goal.translate_by-requires
 translate_by-requires c = opened_machine (opened_at c.args.stock.now c.args.sheet.now c.in_ok-n.n c.read_transducer.ensures c.in_ok-n.was c.counts_end-from.result c.counts_end-from.ensures refl)
 

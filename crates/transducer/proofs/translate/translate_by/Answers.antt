@@ -8,12 +8,6 @@ use Rattle.trees.proofs.Tried.{none_refused, some_given}
 use Rattle.transducer.proofs.Translating.{starts_fit, not_tree, can_walk, bodies_there, depths_fit, too_long, too_deep, all_written}
 use Rattle.transducer.proofs.translate.translate_by.Goals as goal
 
-pub overflow_mul-bodies : goal.overflow_mul-bodies
-overflow_mul-bodies c = omega (arith, (starts_fit c.requires c.input_ranks-ins.ensures).1)
-
-pub overflow_add-bodies : goal.overflow_add-bodies
-overflow_add-bodies c = omega (arith, (starts_fit c.requires c.input_ranks-ins.ensures).1)
-
 pub fill_starts-requires : goal.fill_starts-requires
 fill_starts-requires c = starts_fit c.requires c.input_ranks-ins.ensures
 
@@ -29,25 +23,25 @@ pub emit-w-requires : goal.emit-w-requires
 emit-w-requires c =
     let F = c.fill_starts in
     let E = c.fill_ends in
-    (can_walk c.requires c.input_ranks-ins.ensures c.measure_all.ensures (some_given _ c.ok_or.ensures.value c.in_ok-tree.was) F.new.starts F.ensures.starts (F.auto.starts ∙ length-replicate {A = ℕ} 2050 0) c.number-to.result c.number-to.ensures E.ensures (E.auto.ends ∙ length-replicate {A = ℕ} 4096 0), depths_fit c.requires c.fill_depths.ensures.long)
+    (can_walk c.requires c.input_ranks-ins.ensures c.measure_all.ensures (some_given _ c.ok_or.ensures.value c.in_ok-tree.was) F.new.starts F.ensures.starts (F.auto.starts ∙ length-replicate {A = ℕ} 2050 0) c.from-to.result c.from-to.ensures E.ensures (E.auto.ends ∙ length-replicate {A = ℕ} 4096 0), depths_fit c.requires c.fill_depths.ensures.long)
 
 pub returns-then-w-out : goal.returns-then-w-out
 returns-then-w-out c =
     let F = c.fill_starts in
     let D = c.fill_depths in
-    too_long c.requires c.input_ranks-ins.ensures c.measure_all.ensures (some_given _ c.ok_or.ensures.value c.in_ok-tree.was) F.new.starts F.ensures.starts (F.auto.starts ∙ length-replicate {A = ℕ} 2050 0) c.number-to.result c.number-to.ensures c.output_ranks.ensures D.new.depths D.ensures.noted c.emit-w.ensures (omega (arith, c.if-w-out.true))
+    too_long c.requires c.input_ranks-ins.ensures c.measure_all.ensures (some_given _ c.ok_or.ensures.value c.in_ok-tree.was) F.new.starts F.ensures.starts (F.auto.starts ∙ length-replicate {A = ℕ} 2050 0) c.from-to.result c.from-to.ensures c.output_ranks.ensures D.new.depths D.ensures.noted c.emit-w.ensures (omega (arith, c.if-w-out.true))
 
 pub returns-then-w-gt256 : goal.returns-then-w-gt256
 returns-then-w-gt256 c =
     let F = c.fill_starts in
     let D = c.fill_depths in
-    too_deep c.requires c.input_ranks-ins.ensures c.measure_all.ensures (some_given _ c.ok_or.ensures.value c.in_ok-tree.was) F.new.starts F.ensures.starts (F.auto.starts ∙ length-replicate {A = ℕ} 2050 0) c.number-to.result c.number-to.ensures c.output_ranks.ensures D.new.depths D.ensures.noted c.emit-w.ensures (omega (arith, c.if-w-out.false)) (omega (arith, c.if-w-gt256.true))
+    too_deep c.requires c.input_ranks-ins.ensures c.measure_all.ensures (some_given _ c.ok_or.ensures.value c.in_ok-tree.was) F.new.starts F.ensures.starts (F.auto.starts ∙ length-replicate {A = ℕ} 2050 0) c.from-to.result c.from-to.ensures c.output_ranks.ensures D.new.depths D.ensures.noted c.emit-w.ensures (omega (arith, c.if-w-out.false)) (omega (arith, c.if-w-gt256.true))
 
 pub returns : goal.returns
 returns c =
     let F = c.fill_starts in
     let D = c.fill_depths in
-    all_written c.requires c.input_ranks-ins.ensures c.measure_all.ensures (some_given _ c.ok_or.ensures.value c.in_ok-tree.was) F.new.starts F.ensures.starts (F.auto.starts ∙ length-replicate {A = ℕ} 2050 0) c.number-to.result c.number-to.ensures c.output_ranks.ensures D.new.depths D.ensures.noted c.emit-w.ensures (omega (arith, c.if-w-out.false)) (omega (arith, c.if-w-gt256.false))
+    all_written c.requires c.input_ranks-ins.ensures c.measure_all.ensures (some_given _ c.ok_or.ensures.value c.in_ok-tree.was) F.new.starts F.ensures.starts (F.auto.starts ∙ length-replicate {A = ℕ} 2050 0) c.from-to.result c.from-to.ensures c.output_ranks.ensures D.new.depths D.ensures.noted c.emit-w.ensures (omega (arith, c.if-w-out.false)) (omega (arith, c.if-w-gt256.false))
 
 pub returns-in_err-tree : goal.returns-in_err-tree
 returns-in_err-tree c =
