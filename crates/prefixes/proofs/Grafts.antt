@@ -10,7 +10,7 @@ use mathlib.Core.Path.{◌≡◌, refl, sym, ap, ap₂, ◌∙◌}
 use mathlib.Core.List.{List, [], ◌∷◌, ◌++◌, append_assoc, append-nil}
 use lib.Dec.{ltb, eqb}
 use lib.ListN.{length, get_or, take, drop, set, length-append, length-set, get_or-eq_default}
-use lib.Seq.{slice, slice_empty, length-slice, length-take-le, get_or-take, get_or-drop, drop_at, take-take, take-suc-set, drop-drop, take-append-le, take-append-add, sets, sets-eq, length-sets, get_or-set_same, get_or-set_other}
+use lib.Seq.{take_at, slice, slice_empty, length-slice, length-take-le, get_or-take, get_or-drop, drop_at, take-take, take-suc-set, drop-drop, take-append-le, take-append-add, sets, sets-eq, length-sets, get_or-set_same, get_or-set_other}
 use borrow.Rule.Slice.PartMut.{put_mid, post_of, same_len_mid, mid_len, take_put, drop_put}
 use borrow.Author.Tests.{lt-ltb, le-ltb, eqb-true}
 use Rattle.theory.specs.Inner.Graft.{graft}
@@ -245,22 +245,12 @@ pub record Grafting (heads sizes bytes : List ℕ) (from to : ℕ) (area₀ area
 pub graft_start : {heads sizes bytes area : List ℕ} {from to : ℕ} → Graftable heads sizes bytes from to area → Grafting heads sizes bytes from to area area 0 from
 graft_start G = record { first = omega arith; last = G.ordered; short = omega arith; same = refl; so_far = refl }
 
--- n of the 64 bytes that the pattern of a state may have
-pub part_length : (heads : List ℕ) (q n : ℕ) → n ≤ 64 → 64 * q + 64 ≤ length heads → length (lent_head heads q n) ≡ n
-part_length heads q n h g = mid_len (64 * q) (64 * q + n) heads (omega arith) ∙ omega arith
-
--- if they are enough, they begin with the pattern
-head_first : (heads sizes : List ℕ) (q n : ℕ) {size : ℕ} → size ≡ get_or sizes q 0 → size ≤ n → 64 * q ≤ length heads → take size (lent_head heads q n) ≡ head_at heads sizes q
-head_first heads sizes q n {size} e h g =
-    let k : 64 * q + n - 64 * q ≡ n = omega arith in
-    rw (k, take-take size n (drop (64 * q) heads) h, e) (sym (slice_from heads (64 * q) (get_or sizes q 0) g))
-
--- a word written behind the first w bytes: they stay, and the first n of the word stand behind them
-take_word : (area word : List ℕ) (w n : ℕ) → n ≤ length word → w + length word ≤ length area → take (w + n) (sets area w word) ≡ take w area ++ take n word
-take_word area word w n h fits =
+-- a word written behind the first w bytes: they stay, and it stands behind them
+take_word : (area word : List ℕ) (w : ℕ) → w + length word ≤ length area → take (w + length word) (sets area w word) ≡ take w area ++ word
+take_word area word w fits =
     let l : length (take w area) ≡ w = length-take-le w area (omega arith) in
     let behind = drop (w + length word) area in
-    ap (take (w + n)) (sets-eq word area w fits ∙ append_assoc (take w area) word behind) ∙ ap (λ k. take (k + n) (take w area ++ (word ++ behind))) (sym l) ∙ take-append-add (take w area) (word ++ behind) n ∙ ap (λ r. take w area ++ r) (take-append-le n word behind h)
+    ap (take (w + length word)) (sets-eq word area w fits ∙ append_assoc (take w area) word behind) ∙ ap (λ k. take (k + length word) (take w area ++ (word ++ behind))) (sym l) ∙ take-append-add (take w area) (word ++ behind) (length word) ∙ ap (λ r. take w area ++ r) (take_at word behind (length word) refl)
 
 module _ {heads sizes bytes area₀ : List ℕ} {from to : ℕ} (G : Graftable heads sizes bytes from to area₀) {area : List ℕ} {w j : ℕ} (L : Grafting heads sizes bytes from to area₀ area w j) where
   module _ (less : j < to) where
@@ -281,19 +271,18 @@ module _ {heads sizes bytes area₀ : List ℕ} {from to : ℕ} (G : Graftable h
           so_far = rw (add-one, take-suc-set area w x r, append_assoc) (ap (λ r. take w area ++ r) (sym s) ∙ L.so_far);
         })
 
-    pub graft_call : (n : ℕ) {area' : List ℕ} {w' q size : ℕ} → size ≤ n → n ≤ 64 → (get_or bytes (2 * j) 0 ≡ 0 → ⊥) → q ≡ get_or bytes (2 * j + 1) 0 → size ≡ get_or sizes q 0 → area' ≡ sets area w (lent_head heads q n) → w' ≡ w + size → Grafting heads sizes bytes from to area₀ area' w' (j + 1)
-    graft_call n {q = q} {size} enough few some c d e f =
+    pub graft_call : {area' : List ℕ} {w' q size : ℕ} → (get_or bytes (2 * j) 0 ≡ 0 → ⊥) → q ≡ get_or bytes (2 * j + 1) 0 → size ≡ get_or sizes q 0 → area' ≡ sets area w (lent_head heads q size) → w' ≡ w + size → Grafting heads sizes bytes from to area₀ area' w' (j + 1)
+    graft_call {q = q} {size} some c d e f =
         let C = called G j L.first less some c in
-        let word = lent_head heads q n in
-        let l : length word ≡ n = part_length heads q n few C.inside in
-        let h : take size word ≡ head_at heads sizes q = head_first heads sizes q n d enough (omega (arith, C.inside)) in
-        let t = take_word area word w size (omega arith) (omega (arith, graft_room)) ∙ ap (λ r. take w area ++ r) h in
-        rw (e, f) (record {
+        let word = head_at heads sizes q in
+        let h : lent_head heads q size ≡ word = head_lent heads sizes q d (omega (arith, C.inside)) in
+        let l : size ≡ length word = d ∙ sym C.long in
+        rw (e, f, h) (record {
           first = omega (arith, L.first);
           last = omega arith;
           short = omega (arith, L.short, L.first, C.small);
           same = length-sets area w word ∙ L.same;
-          so_far = rw (t, append_assoc) (ap (λ r. take w area ++ r) (sym C.next) ∙ L.so_far);
+          so_far = rw (l, take_word area word w (omega (arith, graft_room, C.small)), append_assoc) (ap (λ r. take w area ++ r) (sym C.next) ∙ L.so_far);
         })
 
   -- no mark is left

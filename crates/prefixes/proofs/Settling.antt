@@ -1,9 +1,9 @@
 -- Cut upon cut: what one cut does to the patterns, what many do, and that the patterns are the common prefixes when no cut takes anything away.
 -- Assumes nothing.
-use Prim.Native.Nat.{ℕ, ◌+◌, ◌*◌, ◌≤◌, ◌<◌}
+use Prim.Native.Nat.{ℕ, ◌+◌, ◌-◌, ◌*◌, ◌^◌, ◌≤◌, ◌<◌}
 use native.Mathlib.Decide.{ℕ_discrete}
 use native.Mathlib.Omega.{arith}
-use mathlib.Core.Bool.{Bool, true, false}
+use mathlib.Core.Bool.{Bool, true, false, ◌||◌}
 use mathlib.Core.List.{List}
 use mathlib.Core.Logic.{◌≢◌, by_cases, ⊎_elim}
 use mathlib.Core.Path.{◌≡◌, refl, sym, ap, ◌∙◌, fun_ext}
@@ -31,10 +31,9 @@ use Rattle.formats.specs.Inner.Layout.{mark_of, body, body_number, transducer}
 use Rattle.formats.specs.Inner.Marked.{part}
 use Rattle.trees.specs.Refusal.{Decides}
 use Rattle.formats.proofs.Pairs.{number_less}
-use Rattle.theory.specs.Weight.{one_if}
 use Rattle.forms.specs.Alphabet.{alphabet, children_inside}
 use Rattle.prefixes.specs.Inner.Patterns.{top}
-use Rattle.prefixes.specs.Inner.Heads.{Heads, head_of, Cuttable, CutBy, Bodies, FixedAt, AllAbove, AllUnder, UnderLeaf, Cuts, CutRhs, CutState, Swept, Followed, Settled}
+use Rattle.prefixes.specs.Inner.Heads.{Heads, head_of, Cuttable, CutBy, Bodies, FixedAt, AllAbove, UnderLeaf, Cuts, CutRhs, CutState, Swept, Followed, Settled}
 use Rattle.forms.specs.Inner.Tables.{machine}
 use Rattle.prefixes.proofs.Grafts.{head_top}
 use Rattle.prefixes.proofs.Above.{prefix_self, cut_above, above_end}
@@ -78,16 +77,21 @@ module _ {ins : List ℕ} {M : Transducer ℕ} {n : ℕ} {h h₁ : ℕ → Patte
       go true e = omega (arith, C.less e)
       go false e = omega (arith, ap (λ k. total k n) (same_patterns C e))
 
-  pub then_cut : {h₂ : ℕ → Pattern} {b : Bool} → b ≡ true → Cuts ins M n h₁ h₂ b → Cuts ins M n h h₂ true
-  then_cut t D = record { above = λ l a. D.above l (C.above l a); under = λ q v. prefix_trans (D.under q v) (C.under q v); less = λ e. omega (arith, D.less t, not_more); kept = λ e. conflict (cc) }
+both_false : (a b : Bool) → (a || b) ≡ false → (a ≡ false) × (b ≡ false)
+both_false true b e = conflict (cc)
+both_false false b e = (refl, e)
 
-  pub then_none : {h₂ : ℕ → Pattern} {b : Bool} → b ≡ false → Cuts ins M n h₁ h₂ b → Cuts ins M n h h₂ any
-  then_none f D = record {
-    above = λ l a. D.above l (C.above l a);
-    under = λ q v. prefix_trans (D.under q v) (C.under q v);
-    less = λ e. omega (arith, C.less e, ap (λ k. total k n) (same_patterns D f));
-    kept = λ e p. D.kept f p ∙ C.kept e p;
-  }
+pub then_cuts : {ins : List ℕ} {M : Transducer ℕ} {n : ℕ} {h h₁ h₂ : ℕ → Pattern} {any b : Bool} → Cuts ins M n h h₁ any → Cuts ins M n h₁ h₂ b → Cuts ins M n h h₂ (any || b)
+then_cuts {n = n} {h} {h₂ = h₂} {any} {b} C D = record {
+  above = λ l a. D.above l (C.above l a);
+  under = λ q v. prefix_trans (D.under q v) (C.under q v);
+  less = go any refl;
+  kept = λ e p. let w = both_false any b e in D.kept w.1 p ∙ C.kept w.0 p;
+}
+  where
+    go : (a : Bool) → any ≡ a → (a || b) ≡ true → total h₂ n < total h n
+    go true e t = omega (arith, C.less e, not_more D)
+    go false e t = omega (arith, not_more C, D.less t)
 
 -- ---- the end: the right-hand side for the leaf cuts nothing either
 pub all_fixed : {ins : List ℕ} {M : Transducer ℕ} {n : ℕ} (l : Leaf ins) {leaf : ℕ} → Wf (alphabet ins l) M (λ q. q < n) → {h : ℕ → Pattern} → AllAbove ins l M n h → UnderLeaf M leaf n h → ((q : ℕ) → q < n → FixedAt ins leaf M h q) → Prefs (alphabet ins l) M (λ q. q < n) h
@@ -169,27 +173,16 @@ module _ {ins outs starts bytes heads₀ sizes₀ other₀ : List ℕ} (B : Bodi
     rhs_here : Cuts ins (machine ins outs starts bytes (length sizes₀)) (length sizes₀) (head_of outs heads sizes) (head_of outs heads' sizes') b
     rhs_here = rw (← L.same_sizes) C.cuts
 
-    pub loop_cut : {other' : List ℕ} → length other' ≡ length other → b ≡ true → {now : Bool} → now ≡ true → StateLoop ins outs starts bytes leaf q heads₀ sizes₀ other₀ heads' sizes' other' now (a + 1)
-    loop_cut so e z = rw z (record {
+    pub state_next : {other' : List ℕ} → length other' ≡ length other → StateLoop ins outs starts bytes leaf q heads₀ sizes₀ other₀ heads' sizes' other' (any || b) (a + 1)
+    state_next so = record {
       inside = omega arith;
       table = C.table;
       same_heads = sh ∙ L.same_heads;
       same_sizes = ss ∙ L.same_sizes;
       same_other = so ∙ L.same_other;
-      cuts = then_cut L.cuts e rhs_here;
-      passed = λ z. conflict (cc);
-    })
-
-    pub loop_none : {other' : List ℕ} → length other' ≡ length other → b ≡ false → {now : Bool} → now ≡ any → StateLoop ins outs starts bytes leaf q heads₀ sizes₀ other₀ heads' sizes' other' now (a + 1)
-    loop_none so e y = rw y (record {
-      inside = omega arith;
-      table = C.table;
-      same_heads = sh ∙ L.same_heads;
-      same_sizes = ss ∙ L.same_sizes;
-      same_other = so ∙ L.same_other;
-      cuts = then_none L.cuts e rhs_here;
-      passed = λ z. below_more (λ b. b ≢ leaf → lcp (head_of outs heads₀ sizes₀ q) (graft (head_of outs heads₀ sizes₀) ((machine ins outs starts bytes (length sizes₀)).rhs q b)) ≡ head_of outs heads₀ sizes₀ q) a (L.passed z) (rw (← same_patterns L.cuts z, ← L.same_sizes) (C.fixed e));
-    })
+      cuts = then_cuts L.cuts rhs_here;
+      passed = λ z. let w = both_false any b z in below_more (λ b. b ≢ leaf → lcp (head_of outs heads₀ sizes₀ q) (graft (head_of outs heads₀ sizes₀) ((machine ins outs starts bytes (length sizes₀)).rhs q b)) ≡ head_of outs heads₀ sizes₀ q) a (L.passed w.0) (rw (← same_patterns L.cuts w.0, ← L.same_sizes) (C.fixed w.1));
+    }
 
   pub state_end : length ins ≤ a → CutState ins outs starts bytes leaf q heads₀ sizes₀ heads sizes any
   state_end h = record { table = L.table; cuts = L.cuts; fixed = λ e b g. L.passed e b (omega arith) }
@@ -212,143 +205,78 @@ module _ {ins outs starts bytes heads₀ sizes₀ other₀ : List ℕ} (B : Bodi
   pub sweep_bodies : Bodies ins outs starts bytes heads sizes other
   sweep_bodies = other_table B L.table L.same_sizes L.same_other
 
-  module _ {q : ℕ} (before : k ≡ q + 1) {heads' sizes' : List ℕ} {b : Bool} (C : CutState ins outs starts bytes leaf q heads sizes heads' sizes' b) (sh : length heads' ≡ length heads) (ss : length sizes' ≡ length sizes) where
+  module _ (some : 0 < k) {heads' sizes' : List ℕ} {b : Bool} (C : CutState ins outs starts bytes leaf (k - 1) heads sizes heads' sizes' b) (sh : length heads' ≡ length heads) (ss : length sizes' ≡ length sizes) where
     cuts_here : Cuts ins (machine ins outs starts bytes (length sizes₀)) (length sizes₀) (head_of outs heads sizes) (head_of outs heads' sizes') b
     cuts_here = rw (← L.same_sizes) C.cuts
 
-    pub sweep_cut : {other' : List ℕ} → length other' ≡ length other → b ≡ true → {now : Bool} → now ≡ true → SweepLoop ins outs starts bytes leaf heads₀ sizes₀ other₀ heads' sizes' other' now q
-    sweep_cut so e z = rw z (record {
+    pub sweep_next : {other' : List ℕ} → length other' ≡ length other → SweepLoop ins outs starts bytes leaf heads₀ sizes₀ other₀ heads' sizes' other' (any || b) (k - 1)
+    sweep_next so = record {
       inside = omega (arith, L.inside);
       table = C.table;
       same_heads = sh ∙ L.same_heads;
       same_sizes = ss ∙ L.same_sizes;
       same_other = so ∙ L.same_other;
-      cuts = then_cut L.cuts e cuts_here;
-      passed = λ z. conflict (cc);
-    })
-
-    pub sweep_none : {other' : List ℕ} → length other' ≡ length other → b ≡ false → {now : Bool} → now ≡ any → SweepLoop ins outs starts bytes leaf heads₀ sizes₀ other₀ heads' sizes' other' now q
-    sweep_none so e y = rw y (record {
-      inside = omega (arith, L.inside);
-      table = C.table;
-      same_heads = sh ∙ L.same_heads;
-      same_sizes = ss ∙ L.same_sizes;
-      same_other = so ∙ L.same_other;
-      cuts = then_none L.cuts e cuts_here;
-      passed = λ z p h g. by_cases (ℕ_discrete p q) (λ f. rw f (rw (← same_patterns L.cuts z, ← L.same_sizes) (C.fixed e))) (λ f. L.passed z p (omega arith) g);
-    })
+      cuts = then_cuts L.cuts cuts_here;
+      passed = λ z p h g. let w = both_false any b z in by_cases (ℕ_discrete p (k - 1)) (λ f. rw f (rw (← same_patterns L.cuts w.0, ← L.same_sizes) (C.fixed w.1))) (λ f. L.passed w.0 p (omega arith) g);
+    }
 
   pub sweep_end : k ≡ 0 → Swept ins outs starts bytes leaf heads₀ sizes₀ heads sizes any
   sweep_end h = record { table = L.table; cuts = L.cuts; fixed = λ e p g. L.passed e p (omega arith) g }
 
--- ---- cuts of the states whose callees changed
--- what is left to cut of n states, and the sum of the words of flags, which is less than 2 ^ 66
+-- ---- any number of cuts
+-- what is left to cut of n states, and the words of flags together, which are less than 2 ^ 129
 abbrev pub ahead : List ℕ → List ℕ → List ℕ → ℕ → ℕ → ℕ
-ahead outs heads sizes n flags = 73786976294838206464 * total (head_of outs heads sizes) n + flags
+ahead outs heads sizes n flags = 2 ^ 129 * total (head_of outs heads sizes) n + flags
 
--- the loop over the flags: those of this round are the words `flags` together, and f is the first
-pub record FollowLoop (ins outs starts bytes heads₀ sizes₀ other₀ heads sizes other : List ℕ) (flags f : ℕ) : Type 0 where
+-- the table was cut, and no area has another length
+pub record FollowLoop (ins outs starts bytes heads₀ sizes₀ other₀ heads sizes other : List ℕ) : Type 0 where
   pub same_heads : length heads ≡ length heads₀
   pub same_sizes : length sizes ≡ length sizes₀
   pub same_other : length other ≡ length other₀
-  pub set : f < length sizes₀ → 0 < flags
   pub followed : Followed ins outs starts bytes heads₀ sizes₀ heads sizes
 
-pub follow_start : {ins outs starts bytes heads sizes other : List ℕ} {flags f : ℕ} → 0 < flags → Heads outs heads sizes → FollowLoop ins outs starts bytes heads sizes other heads sizes other flags f
-follow_start h T = record { same_heads = refl; same_sizes = refl; same_other = refl; set = λ g. h; followed = record { table = T; any = false; cuts = no_cut _ } }
+pub follow_start : {ins outs starts bytes heads sizes other : List ℕ} → Heads outs heads sizes → FollowLoop ins outs starts bytes heads sizes other heads sizes other
+follow_start T = record { same_heads = refl; same_sizes = refl; same_other = refl; followed = record { table = T; any = false; cuts = no_cut _ } }
 
 module _ {ins outs starts bytes heads₀ sizes₀ other₀ : List ℕ} (B : Bodies ins outs starts bytes heads₀ sizes₀ other₀)
-    {heads sizes other : List ℕ} {flags f : ℕ} (L : FollowLoop ins outs starts bytes heads₀ sizes₀ other₀ heads sizes other flags f) where
+    {heads sizes other : List ℕ} (L : FollowLoop ins outs starts bytes heads₀ sizes₀ other₀ heads sizes other) where
+  cuts_on : {h' : ℕ → Pattern} {b : Bool} → Cuts ins (machine ins outs starts bytes (length sizes)) (length sizes) (head_of outs heads sizes) h' b → Cuts ins (machine ins outs starts bytes (length sizes₀)) (length sizes₀) (head_of outs heads sizes) h' b
+  cuts_on C = rw (← L.same_sizes) C
+
   pub follow_bodies : Bodies ins outs starts bytes heads sizes other
   follow_bodies = other_table B L.followed.table L.same_sizes L.same_other
 
-  module _ {leaf q : ℕ} {heads' sizes' : List ℕ} {b : Bool} (C : CutState ins outs starts bytes leaf q heads sizes heads' sizes' b) where
-    state_here : Cuts ins (machine ins outs starts bytes (length sizes₀)) (length sizes₀) (head_of outs heads sizes) (head_of outs heads' sizes') b
-    state_here = rw (← L.same_sizes) C.cuts
-
-    pub follow_next : {other' : List ℕ} {flags' f' : ℕ} → length heads' ≡ length heads → length sizes' ≡ length sizes → length other' ≡ length other → (f' < 128 → 0 < flags') → FollowLoop ins outs starts bytes heads₀ sizes₀ other₀ heads' sizes' other' flags' f'
-    follow_next sh ss so first = record {
+  module _ {heads' sizes' : List ℕ} {b : Bool} (C : Cuts ins (machine ins outs starts bytes (length sizes)) (length sizes) (head_of outs heads sizes) (head_of outs heads' sizes') b) where
+    -- more cuts
+    pub follow_next : Heads outs heads' sizes' → length heads' ≡ length heads → length sizes' ≡ length sizes → {other' : List ℕ} → length other' ≡ length other → FollowLoop ins outs starts bytes heads₀ sizes₀ other₀ heads' sizes' other'
+    follow_next T sh ss so = record {
       same_heads = sh ∙ L.same_heads;
       same_sizes = ss ∙ L.same_sizes;
       same_other = so ∙ L.same_other;
-      set = λ h. first (omega (arith, B.layout.few_states));
-      followed = go b refl;
+      followed = record { table = T; any = L.followed.any || b; cuts = then_cuts L.followed.cuts (cuts_on C) };
     }
-      where
-        go : (x : Bool) → b ≡ x → Followed ins outs starts bytes heads₀ sizes₀ heads' sizes'
-        go true e = record { table = C.table; any = true; cuts = then_cut L.followed.cuts e state_here }
-        go false e = record { table = C.table; any = L.followed.any; cuts = then_none L.followed.cuts e state_here }
 
-    pub less_cut : (k : ℕ) {k' : ℕ} → b ≡ true → k' < 73786976294838206464 → ahead outs heads' sizes' (length sizes₀) k' < ahead outs heads sizes (length sizes₀) k
-    less_cut k e h = omega (arith, state_here.less e)
+  module _ {leaf q : ℕ} {heads' sizes' : List ℕ} {b : Bool} (C : CutState ins outs starts bytes leaf q heads sizes heads' sizes' b) where
+    pub less_cut : (k : ℕ) {k' : ℕ} → b ≡ true → k' < 2 ^ 129 → ahead outs heads' sizes' (length sizes₀) k' < ahead outs heads sizes (length sizes₀) k
+    less_cut k e h = omega (arith, (cuts_on C.cuts).less e)
 
     pub less_none : {k k' : ℕ} → b ≡ false → k' < k → ahead outs heads' sizes' (length sizes₀) k' < ahead outs heads sizes (length sizes₀) k
-    less_none e h = omega (arith, ap (λ k. total k (length sizes₀)) (same_patterns state_here e))
+    less_none e h = omega (arith, ap (λ k. total k (length sizes₀)) (same_patterns (cuts_on C.cuts) e))
 
--- ---- the loop until nothing is cut
-pub record SettleLoop (ins outs starts bytes : List ℕ) (leaf : ℕ) (heads₀ sizes₀ other₀ heads sizes other : List ℕ) (again : Bool) : Type 0 where
-  pub table : Heads outs heads sizes
-  pub same_heads : length heads ≡ length heads₀
-  pub same_sizes : length sizes ≡ length sizes₀
-  pub same_other : length other ≡ length other₀
-  pub above : (l : Leaf ins) → AllAbove ins l (machine ins outs starts bytes (length sizes₀)) (length sizes₀) (head_of outs heads₀ sizes₀) → AllAbove ins l (machine ins outs starts bytes (length sizes₀)) (length sizes₀) (head_of outs heads sizes)
-  pub under : AllUnder (length sizes₀) (head_of outs heads sizes) (head_of outs heads₀ sizes₀)
-  pub fixed : again ≡ false → (q : ℕ) → q < length sizes₀ → FixedAt ins leaf (machine ins outs starts bytes (length sizes₀)) (head_of outs heads sizes) q
+module _ {ins outs starts bytes heads₀ sizes₀ other₀ : List ℕ} (B : Bodies ins outs starts bytes heads₀ sizes₀ other₀)
+    {heads sizes other : List ℕ} (L : FollowLoop ins outs starts bytes heads₀ sizes₀ other₀ heads sizes other) where
+  -- ---- until nothing is cut
+  module _ {leaf : ℕ} {heads' sizes' : List ℕ} {b : Bool} (C : Swept ins outs starts bytes leaf heads sizes heads' sizes' b) (sh : length heads' ≡ length heads) (ss : length sizes' ≡ length sizes) where
+    -- what cuts is not done, and leaves less to cut
+    pub settle_less : b ≡ true → {heads'' sizes'' : List ℕ} → Followed ins outs starts bytes heads' sizes' heads'' sizes'' → length sizes'' ≡ length sizes' → total (head_of outs heads'' sizes'') (length sizes'') < total (head_of outs heads sizes) (length sizes)
+    settle_less t F e = rw (e, ss) (let k = rw ss at (not_more F.cuts) in omega (arith, C.cuts.less t))
 
--- what is left to cut, and one turn that finds nothing
-pub left : List ℕ → List ℕ → List ℕ → Bool → ℕ
-left outs heads sizes again = total (head_of outs heads sizes) (length sizes) + one_if again
-
-pub settle_start : {ins outs starts bytes heads sizes other : List ℕ} (leaf : ℕ) → Heads outs heads sizes → SettleLoop ins outs starts bytes leaf heads sizes other heads sizes other true
-settle_start leaf T = record { table = T; same_heads = refl; same_sizes = refl; same_other = refl; above = λ l a. a; under = λ q v. prefix_self _; fixed = λ e. conflict (cc) }
-
-module _ {ins outs starts bytes heads₀ sizes₀ other₀ : List ℕ} (B : Bodies ins outs starts bytes heads₀ sizes₀ other₀) {leaf : ℕ}
-    {heads sizes other : List ℕ} {again : Bool} (L : SettleLoop ins outs starts bytes leaf heads₀ sizes₀ other₀ heads sizes other again) where
-  pub settle_bodies : Bodies ins outs starts bytes heads sizes other
-  settle_bodies = other_table B L.table L.same_sizes L.same_other
-
-  -- what follows calls keeps the loop going, and leaves no more to cut
-  module _ {heads' sizes' : List ℕ} (F : Followed ins outs starts bytes heads sizes heads' sizes') (ss : length sizes' ≡ length sizes) where
-    followed_here : Cuts ins (machine ins outs starts bytes (length sizes₀)) (length sizes₀) (head_of outs heads sizes) (head_of outs heads' sizes') F.any
-    followed_here = rw (← L.same_sizes) F.cuts
-
-    pub settle_follow : {other' : List ℕ} → length heads' ≡ length heads → length other' ≡ length other → SettleLoop ins outs starts bytes leaf heads₀ sizes₀ other₀ heads' sizes' other' true
-    settle_follow sh so = record {
-      table = F.table;
-      same_heads = sh ∙ L.same_heads;
-      same_sizes = ss ∙ L.same_sizes;
-      same_other = so ∙ L.same_other;
-      above = λ l a. followed_here.above l (L.above l a);
-      under = λ q v. prefix_trans (followed_here.under q v) (L.under q v);
-      fixed = λ e. conflict (cc);
-    }
-
-    pub follow_fewer : again ≡ true → left outs heads' sizes' true ≤ left outs heads sizes again
-    unfolding left
-    follow_fewer t = rw (ss, t) (omega (arith, not_more F.cuts))
-
-  module _ {heads' sizes' : List ℕ} {b : Bool} (C : Swept ins outs starts bytes leaf heads sizes heads' sizes' b) (sh : length heads' ≡ length heads) (ss : length sizes' ≡ length sizes) where
-    swept_here : Cuts ins (machine ins outs starts bytes (length sizes₀)) (length sizes₀) (head_of outs heads sizes) (head_of outs heads' sizes') b
-    swept_here = rw (← L.same_sizes) C.cuts
-
-    pub settle_next : {other' : List ℕ} → length other' ≡ length other → SettleLoop ins outs starts bytes leaf heads₀ sizes₀ other₀ heads' sizes' other' b
-    settle_next so = record {
-      table = C.table;
-      same_heads = sh ∙ L.same_heads;
-      same_sizes = ss ∙ L.same_sizes;
-      same_other = so ∙ L.same_other;
-      above = λ l a. swept_here.above l (L.above l a);
-      under = λ q v. prefix_trans (swept_here.under q v) (L.under q v);
-      fixed = λ e q h. rw (same_patterns swept_here e, ← L.same_sizes) (C.fixed e q (omega (arith, L.same_sizes)));
-    }
-
-    pub settle_less : again ≡ true → left outs heads' sizes' b < left outs heads sizes again
-    unfolding left
-    settle_less t = go b refl
-      where
-        go : (x : Bool) → b ≡ x → total (head_of outs heads' sizes') (length sizes') + one_if b < total (head_of outs heads sizes) (length sizes) + one_if again
-        go true e = rw (ss, t, e) (omega (arith, C.cuts.less e))
-        go false e = rw (ss, t, e) (omega (arith, ap (λ k. total k (length sizes)) (same_patterns C.cuts e)))
-
-  pub settle_end : again ≡ false → Settled ins outs starts bytes leaf heads₀ sizes₀ heads sizes
-  settle_end e = record { table = L.table; prefs = λ l a u. all_fixed l (machine_wf l B.layout.wholes) (L.above l a) (λ q v. prefix_trans (L.under q v) (u q v)) (L.fixed e) }
+    -- what cuts nothing ends with the common prefixes
+    pub settle_end : b ≡ false → Settled ins outs starts bytes leaf heads₀ sizes₀ heads' sizes'
+    settle_end e =
+        let cuts = (follow_next B L C.cuts C.table sh ss {other' = other} refl).followed.cuts in
+        record {
+          table = C.table;
+          prefs = λ l a u. all_fixed l (machine_wf l B.layout.wholes) (cuts.above l a) (λ q v. prefix_trans (cuts.under q v) (u q v))
+              (λ q h. rw (same_patterns C.cuts e, ← L.same_sizes) (C.fixed e q (omega (arith, L.same_sizes))));
+        }

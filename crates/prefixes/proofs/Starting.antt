@@ -28,7 +28,7 @@ use Rattle.forms.specs.Inner.Tables.{machine, Layout}
 use Rattle.forms.proofs.Slices.{slice_from}
 use Rattle.prefixes.proofs.Grafts.{top_letter, over_graft, pattern_back}
 use Rattle.forms.proofs.Leaves.{pref_leaf}
-use Rattle.forms.proofs.Files.{machine_wf, number_fits}
+use Rattle.forms.proofs.Files.{machine_wf}
 
 -- ---- the names of the marks
 module _ (bytes : List ℕ) where
@@ -135,22 +135,18 @@ module _ {ins starts bytes : List ℕ} {leaf from to q : ℕ} {heads sizes heads
 
 module _ {ins starts bytes : List ℕ} {leaf : ℕ} {heads₀ sizes₀ : List ℕ} (A : AllStartable ins starts bytes leaf heads₀ sizes₀)
     {heads sizes : List ℕ} {q : ℕ} (L : StartLoop ins starts bytes leaf heads₀ sizes₀ heads sizes q) where
-  -- the number of the right-hand side of q, and the next, are in the table of starts
-  pub start_number : q < length sizes → (body_number ins q leaf < 2049) × (body_number ins q leaf + 1 < length starts)
-  start_number h = number_fits A.layout (omega (arith, L.same_sizes)) A.there
-
-  module _ (there : q < length sizes) {from to : ℕ} (f : from ≡ get_or starts (body_number ins q leaf) 0) (t : to ≡ get_or starts (body_number ins q leaf + 1) 0) where
+  module _ (there : q < length sizes₀) {from to : ℕ} (f : from ≡ get_or starts (body_number ins q leaf) 0) (t : to ≡ get_or starts (body_number ins q leaf + 1) 0) where
     -- each state can be started
     pub can_start : Startable bytes from to heads sizes q
     can_start =
         let Y = A.layout in
-        let less = number_less ins q (length sizes₀) leaf (omega (arith, L.same_sizes)) A.there in
+        let less = number_less ins q (length sizes₀) leaf there A.there in
         record {
           ordered = omega (arith, Y.bounds.ordered (body_number ins q leaf) less);
           inside = omega (arith, Y.bounds.inside (body_number ins q leaf + 1) (omega arith));
           few = omega (arith, Y.few (body_number ins q leaf) less);
-          state = there;
-          room = omega (arith, A.long, L.same_heads, L.same_sizes);
+          state = omega (arith, L.same_sizes);
+          room = omega (arith, A.long, L.same_heads);
         }
 
     pub start_next : {heads' sizes' : List ℕ} → Started bytes from to heads sizes q heads' sizes' → StartLoop ins starts bytes leaf heads₀ sizes₀ heads' sizes' (q + 1)
@@ -162,19 +158,19 @@ module _ {ins starts bytes : List ℕ} {leaf : ℕ} {heads₀ sizes₀ : List �
     }
 
   -- the bytes of each state are a pattern: its right-hand side for the leaf
-  leaf_read : length sizes ≤ q → (outs : List ℕ) → Layout ins outs starts bytes (length sizes₀) → (p : ℕ) → p < length sizes₀ → IsPattern outs (head_at heads sizes p) × (read_pattern outs (head_at heads sizes p) ≡ mapT (λ e. tt) ((machine ins outs starts bytes (length sizes₀)).rhs p leaf))
+  leaf_read : length sizes₀ ≤ q → (outs : List ℕ) → Layout ins outs starts bytes (length sizes₀) → (p : ℕ) → p < length sizes₀ → IsPattern outs (head_at heads sizes p) × (read_pattern outs (head_at heads sizes p) ≡ mapT (λ e. tt) ((machine ins outs starts bytes (length sizes₀)).rhs p leaf))
   unfolding transducer body
   leaf_read h outs Y p g =
       let r = names_read outs Y.few_symbols (length sizes₀) (get_or ins leaf 0) A.rank (body (λ j. get_or starts j 0) bytes (body_number ins p leaf)) (Y.wholes.rhs p leaf g A.there) in
-      rw (L.passed p (omega (arith, L.same_sizes))).head r
+      rw (L.passed p (omega arith)).head r
 
   -- all states are started
-  pub start_end : length sizes ≤ q → AllStarted ins starts bytes leaf sizes₀ heads sizes
+  pub start_end : length sizes₀ ≤ q → AllStarted ins starts bytes leaf sizes₀ heads sizes
   unfolding head_of
   start_end h = record {
     table = λ outs Y. record {
       long = omega (arith, A.long, L.same_heads, L.same_sizes);
-      small = λ p g. (L.passed p (omega arith)).small;
+      small = λ p g. (L.passed p (omega (arith, L.same_sizes))).small;
       each = λ p g. (leaf_read h outs Y p (omega (arith, L.same_sizes))).0;
     };
     started = λ outs Y p g. (leaf_read h outs Y p g).1;

@@ -2,10 +2,9 @@
 ghost use Rattle.std.specs.Prelude.{◌<◌, length};
 ghost use Rattle.prefixes.specs.Inner.Heads.{Cuttable, CutBy, Bodies, CutRhs, CutState, Swept, Followed, Settled, Startable, Started, AllStartable, AllStarted, Prefixable, Prefixes};
 
-use crate::callers::{Flags, find_callers, first_flag, more_flags, next_flags, other_flags};
+use crate::callers::{Flags, find_callers};
 use crate::pattern::{SLOT, cut_pattern, graft};
 use forms::leaf::leaf_symbol;
-use trees::bytes::{number, wide};
 
 // Cuts the pattern of state q by the right-hand side of the marks number `from` up to `to`, and says whether that took anything away.
 pub(crate) fn cut_by(
@@ -23,7 +22,7 @@ pub(crate) fn cut_by(
 {
     let len = graft(heads, sizes, marks, from, to, other);
     let start = SLOT * q;
-    let end = start + wide(sizes[q]);
+    let end = start + usize::from(sizes[q]);
     let shared = cut_pattern(outs, &mut heads[start..end], &other[0..len]);
     let size = shared.size;
     sizes[q] = size as u8;
@@ -50,8 +49,8 @@ fn cut_rhs(
         return false;
     }
     let b = 1 + q * ins.len() + a;
-    let from = number(starts[b]);
-    let to = number(starts[b + 1]);
+    let from = usize::from(starts[b]);
+    let to = usize::from(starts[b + 1]);
     cut_by(outs, heads, sizes, marks, from, to, q, other)
 }
 
@@ -74,12 +73,8 @@ fn cut_state(
         return false;
     }
     let mut any = false;
-    let mut a = 0;
-    while a < ins.len() {
-        if cut_rhs(ins, outs, starts, marks, heads, sizes, leaf, q, a, other) {
-            any = true;
-        }
-        a += 1;
+    for a in 0..ins.len() {
+        any |= cut_rhs(ins, outs, starts, marks, heads, sizes, leaf, q, a, other);
     }
     any
 }
@@ -99,12 +94,8 @@ fn sweep(
     ensures { Swept ins.now outs.now starts.now marks.now leaf heads.old sizes.old heads.new sizes.new result }
 {
     let mut any = false;
-    let mut q = sizes.len();
-    while q > 0 {
-        q -= 1;
-        if cut_state(ins, outs, starts, marks, heads, sizes, leaf, q, other) {
-            any = true;
-        }
+    for q in (0..sizes.len()).rev() {
+        any |= cut_state(ins, outs, starts, marks, heads, sizes, leaf, q, other);
     }
     any
 }
@@ -126,23 +117,16 @@ fn follow(
     ensures { Followed ins.now outs.now starts.now marks.now heads.old sizes.old heads.new sizes.new }
 {
     let n = sizes.len();
-    let mut callers = [0u64; 256];
-    find_callers(ins, starts, marks, n, &mut callers);
+    let callers = find_callers(ins, starts, marks, n);
     let mut flags = Flags {
-        low: 18446744073709551615,
-        high: 18446744073709551615,
-        low2: 0,
-        high2: 0,
+        round: u128::MAX,
+        next: 0,
     };
-    let mut f = 0;
-    while f < n {
-        flags = other_flags(flags);
+    while let Some(f) = flags.take_first(n) {
         let q = n - 1 - f;
         if cut_state(ins, outs, starts, marks, heads, sizes, leaf, q, other) {
-            flags = more_flags(flags, callers[2 * q], callers[2 * q + 1]);
+            flags = flags.with(callers[q]);
         }
-        flags = next_flags(flags, n);
-        f = first_flag(flags);
     }
 }
 
@@ -160,10 +144,9 @@ pub(crate) fn settle(
     requires { Bodies ins.now outs.now starts.now marks.now heads.old sizes.old other.old }
     ensures { Settled ins.now outs.now starts.now marks.now leaf heads.old sizes.old heads.new sizes.new }
 {
-    let mut more = true;
-    while more {
+    follow(ins, outs, starts, marks, heads, sizes, leaf, other);
+    while sweep(ins, outs, starts, marks, heads, sizes, leaf, other) {
         follow(ins, outs, starts, marks, heads, sizes, leaf, other);
-        more = sweep(ins, outs, starts, marks, heads, sizes, leaf, other);
     }
 }
 
@@ -173,11 +156,9 @@ fn start_state(marks: &[u8], from: usize, to: usize, heads: &mut [u8], sizes: &m
     ensures { Started marks.now from to heads.old sizes.old q heads.new sizes.new }
 {
     let mut w = SLOT * q;
-    let mut j = from;
-    while j < to {
+    for j in from..to {
         heads[w] = marks[2 * j + 1];
         w += 1;
-        j += 1;
     }
     sizes[q] = (to - from) as u8;
 }
@@ -194,13 +175,11 @@ fn start_heads(
     requires { AllStartable ins.now starts.now marks.now leaf heads.old sizes.old }
     ensures { AllStarted ins.now starts.now marks.now leaf sizes.old heads.new sizes.new }
 {
-    let mut q = 0;
-    while q < sizes.len() {
+    for q in 0..sizes.len() {
         let b = 1 + q * ins.len() + leaf;
-        let from = number(starts[b]);
-        let to = number(starts[b + 1]);
+        let from = usize::from(starts[b]);
+        let to = usize::from(starts[b + 1]);
         start_state(marks, from, to, heads, sizes, q);
-        q += 1;
     }
 }
 

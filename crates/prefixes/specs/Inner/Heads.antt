@@ -99,8 +99,8 @@ pub record Swept (ins outs starts bytes : List ℕ) (leaf : ℕ) (heads sizes he
 
 -- ---- cuts of the states whose callees changed
 -- the flags that are set, of this round and of the next: a sum of words
-abbrev pub weight : ℕ → ℕ → ℕ → ℕ → ℕ
-weight low high low2 high2 = low + high + low2 + high2
+abbrev pub weight : ℕ → ℕ → ℕ
+weight round next = round + next
 
 -- any number of cuts
 pub record Followed (ins outs starts bytes heads sizes heads' sizes' : List ℕ) : Type 0 where

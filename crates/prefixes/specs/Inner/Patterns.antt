@@ -39,16 +39,6 @@ pub record Ended {A : Type 0} (f : ℕ → Letter A) (s : List ℕ) (at e : ℕ)
   pub inside : e ≤ length s
   pub behind : forest f (drop e s) ≡ rests 1 (forest f (drop at s))
 
--- the n bytes of x from position i on are those of y from position j on
-abbrev pub Alike : List ℕ → ℕ → List ℕ → ℕ → ℕ → Type 0
-Alike x i y j n = (t : ℕ) → t < n → get_or x (i + t) 0 ≡ get_or y (j + t) 0
-
--- and both have as many
-pub record Run (x : List ℕ) (i : ℕ) (y : List ℕ) (j n : ℕ) : Type 0 where
-  pub first : i + n ≤ length x
-  pub second : j + n ≤ length y
-  pub alike : Alike x i y j n
-
 -- the pattern x was cut to what it shares with y; cut says whether that took anything away
 pub record CutPattern (outs x y after : List ℕ) (size : ℕ) (cut : Bool) : Type 0 where
   pub short : size ≤ length x

@@ -1,10 +1,6 @@
 -- `graft` meets its contract. The invariant is `Grafting`. Assumes nothing.
-use Prim.Native.Nat.{◌-◌}
 use Rattle.prefixes.proofs.Grafts.{Grafting}
 use Rattle.prefixes.proofs.pattern.graft.Given as goal
 
 abbrev pub invariant-loop-j : goal.invariant-loop-j
 invariant-loop-j l = Grafting l.heads l.sizes l.marks l.from l.to l.initial.out l.out l.w l.j
-
-abbrev pub decreases-loop-j : goal.decreases-loop-j
-decreases-loop-j l = l.to - l.j

@@ -1,14 +1,7 @@
 -- `cut_state` meets its contract: ⊤ stays, and for any other pattern the invariant is `StateLoop`. Assumes nothing.
 use native.Mathlib.Omega.{arith}
-use Rattle.prefixes.proofs.Settling.{state_start, state_bodies, loop_cut, loop_none, state_end, top_kept}
+use Rattle.prefixes.proofs.Settling.{state_start, state_bodies, state_next, state_end, top_kept}
 use Rattle.prefixes.proofs.prefix.cut_state.Goals as goal
-use Rattle.prefixes.proofs.prefix.cut_state.Goals.{then-cut_rhs, else-cut_rhs}
-
-pub overflow_mul-q : goal.overflow_mul-q
-overflow_mul-q c = omega (arith, c.requires.0.layout.few_states)
-
-pub bounds-heads-q : goal.bounds-heads-q
-bounds-heads-q c = omega (arith, c.requires.0.table.long)
 
 pub returns-then-heads-q : goal.returns-then-heads-q
 returns-then-heads-q c =
@@ -17,21 +10,13 @@ returns-then-heads-q c =
 pub loop-a-init : goal.loop-a-init
 loop-a-init c = state_start c.args.leaf c.args.q c.requires.0.table
 
-pub cut_rhs-requires : goal.cut_rhs-requires
-cut_rhs-requires c =
+pub cut_rhs-any-requires : goal.cut_rhs-any-requires
+cut_rhs-any-requires c =
     let L = c.loop-a.invariant in
     (state_bodies c.requires.0 L, omega (arith, L.same_sizes, c.requires.1), c.loop-a-test.true)
 
 pub loop-a-preserved : goal.loop-a-preserved
-loop-a-preserved c =
-    let B = c.requires.0 in
-    let L = c.loop-a.invariant in
-    let t = c.loop-a-test.true in
-    let k = c.cut_rhs in
-    elim c.if-cut_rhs.branch [
-      | then-cut_rhs w ↦ loop_cut B L t k.ensures k.auto.heads k.auto.sizes k.auto.other w.if-cut_rhs.true w.any-is
-      | else-cut_rhs w ↦ loop_none B L t k.ensures k.auto.heads k.auto.sizes k.auto.other w.if-cut_rhs.false w.any-is
-    ]
+loop-a-preserved c = let k = c.cut_rhs-any in state_next c.requires.0 c.loop-a.invariant c.loop-a-test.true k.ensures k.auto.heads k.auto.sizes k.auto.other
 
 pub shape_of-heads : goal.shape_of-heads
 shape_of-heads c = c.loop-a.invariant.same_heads

@@ -1,11 +1,6 @@
 -- `cut_state` meets its contract: ⊤ stays, and for any other pattern the invariant is `StateLoop`. Assumes nothing.
-use Prim.Native.Nat.{◌-◌}
-use lib.ListN.{length}
 use Rattle.prefixes.proofs.Settling.{StateLoop}
 use Rattle.prefixes.proofs.prefix.cut_state.Given as goal
 
 abbrev pub invariant-loop-a : goal.invariant-loop-a
 invariant-loop-a l = StateLoop l.ins l.outs l.starts l.marks l.leaf l.q l.initial.heads l.initial.sizes l.initial.other l.heads l.sizes l.other l.any l.a
-
-abbrev pub decreases-loop-a : goal.decreases-loop-a
-decreases-loop-a l = length l.ins - l.a

@@ -1,44 +1,29 @@
--- `settle` meets its contract. The invariant is `SettleLoop`; what is left to cut falls. Assumes nothing.
-use native.Mathlib.Omega.{arith}
-use mathlib.Core.Path.{refl}
-use Rattle.prefixes.proofs.Settling.{settle_start, settle_bodies, settle_follow, follow_fewer, settle_next, settle_less, settle_end}
+-- `settle` meets its contract: a sweep that cuts nothing ends with the common prefixes. Assumes nothing.
+use Rattle.prefixes.proofs.Settling.{follow_start, follow_bodies, follow_next, settle_less, settle_end}
 use Rattle.prefixes.proofs.prefix.settle.Goals as goal
 
-pub loop-more-init : goal.loop-more-init
-loop-more-init c = settle_start c.args.leaf c.requires.table
+pub loop-heads-init : goal.loop-heads-init
+loop-heads-init c = let k = c.follow in follow_next c.requires (follow_start c.requires.table) k.ensures.cuts k.ensures.table k.auto.heads k.auto.sizes k.auto.other
 
-pub follow-requires : goal.follow-requires
-follow-requires c = settle_bodies c.requires c.loop-more.invariant
+pub sweep-requires : goal.sweep-requires
+sweep-requires c = follow_bodies c.requires c.loop-heads.invariant
 
-pub sweep-more-requires : goal.sweep-more-requires
-sweep-more-requires c =
-    let B = c.requires in
-    let k = c.follow in
-    settle_bodies B (settle_follow B c.loop-more.invariant k.ensures k.auto.sizes k.auto.heads k.auto.other)
+pub follow-requires-in-loop-heads : goal.follow-requires-in-loop-heads
+follow-requires-in-loop-heads c =
+    let z = c.sweep in
+    follow_bodies c.requires (follow_next c.requires c.loop-heads.invariant z.ensures.cuts z.ensures.table z.auto.heads z.auto.sizes z.auto.other)
 
-pub loop-more-smaller : goal.loop-more-smaller
-loop-more-smaller c =
-    let B = c.requires in
-    let k = c.follow in
-    let z = c.sweep-more in
-    let L = c.loop-more.invariant in
-    omega (arith, follow_fewer B L k.ensures k.auto.sizes c.loop-more-test.true, settle_less B (settle_follow B L k.ensures k.auto.sizes {other' = k.new.other} k.auto.heads k.auto.other) z.ensures z.auto.heads z.auto.sizes refl)
+pub loop-heads-preserved : goal.loop-heads-preserved
+loop-heads-preserved c =
+    let z = c.sweep in
+    let k = c.follow-in-loop-heads in
+    follow_next c.requires (follow_next c.requires c.loop-heads.invariant z.ensures.cuts z.ensures.table z.auto.heads z.auto.sizes z.auto.other) k.ensures.cuts k.ensures.table k.auto.heads k.auto.sizes k.auto.other
 
-pub loop-more-preserved : goal.loop-more-preserved
-loop-more-preserved c =
-    let B = c.requires in
-    let k = c.follow in
-    let z = c.sweep-more in
-    settle_next B (settle_follow B c.loop-more.invariant k.ensures k.auto.sizes {other' = k.new.other} k.auto.heads k.auto.other) z.ensures z.auto.heads z.auto.sizes z.auto.other
-
-pub shape_of-heads : goal.shape_of-heads
-shape_of-heads c = c.loop-more.invariant.same_heads
-
-pub shape_of-sizes : goal.shape_of-sizes
-shape_of-sizes c = c.loop-more.invariant.same_sizes
-
-pub shape_of-other : goal.shape_of-other
-shape_of-other c = c.loop-more.invariant.same_other
+pub loop-heads-smaller : goal.loop-heads-smaller
+loop-heads-smaller c =
+    let z = c.sweep in
+    let k = c.follow-in-loop-heads in
+    settle_less c.requires c.loop-heads.invariant z.ensures z.auto.heads z.auto.sizes c.loop-heads-test.true k.ensures k.auto.sizes
 
 pub returns : goal.returns
-returns c = settle_end c.requires c.loop-more.invariant c.loop-more-test.false
+returns c = let z = c.sweep in settle_end c.requires c.loop-heads.invariant z.ensures z.auto.heads z.auto.sizes c.loop-heads-test.false

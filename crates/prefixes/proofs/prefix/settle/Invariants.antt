@@ -1,9 +1,12 @@
--- `settle` meets its contract. The invariant is `SettleLoop`; what is left to cut falls. Assumes nothing.
-use Rattle.prefixes.proofs.Settling.{SettleLoop, left}
+-- What the loop of `settle` keeps: the patterns stay above the common prefixes. Each turn leaves less to cut. Assumes nothing.
+use lib.ListN.{length}
+use Rattle.theory.specs.Inner.Total.{total}
+use Rattle.prefixes.specs.Inner.Heads.{head_of}
+use Rattle.prefixes.proofs.Settling.{FollowLoop}
 use Rattle.prefixes.proofs.prefix.settle.Given as goal
 
-abbrev pub invariant-loop-more : goal.invariant-loop-more
-invariant-loop-more l = SettleLoop l.ins l.outs l.starts l.marks l.leaf l.initial.heads l.initial.sizes l.initial.other l.heads l.sizes l.other l.more
+abbrev pub invariant-loop-heads : goal.invariant-loop-heads
+invariant-loop-heads l = FollowLoop l.ins l.outs l.starts l.marks l.fn.heads l.fn.sizes l.fn.other l.heads l.sizes l.other
 
-abbrev pub decreases-loop-more : goal.decreases-loop-more
-decreases-loop-more l = left l.outs l.heads l.sizes l.more
+abbrev pub decreases-loop-heads : goal.decreases-loop-heads
+decreases-loop-heads l = total (head_of l.outs l.heads l.sizes) (length l.sizes)

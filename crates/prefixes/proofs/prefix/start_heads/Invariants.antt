@@ -1,11 +1,6 @@
 -- `start_heads` meets its contract. The invariant is `StartLoop`. Assumes nothing.
-use Prim.Native.Nat.{◌-◌}
-use lib.ListN.{length}
 use Rattle.prefixes.proofs.Starting.{StartLoop}
 use Rattle.prefixes.proofs.prefix.start_heads.Given as goal
 
 abbrev pub invariant-loop-q : goal.invariant-loop-q
 invariant-loop-q l = StartLoop l.ins l.starts l.marks l.leaf l.initial.heads l.initial.sizes l.heads l.sizes l.q
-
-abbrev pub decreases-loop-q : goal.decreases-loop-q
-decreases-loop-q l = length l.initial.sizes - l.q

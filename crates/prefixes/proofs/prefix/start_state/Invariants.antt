@@ -1,11 +1,8 @@
 -- `start_state` meets its contract. The invariant: writing the names of the marks from j on ends as writing all of them from the start. Assumes nothing.
-use Prim.Native.Nat.{◌-◌, ◌*◌, ◌≤◌}
+use Prim.Native.Nat.{◌*◌, ◌≤◌}
 use Rattle.formats.proofs.Writing.{Writing}
 use Rattle.prefixes.specs.Inner.Heads.{names}
 use Rattle.prefixes.proofs.prefix.start_state.Given as goal
 
 abbrev pub invariant-loop-j : goal.invariant-loop-j
 invariant-loop-j l = (l.j ≤ l.to) × Writing (names l.marks l.from l.to) (64 * l.q) l.initial.heads (names l.marks l.j l.to) l.w l.heads
-
-abbrev pub decreases-loop-j : goal.decreases-loop-j
-decreases-loop-j l = l.to - l.j

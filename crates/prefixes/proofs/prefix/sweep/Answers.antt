@@ -1,20 +1,16 @@
 -- `sweep` meets its contract. The invariant is `SweepLoop`. Assumes nothing.
 use native.Mathlib.Omega.{arith}
-use mathlib.Core.Path.{refl}
-use Rattle.prefixes.proofs.Settling.{sweep_start, sweep_bodies, sweep_cut, sweep_none, sweep_end}
+use Rattle.prefixes.proofs.Settling.{sweep_start, sweep_bodies, sweep_next, sweep_end}
 use Rattle.prefixes.proofs.prefix.sweep.Goals as goal
 
 pub loop-q-init : goal.loop-q-init
 loop-q-init c = sweep_start c.args.leaf c.requires.table
 
-pub cut_state-requires : goal.cut_state-requires
-cut_state-requires c = (sweep_bodies c.requires c.loop-q.invariant, omega (arith, c.loop-q.invariant.inside, c.loop-q.invariant.same_sizes))
-
-pub loop-q-preserved-then-cut_state : goal.loop-q-preserved-then-cut_state
-loop-q-preserved-then-cut_state c = let k = c.cut_state in sweep_cut c.requires c.loop-q.invariant (omega arith) k.ensures k.auto.heads k.auto.sizes k.auto.other c.if-cut_state.true refl
+pub cut_state-any-requires : goal.cut_state-any-requires
+cut_state-any-requires c = (sweep_bodies c.requires c.loop-q.invariant, omega (arith, c.loop-q.invariant.inside, c.loop-q.invariant.same_sizes))
 
 pub loop-q-preserved : goal.loop-q-preserved
-loop-q-preserved c = let k = c.cut_state in sweep_none c.requires c.loop-q.invariant (omega arith) k.ensures k.auto.heads k.auto.sizes k.auto.other c.if-cut_state.false refl
+loop-q-preserved c = let k = c.cut_state-any in sweep_next c.requires c.loop-q.invariant (omega arith) k.ensures k.auto.heads k.auto.sizes k.auto.other
 
 pub shape_of-heads : goal.shape_of-heads
 shape_of-heads c = c.loop-q.invariant.same_heads
