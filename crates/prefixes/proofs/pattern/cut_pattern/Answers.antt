@@ -44,8 +44,5 @@ loop-i-preserved c =
           (λ h. elim w.if-from-outs.branch [ then-from-outs v ↦ absurd (omega arith) | else-from-outs v ↦ v.cut-is ]))
     ]
 
-pub shape_of-x : goal.shape_of-x
-shape_of-x c = c.loop-i.invariant.long
-
 pub returns : goal.returns
 returns c = cutting_done c.loop-i.invariant (omega arith)

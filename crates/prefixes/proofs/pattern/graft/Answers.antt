@@ -17,9 +17,6 @@ slice_bounds-copy_at-end c =
     let C = called c.requires c.loop-j.j c.loop-j.invariant.first c.loop-j-test.true c.if-i-eq0.false c.from-q.ensures in
     omega (arith, C.small, c.from-size.ensures)
 
-pub loop-j-init : goal.loop-j-init
-loop-j-init c = graft_start c.requires
-
 pub copy_at-requires : goal.copy_at-requires
 copy_at-requires c =
     let C = called c.requires c.loop-j.j c.loop-j.invariant.first c.loop-j-test.true c.if-i-eq0.false c.from-q.ensures in
@@ -35,9 +32,6 @@ loop-j-preserved c =
       | else-i-eq0 w ↦
           graft_call G L t w.if-i-eq0.false w.from-q.ensures w.from-size.ensures (w.out-is ∙ w.copy_at.ensures) w.w-is
     ]
-
-pub shape_of-out : goal.shape_of-out
-shape_of-out c = c.loop-j.invariant.same
 
 pub returns : goal.returns
 returns c = graft_end c.requires c.loop-j.invariant c.loop-j-test.false

@@ -18,14 +18,5 @@ cut_rhs-any-requires c =
 pub loop-a-preserved : goal.loop-a-preserved
 loop-a-preserved c = let k = c.cut_rhs-any in state_next c.requires.0 c.loop-a.invariant c.loop-a-test.true k.ensures k.auto.heads k.auto.sizes k.auto.other
 
-pub shape_of-heads : goal.shape_of-heads
-shape_of-heads c = c.loop-a.invariant.same_heads
-
-pub shape_of-sizes : goal.shape_of-sizes
-shape_of-sizes c = c.loop-a.invariant.same_sizes
-
-pub shape_of-other : goal.shape_of-other
-shape_of-other c = c.loop-a.invariant.same_other
-
 pub returns : goal.returns
 returns c = state_end c.requires.0 c.loop-a.invariant c.loop-a-test.false

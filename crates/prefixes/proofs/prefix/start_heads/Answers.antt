@@ -12,11 +12,5 @@ start_state-requires c = can_start c.requires c.loop-q.invariant c.loop-q-test.t
 pub loop-q-preserved : goal.loop-q-preserved
 loop-q-preserved c = start_next c.requires c.loop-q.invariant c.loop-q-test.true c.from-from.ensures c.from-to.ensures c.start_state.ensures
 
-pub shape_of-heads : goal.shape_of-heads
-shape_of-heads c = c.loop-q.invariant.same_heads
-
-pub shape_of-sizes : goal.shape_of-sizes
-shape_of-sizes c = c.loop-q.invariant.same_sizes
-
 pub returns : goal.returns
 returns c = start_end c.requires c.loop-q.invariant c.loop-q-test.false

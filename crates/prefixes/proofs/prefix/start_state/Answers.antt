@@ -8,9 +8,6 @@ use Rattle.prefixes.specs.Inner.Heads.{names}
 use Rattle.prefixes.proofs.Starting.{names_first, names_end, start_fits}
 use Rattle.prefixes.proofs.prefix.start_state.Goals as goal
 
-pub loop-j-init : goal.loop-j-init
-loop-j-init c = (c.requires.ordered, begin (names c.args.marks.now c.args.from c.args.to) c.args.heads.now (64 * c.args.q))
-
 pub bounds-heads-w : goal.bounds-heads-w
 bounds-heads-w c =
     let a = c.args in
@@ -26,9 +23,6 @@ loop-j-preserved c =
     let a = c.args in
     let l = c.loop-j in
     (omega arith, one_more_lem l.invariant.1 (get_or a.marks.now (2 * l.j + 1) 0) (names a.marks.now (l.j + 1) a.to) (names_first a.marks.now l.j a.to c.loop-j-test.true c.requires.inside) refl refl)
-
-pub shape_of-heads : goal.shape_of-heads
-shape_of-heads c = c.loop-j.invariant.1.same
 
 pub returns : goal.returns
 returns c =

@@ -12,14 +12,5 @@ cut_state-any-requires c = (sweep_bodies c.requires c.loop-q.invariant, omega (a
 pub loop-q-preserved : goal.loop-q-preserved
 loop-q-preserved c = let k = c.cut_state-any in sweep_next c.requires c.loop-q.invariant (omega arith) k.ensures k.auto.heads k.auto.sizes k.auto.other
 
-pub shape_of-heads : goal.shape_of-heads
-shape_of-heads c = c.loop-q.invariant.same_heads
-
-pub shape_of-sizes : goal.shape_of-sizes
-shape_of-sizes c = c.loop-q.invariant.same_sizes
-
-pub shape_of-other : goal.shape_of-other
-shape_of-other c = c.loop-q.invariant.same_other
-
 pub returns : goal.returns
 returns c = sweep_end c.requires c.loop-q.invariant (omega (arith, c.loop-q-test.false))
