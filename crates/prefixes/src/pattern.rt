@@ -1,8 +1,8 @@
 // Patterns as bytes: a symbol, or 255 for ⊤, where anything may stand; in preorder, one byte each.
-ghost use Rattle.std.specs.Prelude.{◌*◌, ◌+◌, ◌≤◌, ◌<◌, true, ◌≡◌, length, drop};
+ghost use Rattle.std.specs.Prelude.{◌*◌, ◌+◌, ◌≤◌, ◌<◌, true, ◌≡◌, length, drop, is_some};
 ghost use Rattle.theory.specs.Term.{count};
 ghost use Rattle.trees.specs.Inner.Decode.{forest};
-ghost use Rattle.prefixes.specs.Inner.Patterns.{top_of, IsPattern, Ended, CutPattern, Begins, Graftable, grafted};
+ghost use Rattle.prefixes.specs.Inner.Patterns.{top_of, IsPattern, Ended, CutPattern, size_after, Begins, Graftable, grafted};
 
 use formats::file::copy_at;
 
@@ -28,17 +28,10 @@ fn pattern_end(outs: &[u8], s: &[u8], at: usize) -> usize
     p
 }
 
-// How long a pattern is after a cut, and whether the cut took anything away.
-#[derive(Clone, Copy, Debug, PartialEq, Eq)]
-pub(crate) struct Shared {
-    pub size: usize,
-    pub cut: bool,
-}
-
-// Cuts the pattern `x` to its largest common prefix with the pattern `y`, where it stands.
-pub(crate) fn cut_pattern(outs: &[u8], x: &mut [u8], y: &[u8]) -> Shared
+// Cuts the pattern `x` to its largest common prefix with the pattern `y`, where it stands, and says how long that is if the cut took anything away.
+pub(crate) fn cut_pattern(outs: &[u8], x: &mut [u8], y: &[u8]) -> Option<usize>
     requires { IsPattern outs.now x.old × IsPattern outs.now y.now }
-    ensures { CutPattern outs.now x.old y.now x.new result.size result.cut }
+    ensures { CutPattern outs.now x.old y.now x.new (size_after x.old result) (is_some result) }
 {
     let mut i = 0;
     let mut j = 0;
@@ -61,7 +54,7 @@ pub(crate) fn cut_pattern(outs: &[u8], x: &mut [u8], y: &[u8]) -> Shared
         }
         w += 1;
     }
-    Shared { size: w, cut }
+    cut.then_some(w)
 }
 
 // Writes the right-hand side of the marks number `from` up to `to` with the pattern of each state for its calls, and says how long that is.

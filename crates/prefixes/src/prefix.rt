@@ -23,10 +23,11 @@ pub(crate) fn cut_by(
     let len = graft(heads, sizes, marks, from, to, other);
     let start = SLOT * q;
     let end = start + usize::from(sizes[q]);
-    let shared = cut_pattern(outs, &mut heads[start..end], &other[0..len]);
-    let size = shared.size;
+    let Some(size) = cut_pattern(outs, &mut heads[start..end], &other[..len]) else {
+        return false;
+    };
     sizes[q] = size as u8;
-    shared.cut
+    true
 }
 
 // Cuts the pattern of state q by its right-hand side for symbol a, unless a is the leaf, and says whether that took anything away.

@@ -1,5 +1,5 @@
 -- Patterns as bytes, and what is done with them: the end of one, what two share, the grafting of a right-hand side.
-use Rattle.std.specs.Prelude.{ℕ, ◌+◌, ◌*◌, ◌≤◌, ◌<◌, Bool, true, false, List, [], ◌∷◌, ◌≡◌, ltb, eqb, length, get_or, drop, take}
+use Rattle.std.specs.Prelude.{ℕ, ◌+◌, ◌*◌, ◌≤◌, ◌<◌, Bool, true, false, List, [], ◌∷◌, ◌≡◌, ltb, eqb, length, get_or, drop, take, Option, None, Some}
 use Rattle.std.proofs.Math.Seq.{slice}
 use Rattle.theory.specs.Lcp.{lcp}
 use Rattle.theory.specs.Prefix.{Pattern}
@@ -44,6 +44,11 @@ pub record CutPattern (outs x y after : List ℕ) (size : ℕ) (cut : Bool) : Ty
   pub short : size ≤ length x
   pub shared : take size after ≡ pattern_code (lcp (read_pattern outs x) (read_pattern outs y))
   pub told : Decides (lcp (read_pattern outs x) (read_pattern outs y) ≡ read_pattern outs x → ⊥) cut
+
+-- how long x is after a cut that answers so
+abbrev pub size_after : List ℕ → Option ℕ → ℕ
+size_after x None = length x
+size_after x (Some n) = n
 
 -- ---- a table of patterns: that of state q stands from byte 64 q on
 abbrev pub head_at : List ℕ → List ℕ → ℕ → List ℕ

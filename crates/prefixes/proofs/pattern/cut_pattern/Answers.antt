@@ -3,6 +3,7 @@ use Prim.Native.Nat.{◌<◌}
 use native.Mathlib.Omega.{arith}
 use lib.ListN.{length}
 use Rattle.prefixes.proofs.Ends.{letter_inside}
+use Rattle.prefixes.proofs.Grafts.{cut_answer}
 use Rattle.prefixes.proofs.Patterns.{cutting_start, cutting_done, first_there, second_there, same_turn, other_turn}
 use Rattle.prefixes.proofs.pattern.cut_pattern.Goals as goal
 use Rattle.prefixes.proofs.pattern.cut_pattern.Goals.{then-k-y, else-k-y, then-from-outs, else-from-outs}
@@ -45,4 +46,4 @@ loop-i-preserved c =
     ]
 
 pub returns : goal.returns
-returns c = cutting_done c.loop-i.invariant (omega arith)
+returns c = rw c.then_some.ensures (cut_answer c.loop-i.cut c.requires.0 (cutting_done c.loop-i.invariant (omega arith)))
