@@ -3,6 +3,8 @@ ghost use Rattle.std.specs.Prelude.{◌*◌, ◌^◌, ◌≤◌, ◌<◌, length
 ghost use Rattle.forms.specs.Inner.Tables.{Bounded};
 ghost use Rattle.prefixes.specs.Inner.Heads.{weight};
 
+use crate::tables::Tables;
+
 // Sets the flag `bit` for each state that the marks number `from` up to `to` call.
 fn flag_calls(marks: &[u8], from: usize, to: usize, bit: u128, callers: &mut [u128; 128])
     requires { 2 * to ≤ length marks.now }
@@ -16,15 +18,15 @@ fn flag_calls(marks: &[u8], from: usize, to: usize, bit: u128, callers: &mut [u1
 }
 
 // The flags of the callers of each of n states, of which the state p has flag n - 1 - p. The right-hand sides of a state stand one after the other.
-pub(crate) fn find_callers(ins: &[u8], starts: &[u16], marks: &[u8], n: usize) -> [u128; 128]
-    requires { Bounded ins.now starts.now marks.now n }
+pub(crate) fn find_callers(tables: &Tables, n: usize) -> [u128; 128]
+    requires { Bounded tables.now.ins.now tables.now.starts.now tables.now.marks.now n }
 {
     let mut callers = [0; 128];
     for p in 0..n {
-        let b = 1 + p * ins.len();
-        let from = usize::from(starts[b]);
-        let to = usize::from(starts[b + ins.len()]);
-        flag_calls(marks, from, to, 1 << (n - 1 - p), &mut callers);
+        let b = 1 + p * tables.ins.len();
+        let from = usize::from(tables.starts[b]);
+        let to = usize::from(tables.starts[b + tables.ins.len()]);
+        flag_calls(tables.marks, from, to, 1 << (n - 1 - p), &mut callers);
     }
     callers
 }

@@ -8,6 +8,7 @@ use Rattle.theory.specs.Pref.{CommonPrefix, Prefs}
 use Rattle.theory.specs.Prefix.{Pattern, Prefix}
 use Rattle.theory.specs.Term.{Term, mapT}
 use Rattle.theory.specs.Transducer.{Transducer}
+use Rattle.prefixes.specs.declared.tables.Tables.{Tables}
 use Rattle.trees.specs.Alphabets.{Leaf}
 use Rattle.trees.specs.Inner.Decode.{forest, first, Whole}
 use Rattle.formats.specs.Inner.Layout.{mark_of}
@@ -16,6 +17,10 @@ use Rattle.trees.specs.Refusal.{Decides}
 use Rattle.forms.specs.Alphabet.{alphabet}
 use Rattle.forms.specs.Inner.Tables.{machine, Layout}
 use Rattle.prefixes.specs.Inner.Patterns.{IsPattern, read_pattern, head_at}
+
+-- of the tables of a transducer
+abbrev pub of_tables : {A : Type 1} → (List ℕ → List ℕ → List ℕ → List ℕ → A) → Tables → A
+of_tables f m = f m.ins.now m.outs.now m.starts.now m.marks.now
 
 -- each state has a pattern of at most 64 bytes
 pub record Heads (outs heads sizes : List ℕ) : Type 0 where

@@ -2,7 +2,7 @@
 use Prim.Native.Nat.{◌+◌, ◌*◌}
 use native.Mathlib.Omega.{arith}
 use mathlib.Core.Path.{◌∙◌}
-use Rattle.prefixes.proofs.Grafts.{called, graft_start, graft_room, graft_symbol, graft_call, graft_end}
+use Rattle.prefixes.proofs.Grafts.{called, graft_room, graft_symbol, graft_call, graft_end}
 use borrow.Rule.Slice.PartMut.{mid_len}
 use Rattle.prefixes.proofs.pattern.graft.Goals as goal
 use Rattle.prefixes.proofs.pattern.graft.Goals.{then-i-eq0, else-i-eq0}

@@ -2,13 +2,13 @@
 use Rattle.prefixes.proofs.Settling.{can_cut, body_cut, leaf_out}
 use Rattle.prefixes.proofs.prefix.cut_rhs.Goals as goal
 
-pub returns-then-a-leaf : goal.returns-then-a-leaf
-returns-then-a-leaf c = leaf_out c.requires.0.table c.if-a-leaf.true
+pub returns-then-a-tables : goal.returns-then-a-tables
+returns-then-a-tables c = leaf_out c.requires.0.table c.if-a-tables.true
 
 pub cut_by-requires : goal.cut_by-requires
 cut_by-requires c =
-    can_cut c.requires.0 c.args.q c.args.a c.requires.1 c.requires.2 c.from-from.ensures c.from-to.ensures
+    can_cut c.requires.0 c.args.q c.args.a c.requires.1 c.requires.2 c.body-body.ensures.0 c.body-body.ensures.1
 
 pub returns : goal.returns
 returns c =
-    body_cut c.requires.0 c.args.q c.args.a c.requires.1 c.requires.2 c.from-from.ensures c.from-to.ensures c.cut_by.ensures c.args.leaf
+    body_cut c.requires.0 c.args.q c.args.a c.requires.1 c.requires.2 c.body-body.ensures.0 c.body-body.ensures.1 c.cut_by.ensures c.args.tables.now.leaf

@@ -5,10 +5,10 @@ use Rattle.prefixes.proofs.prefix.cut_state.Goals as goal
 
 pub returns-then-heads-q : goal.returns-then-heads-q
 returns-then-heads-q c =
-    top_kept c.requires.0 c.args.leaf c.args.q c.requires.1 c.if-heads-q.true
+    top_kept c.requires.0 c.args.tables.now.leaf c.args.q c.requires.1 c.if-heads-q.true
 
 pub loop-a-init : goal.loop-a-init
-loop-a-init c = state_start c.args.leaf c.args.q c.requires.0.table
+loop-a-init c = state_start c.args.tables.now.leaf c.args.q c.requires.0.table
 
 pub cut_rhs-any-requires : goal.cut_rhs-any-requires
 cut_rhs-any-requires c =

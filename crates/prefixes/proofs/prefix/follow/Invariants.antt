@@ -5,7 +5,7 @@ use Rattle.prefixes.proofs.Settling.{FollowLoop, ahead}
 use Rattle.prefixes.proofs.prefix.follow.Given as goal
 
 abbrev pub invariant-loop-f : goal.invariant-loop-f
-invariant-loop-f l = FollowLoop l.ins l.outs l.starts l.marks l.initial.heads l.initial.sizes l.initial.other l.heads l.sizes l.other
+invariant-loop-f l = FollowLoop l.tables.ins.now l.tables.outs.now l.tables.starts.now l.tables.marks.now l.initial.heads l.initial.sizes l.initial.other l.heads l.sizes l.other
 
 abbrev pub decreases-loop-f : goal.decreases-loop-f
-decreases-loop-f l = ahead l.outs l.heads l.sizes (length l.initial.sizes) (weight l.flags.round l.flags.next)
+decreases-loop-f l = ahead l.tables.outs.now l.heads l.sizes (length l.initial.sizes) (weight l.flags.round l.flags.next)

@@ -9,4 +9,4 @@ pub returns : goal.returns
 returns c =
     let k = c.start_heads in
     let s = c.settle in
-    all_prefixes c.requires k.ensures k.auto.sizes c.leaf_symbol-leaf.ensures s.ensures s.auto.sizes
+    all_prefixes c.requires k.ensures k.auto.sizes c.leaf_symbol.ensures s.ensures s.auto.sizes

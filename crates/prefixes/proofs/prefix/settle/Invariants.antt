@@ -6,7 +6,7 @@ use Rattle.prefixes.proofs.Settling.{FollowLoop}
 use Rattle.prefixes.proofs.prefix.settle.Given as goal
 
 abbrev pub invariant-loop-heads : goal.invariant-loop-heads
-invariant-loop-heads l = FollowLoop l.ins l.outs l.starts l.marks l.fn.heads l.fn.sizes l.fn.other l.heads l.sizes l.other
+invariant-loop-heads l = FollowLoop l.tables.ins.now l.tables.outs.now l.tables.starts.now l.tables.marks.now l.fn.heads l.fn.sizes l.fn.other l.heads l.sizes l.other
 
 abbrev pub decreases-loop-heads : goal.decreases-loop-heads
-decreases-loop-heads l = total (head_of l.outs l.heads l.sizes) (length l.sizes)
+decreases-loop-heads l = total (head_of l.tables.outs.now l.heads l.sizes) (length l.sizes)

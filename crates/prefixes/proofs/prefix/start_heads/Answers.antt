@@ -7,10 +7,10 @@ pub loop-q-init : goal.loop-q-init
 loop-q-init c = start_none
 
 pub start_state-requires : goal.start_state-requires
-start_state-requires c = can_start c.requires c.loop-q.invariant c.loop-q-test.true c.from-from.ensures c.from-to.ensures
+start_state-requires c = can_start c.requires c.loop-q.invariant c.loop-q-test.true c.body-body.ensures.0 c.body-body.ensures.1
 
 pub loop-q-preserved : goal.loop-q-preserved
-loop-q-preserved c = start_next c.requires c.loop-q.invariant c.loop-q-test.true c.from-from.ensures c.from-to.ensures c.start_state.ensures
+loop-q-preserved c = start_next c.requires c.loop-q.invariant c.loop-q-test.true c.body-body.ensures.0 c.body-body.ensures.1 c.start_state.ensures
 
 pub returns : goal.returns
 returns c = start_end c.requires c.loop-q.invariant c.loop-q-test.false

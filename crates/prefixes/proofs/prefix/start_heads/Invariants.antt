@@ -3,4 +3,4 @@ use Rattle.prefixes.proofs.Starting.{StartLoop}
 use Rattle.prefixes.proofs.prefix.start_heads.Given as goal
 
 abbrev pub invariant-loop-q : goal.invariant-loop-q
-invariant-loop-q l = StartLoop l.ins l.starts l.marks l.leaf l.initial.heads l.initial.sizes l.heads l.sizes l.q
+invariant-loop-q l = StartLoop l.tables.ins.now l.tables.starts.now l.tables.marks.now l.tables.leaf l.initial.heads l.initial.sizes l.heads l.sizes l.q

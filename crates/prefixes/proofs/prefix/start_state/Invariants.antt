@@ -5,4 +5,4 @@ use Rattle.prefixes.specs.Inner.Heads.{names}
 use Rattle.prefixes.proofs.prefix.start_state.Given as goal
 
 abbrev pub invariant-loop-j : goal.invariant-loop-j
-invariant-loop-j l = (l.j ≤ l.to) × Writing (names l.marks l.from l.to) (64 * l.q) l.initial.heads (names l.marks l.j l.to) l.w l.heads
+invariant-loop-j l = (l.j ≤ l.body.to) × Writing (names l.tables.marks.now l.body.from l.body.to) (64 * l.q) l.initial.heads (names l.tables.marks.now l.j l.body.to) l.w l.heads

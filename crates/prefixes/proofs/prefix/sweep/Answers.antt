@@ -4,7 +4,7 @@ use Rattle.prefixes.proofs.Settling.{sweep_start, sweep_bodies, sweep_next, swee
 use Rattle.prefixes.proofs.prefix.sweep.Goals as goal
 
 pub loop-q-init : goal.loop-q-init
-loop-q-init c = sweep_start c.args.leaf c.requires.table
+loop-q-init c = sweep_start c.args.tables.now.leaf c.requires.table
 
 pub cut_state-any-requires : goal.cut_state-any-requires
 cut_state-any-requires c = (sweep_bodies c.requires c.loop-q.invariant, omega (arith, c.loop-q.invariant.inside, c.loop-q.invariant.same_sizes))

@@ -3,4 +3,4 @@ use Rattle.prefixes.proofs.Settling.{SweepLoop}
 use Rattle.prefixes.proofs.prefix.sweep.Given as goal
 
 abbrev pub invariant-loop-q : goal.invariant-loop-q
-invariant-loop-q l = SweepLoop l.ins l.outs l.starts l.marks l.leaf l.initial.heads l.initial.sizes l.initial.other l.heads l.sizes l.other l.any l.q
+invariant-loop-q l = SweepLoop l.tables.ins.now l.tables.outs.now l.tables.starts.now l.tables.marks.now l.tables.leaf l.initial.heads l.initial.sizes l.initial.other l.heads l.sizes l.other l.any l.q
