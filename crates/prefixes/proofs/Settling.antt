@@ -33,12 +33,25 @@ use Rattle.trees.specs.Refusal.{Decides}
 use Rattle.formats.proofs.Pairs.{number_less}
 use Rattle.forms.specs.Alphabet.{alphabet, children_inside}
 use Rattle.prefixes.specs.Inner.Patterns.{top}
-use Rattle.prefixes.specs.Inner.Heads.{Heads, head_of, Cuttable, CutBy, Bodies, FixedAt, AllAbove, UnderLeaf, Cuts, CutRhs, CutState, Swept, Followed, Settled}
+use Rattle.prefixes.specs.declared.pattern.Patterns.{Patterns}
+use Rattle.prefixes.specs.Inner.Heads.{Stays, Heads, head_of, Cuttable, CutBy, Bodies, FixedAt, AllAbove, UnderLeaf, Cuts, CutRhs, CutState, Swept, Followed, Settled}
 use Rattle.forms.specs.Inner.Tables.{machine}
 use Rattle.prefixes.proofs.Grafts.{head_top}
 use Rattle.prefixes.proofs.Above.{prefix_self, cut_above, above_end}
 use Rattle.theory.proofs.NothingEarlier.{prefix_bind}
 use Rattle.forms.proofs.Files.{machine_wf}
+
+-- ---- the table stays where it is
+pub stays_self : (p : Patterns) → Stays p p
+stays_self p = record { heads = refl; sizes = refl; long_heads = refl; long_sizes = refl }
+
+pub stays_more : {p q r : Patterns} → Stays p q → Stays q r → Stays p r
+stays_more S R = record {
+  heads = R.heads ∙ S.heads;
+  sizes = R.sizes ∙ S.sizes;
+  long_heads = R.long_heads ∙ S.long_heads;
+  long_sizes = R.long_sizes ∙ S.long_sizes;
+}
 
 -- ---- one cut
 module _ {ins : List ℕ} {M : Transducer ℕ} {n : ℕ} (W : (l : Leaf ins) → Wf (alphabet ins l) M (λ q. q < n))

@@ -198,3 +198,7 @@ module _ {ins outs starts bytes heads₀ sizes₀ other₀ : List ℕ} (A : Pref
       let l₀ : Leaf ins = record { symbol = leaf; there = found.0; rank = found.1 } in
       let P = rw same at (T.prefs l₀) in
       record { table = T.table; same = e ∙ same; prefs = λ l q h. pref_leaf l₀ l (P (start_above l₀ A.layout S) (start_under A.layout S) q h) }
+
+-- the areas that were lent hold them
+pub put_back : {ins outs starts bytes sizes heads' sizes' heads'' sizes'' : List ℕ} → heads'' ≡ heads' → sizes'' ≡ sizes' → Prefixes ins outs starts bytes sizes heads' sizes' → Prefixes ins outs starts bytes sizes heads'' sizes''
+put_back e f P = rw (e, f) P

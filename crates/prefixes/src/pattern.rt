@@ -57,32 +57,34 @@ pub(crate) fn cut_pattern(outs: &[u8], x: &mut [u8], y: &[u8]) -> Option<usize>
     cut.then_some(w)
 }
 
-// Writes the right-hand side of the marks number `from` up to `to` with the pattern of each state for its calls, and says how long that is.
-pub(crate) fn graft(
-    heads: &[u8],
-    sizes: &[u8],
-    marks: &[u8],
-    from: usize,
-    to: usize,
-    out: &mut [u8],
-) -> usize
-    requires { Graftable heads.now sizes.now marks.now from to out.old }
-    ensures { Begins (grafted heads.now sizes.now marks.now from to) out.new result }
-{
-    let mut w = 0;
-    for j in from..to {
-        let i = marks[2 * j];
-        let x = marks[2 * j + 1];
-        if i == 0 {
-            out[w] = x;
-            w += 1;
-        } else {
-            let q = usize::from(x);
-            let start = SLOT * q;
-            let size = usize::from(sizes[q]);
-            copy_at(&heads[start..start + size], out, w);
-            w += size;
+// A table of patterns: SLOT bytes for each state, of which `sizes` says how many are its pattern.
+#[derive(Drop)]
+pub(crate) struct Patterns<'a> {
+    pub heads: &'a mut [u8],
+    pub sizes: &'a mut [u8],
+}
+
+impl Patterns<'_> {
+    // Writes the right-hand side of the marks number `from` up to `to` with the pattern of each state for its calls, and says how long that is.
+    pub(crate) fn graft(&self, marks: &[u8], from: usize, to: usize, out: &mut [u8]) -> usize
+        requires { Graftable self.now.heads.now self.now.sizes.now marks.now from to out.old }
+        ensures { Begins (grafted self.now.heads.now self.now.sizes.now marks.now from to) out.new result }
+    {
+        let mut w = 0;
+        for j in from..to {
+            let i = marks[2 * j];
+            let x = marks[2 * j + 1];
+            if i == 0 {
+                out[w] = x;
+                w += 1;
+            } else {
+                let q = usize::from(x);
+                let start = SLOT * q;
+                let size = usize::from(self.sizes[q]);
+                copy_at(&self.heads[start..start + size], out, w);
+                w += size;
+            }
         }
+        w
     }
-    w
 }

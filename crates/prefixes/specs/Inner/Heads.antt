@@ -9,6 +9,7 @@ use Rattle.theory.specs.Prefix.{Pattern, Prefix}
 use Rattle.theory.specs.Term.{Term, mapT}
 use Rattle.theory.specs.Transducer.{Transducer}
 use Rattle.prefixes.specs.declared.tables.Tables.{Tables}
+use Rattle.prefixes.specs.declared.pattern.Patterns.{Patterns}
 use Rattle.trees.specs.Alphabets.{Leaf}
 use Rattle.trees.specs.Inner.Decode.{forest, first, Whole}
 use Rattle.formats.specs.Inner.Layout.{mark_of}
@@ -21,6 +22,17 @@ use Rattle.prefixes.specs.Inner.Patterns.{IsPattern, read_pattern, head_at}
 -- of the tables of a transducer
 abbrev pub of_tables : {A : Type 1} → (List ℕ → List ℕ → List ℕ → List ℕ → A) → Tables → A
 of_tables f m = f m.ins.now m.outs.now m.starts.now m.marks.now
+
+-- of a table of patterns before and after a cut
+abbrev pub of_cut : {A : Type 1} → (List ℕ → List ℕ → List ℕ → List ℕ → A) → Patterns → Patterns → A
+of_cut f p p' = f p.heads.now p.sizes.now p'.heads.now p'.sizes.now
+
+-- a table of patterns stays where it is
+pub record Stays (p p' : Patterns) : Type 0 where
+  pub heads : p'.heads.ghost_name ≡ p.heads.ghost_name
+  pub sizes : p'.sizes.ghost_name ≡ p.sizes.ghost_name
+  pub long_heads : length p'.heads.now ≡ length p.heads.now
+  pub long_sizes : length p'.sizes.now ≡ length p.sizes.now
 
 -- each state has a pattern of at most 64 bytes
 pub record Heads (outs heads sizes : List ℕ) : Type 0 where

@@ -4,11 +4,11 @@ use native.Mathlib.Omega.{arith}
 use mathlib.Core.Path.{◌∙◌}
 use Rattle.prefixes.proofs.Grafts.{called, graft_room, graft_symbol, graft_call, graft_end}
 use borrow.Rule.Slice.PartMut.{mid_len}
-use Rattle.prefixes.proofs.pattern.graft.Goals as goal
-use Rattle.prefixes.proofs.pattern.graft.Goals.{then-i-eq0, else-i-eq0}
+use Rattle.prefixes.proofs.pattern.Patterns.graft.Goals as goal
+use Rattle.prefixes.proofs.pattern.Patterns.graft.Goals.{then-i-eq0, else-i-eq0}
 
-pub bounds-sizes-q : goal.bounds-sizes-q
-bounds-sizes-q c =
+pub bounds-self-q : goal.bounds-self-q
+bounds-self-q c =
     let C = called c.requires c.loop-j.j c.loop-j.invariant.first c.loop-j-test.true c.if-i-eq0.false c.from-q.ensures in
     omega arith
 
@@ -20,7 +20,7 @@ slice_bounds-copy_at-end c =
 pub copy_at-requires : goal.copy_at-requires
 copy_at-requires c =
     let C = called c.requires c.loop-j.j c.loop-j.invariant.first c.loop-j-test.true c.if-i-eq0.false c.from-q.ensures in
-    omega (arith, C.small, C.inside, c.from-size.ensures, graft_room c.requires c.loop-j.invariant c.loop-j-test.true, mid_len (64 * c.from-q.result) (64 * c.from-q.result + c.from-size.result) c.args.heads.now (omega (arith, C.small, C.inside, c.from-size.ensures)))
+    omega (arith, C.small, C.inside, c.from-size.ensures, graft_room c.requires c.loop-j.invariant c.loop-j-test.true, mid_len (64 * c.from-q.result) (64 * c.from-q.result + c.from-size.result) c.args.self.now.heads.now (omega (arith, C.small, C.inside, c.from-size.ensures)))
 
 pub loop-j-preserved : goal.loop-j-preserved
 loop-j-preserved c =
