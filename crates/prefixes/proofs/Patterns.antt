@@ -3,10 +3,11 @@
 use Prim.Native.Nat.{ℕ, suc, ◌+◌, ◌-◌, ◌≤◌, ◌<◌}
 use native.Mathlib.Numerals.{add-one}
 use native.Mathlib.Omega.{arith}
-use mathlib.Core.Bool.{Bool, true, false}
+use mathlib.Core.Bool.{Bool, true, false, ◌||◌}
 use mathlib.Core.Logic.{◌↔◌}
 use mathlib.Core.Path.{◌≡◌, refl, sym, ap, ap₂, ◌∙◌}
 use mathlib.Core.List.{List, [], ◌∷◌, ◌++◌, append_assoc, append-nil}
+use Rattle.std.proofs.Math.Bool.{or-true, or-false}
 use lib.Dec.{leb, ltb, eqb}
 use lib.ListN.{length, get_or, drop, take, set, length-drop, length-set, drop_of_length-le}
 use lib.Seq.{drop-drop, drop-set-lt, take-suc-set}
@@ -169,10 +170,10 @@ told_done {P} {Q} {cut} T q = record { sound = T.sound; complete = λ n. go cut 
     go false e n = absurd (n (T.back e q))
 
 -- at two bytes a symbol is cut away, and ⊤ is not
-told_other : {P : Type 0} {outs : List ℕ} {k : ℕ} {F' F L G : Patterns} {cut cut' : Bool} → Byte outs k F' F → L ≡ more (var tt) G → Told P (L ≡ F) cut → (k < length outs → cut' ≡ true) → (length outs ≤ k → cut' ≡ cut) → Told P (G ≡ rests 1 F) cut'
+told_other : {P : Type 0} {outs : List ℕ} {k : ℕ} {F' F L G : Patterns} (cut : Bool) → Byte outs k F' F → L ≡ more (var tt) G → Told P (L ≡ F) cut → Told P (G ≡ rests 1 F) (cut || ltb k (length outs))
 unfolding rests
-told_other (named l e) q T f g = rw (f l) (told_cut T (λ r. conflict (cc)))
-told_other (free l e) q T f g = rw (g l) (told_on T (λ r. cc, λ r. q ∙ ap (more (var tt)) r))
+told_other {outs = outs} {k} cut (named l e) q T = rw (lt-ltb k (length outs) l, or-true cut) (told_cut T (λ r. conflict (cc)))
+told_other {outs = outs} {k} cut (free l e) q T = rw (le-ltb k (length outs) l, or-false cut) (told_on T (λ r. cc, λ r. q ∙ ap (more (var tt)) r))
 
 -- ---- two patterns, compared from left to right
 -- All is compared up to position i of the first pattern, which is now x, and j of the second, y; the w bytes of what they share up to there are written.
@@ -253,10 +254,10 @@ module _ {outs before y x : List ℕ} {i j w : ℕ} {cut : Bool} (M : Cutting ou
         next_turn (i + 1) (j + 1) (get_or x i 0) (omega arith) (omega arith) s.0 (told_on M.told s.1)
 
     -- two bytes: both patterns that begin with them are passed, and ⊤ is written
-    pub other_turn : {i' j' : ℕ} {cut' : Bool} → (get_or x i 0 ≡ get_or y j 0 → ⊥) → Ended (top_of outs) x i i' → Ended (top_of outs) y j j' → (get_or x i 0 < length outs → cut' ≡ true) → (length outs ≤ get_or x i 0 → cut' ≡ cut) → Cutting outs before y (set x w top) i' j' (w + 1) cut'
-    other_turn {i'} {j'} n E E' f g =
+    pub other_turn : {i' j' : ℕ} → (get_or x i 0 ≡ get_or y j 0 → ⊥) → Ended (top_of outs) x i i' → Ended (top_of outs) y j j' → Cutting outs before y (set x w top) i' j' (w + 1) (cut || ltb (get_or x i 0) (length outs))
+    other_turn {i'} {j'} n E E' =
         let B = byte_at outs x i first_there in
         let C = byte_at outs y j second_there in
         let b : patterns_at outs x i' ≡ rests 1 (patterns_at outs x i) = E.behind in
         let c : patterns_at outs y j' ≡ rests 1 (patterns_at outs y j) = E'.behind in
-        next_turn i' j' top E.further E.inside (rw (b, c) (other_byte B C n M.paired)) (rw (b, c) (told_other B (lcps_other B C n) M.told f g))
+        next_turn i' j' top E.further E.inside (rw (b, c) (other_byte B C n M.paired)) (rw (b, c) (told_other cut B (lcps_other B C n) M.told))

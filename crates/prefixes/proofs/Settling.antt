@@ -165,76 +165,72 @@ pub other_table : {ins outs starts bytes heads₀ sizes₀ other₀ : List ℕ} 
 other_table B T e f = record { table = T; layout = rw e B.layout; room = omega (arith, B.room) }
 
 -- ---- the loop over the right-hand sides of q: those before a are passed
-pub record StateLoop (ins outs starts bytes : List ℕ) (leaf q : ℕ) (heads₀ sizes₀ other₀ heads sizes other : List ℕ) (any : Bool) (a : ℕ) : Type 0 where
+pub record StateLoop (ins outs starts bytes : List ℕ) (leaf q : ℕ) (p₀ : Patterns) (other₀ : List ℕ) (p : Patterns) (other : List ℕ) (any : Bool) (a : ℕ) : Type 0 where
   pub inside : a ≤ length ins
-  pub table : Heads outs heads sizes
-  pub same_heads : length heads ≡ length heads₀
-  pub same_sizes : length sizes ≡ length sizes₀
+  pub table : Heads outs p.heads.now p.sizes.now
+  pub stays : Stays p₀ p
   pub same_other : length other ≡ length other₀
-  pub cuts : Cuts ins (machine ins outs starts bytes (length sizes₀)) (length sizes₀) (head_of outs heads₀ sizes₀) (head_of outs heads sizes) any
-  pub passed : any ≡ false → (b : ℕ) → b < a → b ≢ leaf → lcp (head_of outs heads₀ sizes₀ q) (graft (head_of outs heads₀ sizes₀) ((machine ins outs starts bytes (length sizes₀)).rhs q b)) ≡ head_of outs heads₀ sizes₀ q
+  pub cuts : Cuts ins (machine ins outs starts bytes (length p₀.sizes.now)) (length p₀.sizes.now) (head_of outs p₀.heads.now p₀.sizes.now) (head_of outs p.heads.now p.sizes.now) any
+  pub passed : any ≡ false → (b : ℕ) → b < a → b ≢ leaf → lcp (head_of outs p₀.heads.now p₀.sizes.now q) (graft (head_of outs p₀.heads.now p₀.sizes.now) ((machine ins outs starts bytes (length p₀.sizes.now)).rhs q b)) ≡ head_of outs p₀.heads.now p₀.sizes.now q
 
-pub state_start : {ins outs starts bytes heads sizes other : List ℕ} (leaf q : ℕ) → Heads outs heads sizes → StateLoop ins outs starts bytes leaf q heads sizes other heads sizes other false 0
-state_start leaf q T = record { inside = omega arith; table = T; same_heads = refl; same_sizes = refl; same_other = refl; cuts = no_cut _; passed = λ e b h. absurd (omega arith) }
+pub state_start : {ins outs starts bytes other : List ℕ} {p : Patterns} (leaf q : ℕ) → Heads outs p.heads.now p.sizes.now → StateLoop ins outs starts bytes leaf q p other p other false 0
+state_start leaf q T = record { inside = omega arith; table = T; stays = stays_self _; same_other = refl; cuts = no_cut _; passed = λ e b h. absurd (omega arith) }
 
-module _ {ins outs starts bytes heads₀ sizes₀ other₀ : List ℕ} (B : Bodies ins outs starts bytes heads₀ sizes₀ other₀) {leaf q : ℕ}
-    {heads sizes other : List ℕ} {any : Bool} {a : ℕ} (L : StateLoop ins outs starts bytes leaf q heads₀ sizes₀ other₀ heads sizes other any a) where
-  pub state_bodies : Bodies ins outs starts bytes heads sizes other
-  state_bodies = other_table B L.table L.same_sizes L.same_other
+module _ {ins outs starts bytes other₀ : List ℕ} {p₀ : Patterns} (B : Bodies ins outs starts bytes p₀.heads.now p₀.sizes.now other₀) {leaf q : ℕ}
+    {p : Patterns} {other : List ℕ} {any : Bool} {a : ℕ} (L : StateLoop ins outs starts bytes leaf q p₀ other₀ p other any a) where
+  pub state_bodies : Bodies ins outs starts bytes p.heads.now p.sizes.now other
+  state_bodies = other_table B L.table L.stays.long_sizes L.same_other
 
-  module _ (there : a < length ins) {heads' sizes' : List ℕ} {b : Bool} (C : CutRhs ins outs starts bytes leaf q a heads sizes heads' sizes' b) (sh : length heads' ≡ length heads) (ss : length sizes' ≡ length sizes) where
-    rhs_here : Cuts ins (machine ins outs starts bytes (length sizes₀)) (length sizes₀) (head_of outs heads sizes) (head_of outs heads' sizes') b
-    rhs_here = rw (← L.same_sizes) C.cuts
+  module _ (there : a < length ins) {p' : Patterns} {b : Bool} (C : CutRhs ins outs starts bytes leaf q a p.heads.now p.sizes.now p'.heads.now p'.sizes.now b) (s : Stays p p') where
+    rhs_here : Cuts ins (machine ins outs starts bytes (length p₀.sizes.now)) (length p₀.sizes.now) (head_of outs p.heads.now p.sizes.now) (head_of outs p'.heads.now p'.sizes.now) b
+    rhs_here = rw (← L.stays.long_sizes) C.cuts
 
-    pub state_next : {other' : List ℕ} → length other' ≡ length other → StateLoop ins outs starts bytes leaf q heads₀ sizes₀ other₀ heads' sizes' other' (any || b) (a + 1)
+    pub state_next : {other' : List ℕ} → length other' ≡ length other → StateLoop ins outs starts bytes leaf q p₀ other₀ p' other' (any || b) (a + 1)
     state_next so = record {
       inside = omega arith;
       table = C.table;
-      same_heads = sh ∙ L.same_heads;
-      same_sizes = ss ∙ L.same_sizes;
+      stays = stays_more L.stays s;
       same_other = so ∙ L.same_other;
       cuts = then_cuts L.cuts rhs_here;
-      passed = λ z. let w = both_false any b z in below_more (λ b. b ≢ leaf → lcp (head_of outs heads₀ sizes₀ q) (graft (head_of outs heads₀ sizes₀) ((machine ins outs starts bytes (length sizes₀)).rhs q b)) ≡ head_of outs heads₀ sizes₀ q) a (L.passed w.0) (rw (← same_patterns L.cuts w.0, ← L.same_sizes) (C.fixed w.1));
+      passed = λ z. let w = both_false any b z in below_more (λ b. b ≢ leaf → lcp (head_of outs p₀.heads.now p₀.sizes.now q) (graft (head_of outs p₀.heads.now p₀.sizes.now) ((machine ins outs starts bytes (length p₀.sizes.now)).rhs q b)) ≡ head_of outs p₀.heads.now p₀.sizes.now q) a (L.passed w.0) (rw (← same_patterns L.cuts w.0, ← L.stays.long_sizes) (C.fixed w.1));
     }
 
-  pub state_end : length ins ≤ a → CutState ins outs starts bytes leaf q heads₀ sizes₀ heads sizes any
+  pub state_end : length ins ≤ a → CutState ins outs starts bytes leaf q p₀.heads.now p₀.sizes.now p.heads.now p.sizes.now any
   state_end h = record { table = L.table; cuts = L.cuts; fixed = λ e b g. L.passed e b (omega arith) }
 
 -- ---- the loop over the states, from the last to the first: those from q on are passed
-pub record SweepLoop (ins outs starts bytes : List ℕ) (leaf : ℕ) (heads₀ sizes₀ other₀ heads sizes other : List ℕ) (any : Bool) (q : ℕ) : Type 0 where
-  pub inside : q ≤ length sizes₀
-  pub table : Heads outs heads sizes
-  pub same_heads : length heads ≡ length heads₀
-  pub same_sizes : length sizes ≡ length sizes₀
+pub record SweepLoop (ins outs starts bytes : List ℕ) (leaf : ℕ) (p₀ : Patterns) (other₀ : List ℕ) (p : Patterns) (other : List ℕ) (any : Bool) (q : ℕ) : Type 0 where
+  pub inside : q ≤ length p₀.sizes.now
+  pub table : Heads outs p.heads.now p.sizes.now
+  pub stays : Stays p₀ p
   pub same_other : length other ≡ length other₀
-  pub cuts : Cuts ins (machine ins outs starts bytes (length sizes₀)) (length sizes₀) (head_of outs heads₀ sizes₀) (head_of outs heads sizes) any
-  pub passed : any ≡ false → (p : ℕ) → q ≤ p → p < length sizes₀ → FixedAt ins leaf (machine ins outs starts bytes (length sizes₀)) (head_of outs heads₀ sizes₀) p
+  pub cuts : Cuts ins (machine ins outs starts bytes (length p₀.sizes.now)) (length p₀.sizes.now) (head_of outs p₀.heads.now p₀.sizes.now) (head_of outs p.heads.now p.sizes.now) any
+  pub passed : any ≡ false → (r : ℕ) → q ≤ r → r < length p₀.sizes.now → FixedAt ins leaf (machine ins outs starts bytes (length p₀.sizes.now)) (head_of outs p₀.heads.now p₀.sizes.now) r
 
-pub sweep_start : {ins outs starts bytes heads sizes other : List ℕ} (leaf : ℕ) → Heads outs heads sizes → SweepLoop ins outs starts bytes leaf heads sizes other heads sizes other false (length sizes)
-sweep_start leaf T = record { inside = omega arith; table = T; same_heads = refl; same_sizes = refl; same_other = refl; cuts = no_cut _; passed = λ e p h g. absurd (omega arith) }
+pub sweep_start : {ins outs starts bytes other : List ℕ} {p : Patterns} (leaf : ℕ) → Heads outs p.heads.now p.sizes.now → SweepLoop ins outs starts bytes leaf p other p other false (length p.sizes.now)
+sweep_start leaf T = record { inside = omega arith; table = T; stays = stays_self _; same_other = refl; cuts = no_cut _; passed = λ e r h g. absurd (omega arith) }
 
-module _ {ins outs starts bytes heads₀ sizes₀ other₀ : List ℕ} (B : Bodies ins outs starts bytes heads₀ sizes₀ other₀) {leaf : ℕ}
-    {heads sizes other : List ℕ} {any : Bool} {k : ℕ} (L : SweepLoop ins outs starts bytes leaf heads₀ sizes₀ other₀ heads sizes other any k) where
-  pub sweep_bodies : Bodies ins outs starts bytes heads sizes other
-  sweep_bodies = other_table B L.table L.same_sizes L.same_other
+module _ {ins outs starts bytes other₀ : List ℕ} {p₀ : Patterns} (B : Bodies ins outs starts bytes p₀.heads.now p₀.sizes.now other₀) {leaf : ℕ}
+    {p : Patterns} {other : List ℕ} {any : Bool} {k : ℕ} (L : SweepLoop ins outs starts bytes leaf p₀ other₀ p other any k) where
+  pub sweep_bodies : Bodies ins outs starts bytes p.heads.now p.sizes.now other
+  sweep_bodies = other_table B L.table L.stays.long_sizes L.same_other
 
-  module _ (some : 0 < k) {heads' sizes' : List ℕ} {b : Bool} (C : CutState ins outs starts bytes leaf (k - 1) heads sizes heads' sizes' b) (sh : length heads' ≡ length heads) (ss : length sizes' ≡ length sizes) where
-    cuts_here : Cuts ins (machine ins outs starts bytes (length sizes₀)) (length sizes₀) (head_of outs heads sizes) (head_of outs heads' sizes') b
-    cuts_here = rw (← L.same_sizes) C.cuts
+  module _ (some : 0 < k) {p' : Patterns} {b : Bool} (C : CutState ins outs starts bytes leaf (k - 1) p.heads.now p.sizes.now p'.heads.now p'.sizes.now b) (s : Stays p p') where
+    cuts_here : Cuts ins (machine ins outs starts bytes (length p₀.sizes.now)) (length p₀.sizes.now) (head_of outs p.heads.now p.sizes.now) (head_of outs p'.heads.now p'.sizes.now) b
+    cuts_here = rw (← L.stays.long_sizes) C.cuts
 
-    pub sweep_next : {other' : List ℕ} → length other' ≡ length other → SweepLoop ins outs starts bytes leaf heads₀ sizes₀ other₀ heads' sizes' other' (any || b) (k - 1)
+    pub sweep_next : {other' : List ℕ} → length other' ≡ length other → SweepLoop ins outs starts bytes leaf p₀ other₀ p' other' (any || b) (k - 1)
     sweep_next so = record {
       inside = omega (arith, L.inside);
       table = C.table;
-      same_heads = sh ∙ L.same_heads;
-      same_sizes = ss ∙ L.same_sizes;
+      stays = stays_more L.stays s;
       same_other = so ∙ L.same_other;
       cuts = then_cuts L.cuts cuts_here;
-      passed = λ z p h g. let w = both_false any b z in by_cases (ℕ_discrete p (k - 1)) (λ f. rw f (rw (← same_patterns L.cuts w.0, ← L.same_sizes) (C.fixed w.1))) (λ f. L.passed w.0 p (omega arith) g);
+      passed = λ z r h g. let w = both_false any b z in by_cases (ℕ_discrete r (k - 1)) (λ f. rw f (rw (← same_patterns L.cuts w.0, ← L.stays.long_sizes) (C.fixed w.1))) (λ f. L.passed w.0 r (omega arith) g);
     }
 
-  pub sweep_end : k ≡ 0 → Swept ins outs starts bytes leaf heads₀ sizes₀ heads sizes any
-  sweep_end h = record { table = L.table; cuts = L.cuts; fixed = λ e p g. L.passed e p (omega arith) g }
+  pub sweep_end : k ≡ 0 → Swept ins outs starts bytes leaf p₀.heads.now p₀.sizes.now p.heads.now p.sizes.now any
+  sweep_end h = record { table = L.table; cuts = L.cuts; fixed = λ e r g. L.passed e r (omega arith) g }
 
 -- ---- any number of cuts
 -- what is left to cut of n states, and the words of flags together, which are less than 2 ^ 129
@@ -242,54 +238,52 @@ abbrev pub ahead : List ℕ → List ℕ → List ℕ → ℕ → ℕ → ℕ
 ahead outs heads sizes n flags = 2 ^ 129 * total (head_of outs heads sizes) n + flags
 
 -- the table was cut, and no area has another length
-pub record FollowLoop (ins outs starts bytes heads₀ sizes₀ other₀ heads sizes other : List ℕ) : Type 0 where
-  pub same_heads : length heads ≡ length heads₀
-  pub same_sizes : length sizes ≡ length sizes₀
+pub record FollowLoop (ins outs starts bytes : List ℕ) (p₀ : Patterns) (other₀ : List ℕ) (p : Patterns) (other : List ℕ) : Type 0 where
+  pub stays : Stays p₀ p
   pub same_other : length other ≡ length other₀
-  pub followed : Followed ins outs starts bytes heads₀ sizes₀ heads sizes
+  pub followed : Followed ins outs starts bytes p₀.heads.now p₀.sizes.now p.heads.now p.sizes.now
 
-pub follow_start : {ins outs starts bytes heads sizes other : List ℕ} → Heads outs heads sizes → FollowLoop ins outs starts bytes heads sizes other heads sizes other
-follow_start T = record { same_heads = refl; same_sizes = refl; same_other = refl; followed = record { table = T; any = false; cuts = no_cut _ } }
+pub follow_start : {ins outs starts bytes other : List ℕ} {p : Patterns} → Heads outs p.heads.now p.sizes.now → FollowLoop ins outs starts bytes p other p other
+follow_start T = record { stays = stays_self _; same_other = refl; followed = record { table = T; any = false; cuts = no_cut _ } }
 
-module _ {ins outs starts bytes heads₀ sizes₀ other₀ : List ℕ} (B : Bodies ins outs starts bytes heads₀ sizes₀ other₀)
-    {heads sizes other : List ℕ} (L : FollowLoop ins outs starts bytes heads₀ sizes₀ other₀ heads sizes other) where
-  cuts_on : {h' : ℕ → Pattern} {b : Bool} → Cuts ins (machine ins outs starts bytes (length sizes)) (length sizes) (head_of outs heads sizes) h' b → Cuts ins (machine ins outs starts bytes (length sizes₀)) (length sizes₀) (head_of outs heads sizes) h' b
-  cuts_on C = rw (← L.same_sizes) C
+module _ {ins outs starts bytes other₀ : List ℕ} {p₀ : Patterns} (B : Bodies ins outs starts bytes p₀.heads.now p₀.sizes.now other₀)
+    {p : Patterns} {other : List ℕ} (L : FollowLoop ins outs starts bytes p₀ other₀ p other) where
+  cuts_on : {h' : ℕ → Pattern} {b : Bool} → Cuts ins (machine ins outs starts bytes (length p.sizes.now)) (length p.sizes.now) (head_of outs p.heads.now p.sizes.now) h' b → Cuts ins (machine ins outs starts bytes (length p₀.sizes.now)) (length p₀.sizes.now) (head_of outs p.heads.now p.sizes.now) h' b
+  cuts_on C = rw (← L.stays.long_sizes) C
 
-  pub follow_bodies : Bodies ins outs starts bytes heads sizes other
-  follow_bodies = other_table B L.followed.table L.same_sizes L.same_other
+  pub follow_bodies : Bodies ins outs starts bytes p.heads.now p.sizes.now other
+  follow_bodies = other_table B L.followed.table L.stays.long_sizes L.same_other
 
-  module _ {heads' sizes' : List ℕ} {b : Bool} (C : Cuts ins (machine ins outs starts bytes (length sizes)) (length sizes) (head_of outs heads sizes) (head_of outs heads' sizes') b) where
+  module _ {p' : Patterns} {b : Bool} (C : Cuts ins (machine ins outs starts bytes (length p.sizes.now)) (length p.sizes.now) (head_of outs p.heads.now p.sizes.now) (head_of outs p'.heads.now p'.sizes.now) b) where
     -- more cuts
-    pub follow_next : Heads outs heads' sizes' → length heads' ≡ length heads → length sizes' ≡ length sizes → {other' : List ℕ} → length other' ≡ length other → FollowLoop ins outs starts bytes heads₀ sizes₀ other₀ heads' sizes' other'
-    follow_next T sh ss so = record {
-      same_heads = sh ∙ L.same_heads;
-      same_sizes = ss ∙ L.same_sizes;
+    pub follow_next : Heads outs p'.heads.now p'.sizes.now → Stays p p' → {other' : List ℕ} → length other' ≡ length other → FollowLoop ins outs starts bytes p₀ other₀ p' other'
+    follow_next T s so = record {
+      stays = stays_more L.stays s;
       same_other = so ∙ L.same_other;
       followed = record { table = T; any = L.followed.any || b; cuts = then_cuts L.followed.cuts (cuts_on C) };
     }
 
-  module _ {leaf q : ℕ} {heads' sizes' : List ℕ} {b : Bool} (C : CutState ins outs starts bytes leaf q heads sizes heads' sizes' b) where
-    pub less_cut : (k : ℕ) {k' : ℕ} → b ≡ true → k' < 2 ^ 129 → ahead outs heads' sizes' (length sizes₀) k' < ahead outs heads sizes (length sizes₀) k
+  module _ {leaf q : ℕ} {p' : Patterns} {b : Bool} (C : CutState ins outs starts bytes leaf q p.heads.now p.sizes.now p'.heads.now p'.sizes.now b) (s : Stays p p') where
+    pub less_cut : (k : ℕ) {k' : ℕ} → b ≡ true → k' < 2 ^ 129 → ahead outs p'.heads.now p'.sizes.now (length p₀.sizes.now) k' < ahead outs p.heads.now p.sizes.now (length p₀.sizes.now) k
     less_cut k e h = omega (arith, (cuts_on C.cuts).less e)
 
-    pub less_none : {k k' : ℕ} → b ≡ false → k' < k → ahead outs heads' sizes' (length sizes₀) k' < ahead outs heads sizes (length sizes₀) k
-    less_none e h = omega (arith, ap (λ k. total k (length sizes₀)) (same_patterns (cuts_on C.cuts) e))
+    pub less_none : {k k' : ℕ} → b ≡ false → k' < k → ahead outs p'.heads.now p'.sizes.now (length p₀.sizes.now) k' < ahead outs p.heads.now p.sizes.now (length p₀.sizes.now) k
+    less_none e h = omega (arith, ap (λ k. total k (length p₀.sizes.now)) (same_patterns (cuts_on C.cuts) e))
 
-module _ {ins outs starts bytes heads₀ sizes₀ other₀ : List ℕ} (B : Bodies ins outs starts bytes heads₀ sizes₀ other₀)
-    {heads sizes other : List ℕ} (L : FollowLoop ins outs starts bytes heads₀ sizes₀ other₀ heads sizes other) where
+module _ {ins outs starts bytes other₀ : List ℕ} {p₀ : Patterns} (B : Bodies ins outs starts bytes p₀.heads.now p₀.sizes.now other₀)
+    {p : Patterns} {other : List ℕ} (L : FollowLoop ins outs starts bytes p₀ other₀ p other) where
   -- ---- until nothing is cut
-  module _ {leaf : ℕ} {heads' sizes' : List ℕ} {b : Bool} (C : Swept ins outs starts bytes leaf heads sizes heads' sizes' b) (sh : length heads' ≡ length heads) (ss : length sizes' ≡ length sizes) where
+  module _ {leaf : ℕ} {p' : Patterns} {b : Bool} (C : Swept ins outs starts bytes leaf p.heads.now p.sizes.now p'.heads.now p'.sizes.now b) (s : Stays p p') where
     -- what cuts is not done, and leaves less to cut
-    pub settle_less : b ≡ true → {heads'' sizes'' : List ℕ} → Followed ins outs starts bytes heads' sizes' heads'' sizes'' → length sizes'' ≡ length sizes' → total (head_of outs heads'' sizes'') (length sizes'') < total (head_of outs heads sizes) (length sizes)
-    settle_less t F e = rw (e, ss) (let k = rw ss at (not_more F.cuts) in omega (arith, C.cuts.less t))
+    pub settle_less : b ≡ true → {p'' : Patterns} → Followed ins outs starts bytes p'.heads.now p'.sizes.now p''.heads.now p''.sizes.now → Stays p' p'' → total (head_of outs p''.heads.now p''.sizes.now) (length p''.sizes.now) < total (head_of outs p.heads.now p.sizes.now) (length p.sizes.now)
+    settle_less t F r = rw (r.long_sizes, s.long_sizes) (let k = rw s.long_sizes at (not_more F.cuts) in omega (arith, C.cuts.less t))
 
     -- what cuts nothing ends with the common prefixes
-    pub settle_end : b ≡ false → Settled ins outs starts bytes leaf heads₀ sizes₀ heads' sizes'
+    pub settle_end : b ≡ false → Settled ins outs starts bytes leaf p₀.heads.now p₀.sizes.now p'.heads.now p'.sizes.now
     settle_end e =
-        let cuts = (follow_next B L C.cuts C.table sh ss {other' = other} refl).followed.cuts in
+        let cuts = (follow_next B L C.cuts C.table s {other' = other} refl).followed.cuts in
         record {
           table = C.table;
           prefs = λ l a u. all_fixed l (machine_wf l B.layout.wholes) (cuts.above l a) (λ q v. prefix_trans (cuts.under q v) (u q v))
-              (λ q h. rw (same_patterns C.cuts e, ← L.same_sizes) (C.fixed e q (omega (arith, L.same_sizes))));
+              (λ q h. rw (same_patterns C.cuts e, ← L.stays.long_sizes) (C.fixed e q (omega (arith, L.stays.long_sizes))));
         }

@@ -45,9 +45,7 @@ pub(crate) fn cut_pattern(outs: &[u8], x: &mut [u8], y: &[u8]) -> Option<usize>
             i += 1;
             j += 1;
         } else {
-            if usize::from(k) < outs.len() {
-                cut = true;
-            }
+            cut |= usize::from(k) < outs.len();
             i = pattern_end(outs, x, i);
             j = pattern_end(outs, y, j);
             x[w] = 255;

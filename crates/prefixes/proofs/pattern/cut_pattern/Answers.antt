@@ -6,7 +6,7 @@ use Rattle.prefixes.proofs.Ends.{letter_inside}
 use Rattle.prefixes.proofs.Grafts.{cut_answer}
 use Rattle.prefixes.proofs.Patterns.{cutting_start, cutting_done, first_there, second_there, same_turn, other_turn}
 use Rattle.prefixes.proofs.pattern.cut_pattern.Goals as goal
-use Rattle.prefixes.proofs.pattern.cut_pattern.Goals.{then-k-y, else-k-y, then-from-outs, else-from-outs}
+use Rattle.prefixes.proofs.pattern.cut_pattern.Goals.{then-k-y, else-k-y}
 
 -- the same byte in both: it stays where it is with those behind it that are the same, or is written further to the front
 pub bounds-y-j : goal.bounds-y-j
@@ -39,10 +39,7 @@ loop-i-preserved c =
     let t = c.loop-i-test.true in
     elim c.if-k-y.branch [
       | then-k-y w ↦ rw (w.x-is, w.i-is, w.j-is, w.cut-is) (same_turn M t w.if-k-y.true)
-      | else-k-y w ↦ rw (w.x-is, w.i-is, w.j-is, w.cut-is)
-          (other_turn M t w.if-k-y.false w.pattern_end-i.ensures w.pattern_end-j.ensures
-          (λ h. elim w.if-from-outs.branch [ then-from-outs v ↦ v.cut-is | else-from-outs v ↦ absurd (omega arith) ])
-          (λ h. elim w.if-from-outs.branch [ then-from-outs v ↦ absurd (omega arith) | else-from-outs v ↦ v.cut-is ]))
+      | else-k-y w ↦ rw (w.x-is, w.i-is, w.j-is, w.cut-is, w.from.ensures) (other_turn M t w.if-k-y.false w.pattern_end-i.ensures w.pattern_end-j.ensures)
     ]
 
 pub returns : goal.returns
