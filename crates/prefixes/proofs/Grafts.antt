@@ -5,12 +5,12 @@ use native.Mathlib.Decide.{dec_lt, ℕ_discrete}
 use native.Mathlib.Numerals.{add-one}
 use native.Mathlib.Omega.{arith}
 use mathlib.Core.Bool.{Bool, true, false}
-use mathlib.Core.Logic.{◌≢◌, by_cases}
+use mathlib.Core.Logic.{◌≢◌, by_cases, ⊎_elim}
 use mathlib.Core.Path.{◌≡◌, refl, sym, ap, ap₂, ◌∙◌}
 use mathlib.Core.List.{List, [], ◌∷◌, ◌++◌, append_assoc, append-nil}
 use lib.Dec.{ltb, eqb}
-use lib.ListN.{length, get_or, take, drop, set, length-append, length-set, get_or-eq_default}
-use lib.Seq.{slice, slice_empty, length-slice, length-take-le, get_or-take, get_or-drop, drop_at, take-take, take-suc-set, drop-drop, take-append-le, take-append-add, sets, sets-eq, length-sets, get_or-set_same, get_or-set_other}
+use lib.ListN.{length, get_or, take, drop, set, length-take, length-append, length-set, get_or-eq_default}
+use lib.Seq.{set-get_or, take_at, slice, slice_empty, length-slice, length-take-le, get_or-take, get_or-drop, drop_at, take-take, take-suc-set, drop-drop, take-append-le, take-append-add, sets, sets-eq, length-sets, get_or-set_same, get_or-set_other}
 use borrow.Rule.Slice.PartMut.{put_mid, post_of, same_len_mid, mid_len, take_put, drop_put}
 use borrow.Author.Tests.{lt-ltb, le-ltb, eqb-true}
 use Rattle.theory.specs.Inner.Graft.{graft}
@@ -19,6 +19,10 @@ use Rattle.theory.specs.Prefix.{Pattern, Prefix, any, keeps, Prefixes, no_more, 
 use Rattle.theory.specs.Term.{Term, var, node, Terms, none, more, count, bind, binds}
 use Rattle.theory.proofs.Lcps.{lcp_left}
 use Rattle.theory.proofs.Prefixes.{prefixes_count}
+use Rattle.theory.specs.Size.{size}
+use Rattle.theory.proofs.Sizes.{lcp_smaller}
+use Rattle.std.specs.Prelude.{is_some}
+use Rattle.std.specs.Bool.{then_some}
 use Rattle.theory.proofs.Terms.{conflict, count_binds}
 use Rattle.trees.specs.Code.{Ranked, AllRanked, Call, Mark}
 use Rattle.trees.specs.Inner.Decode.{call, symbol, first, Over, AllOver, Whole}
@@ -32,7 +36,7 @@ use Rattle.transducer.specs.Inner.Written.{spell}
 use Rattle.transducer.proofs.Meaning.{body_read}
 use Rattle.transducer.proofs.Walks.{spell_same}
 use Rattle.forms.proofs.Slices.{slice_from}
-use Rattle.prefixes.specs.Inner.Patterns.{top, top_if, top_of, pattern_code, IsPattern, read_pattern, head_at, grafted, Begins, Graftable, CutPattern}
+use Rattle.prefixes.specs.Inner.Patterns.{top, top_if, top_of, pattern_code, IsPattern, read_pattern, head_at, grafted, Begins, Graftable, CutPattern, size_after}
 use Rattle.prefixes.specs.Inner.Heads.{Heads, head_of, body_term, Cuttable, CutBy}
 use Rattle.prefixes.proofs.Ends.{letter_inside}
 use Rattle.prefixes.proofs.Patterns.{patterns_at, Byte, named, free, byte_at}
@@ -112,6 +116,18 @@ shared_of outs x y = lcp (read_pattern outs x) (read_pattern outs y)
 -- its code is a pattern, and is read back
 pub shared_back : (outs : List ℕ) → length outs ≤ 64 → (x y : List ℕ) → IsPattern outs x → IsPattern outs (pattern_code (shared_of outs x y)) × (read_pattern outs (pattern_code (shared_of outs x y)) ≡ shared_of outs x y)
 shared_back outs few x y W = pattern_back outs (shared_of outs x y) (over_lcp outs few (read_pattern outs x) (read_pattern outs y) (pattern_read outs x W).0)
+
+-- where nothing was taken away, all of x is left
+all_left : (outs : List ℕ) {x y after : List ℕ} {w : ℕ} → IsPattern outs x → CutPattern outs x y after w false → w ≡ length x
+all_left outs {x} {y} {after} {w} X C =
+    let e : shared_of outs x y ≡ read_pattern outs x = ⊎_elim (λ s. s) (λ l. conflict (let z = C.told.complete (λ k. omega (arith, ap size k)) in cc)) (lcp_smaller (read_pattern outs x) (read_pattern outs y)) in
+    let f : take w after ≡ x = C.shared ∙ ap pattern_code e ∙ (pattern_read outs x X).1 in
+    omega (arith, C.short, simp length-take at (ap length f))
+
+-- the answer of a cut
+pub cut_answer : {outs x y after : List ℕ} {w : ℕ} (cut : Bool) → IsPattern outs x → CutPattern outs x y after w cut → CutPattern outs x y after (size_after x (then_some cut w)) (is_some (then_some cut w))
+cut_answer true X C = C
+cut_answer {outs} false X C = rw (← all_left outs X C) C
 
 -- ---- the graft of a right-hand side over n states and r children
 module _ (outs : List ℕ) (n r : ℕ) (h : ℕ → Pattern) (all : (q : ℕ) → q < n → OverTop outs (h q)) where
@@ -245,22 +261,12 @@ pub record Grafting (heads sizes bytes : List ℕ) (from to : ℕ) (area₀ area
 pub graft_start : {heads sizes bytes area : List ℕ} {from to : ℕ} → Graftable heads sizes bytes from to area → Grafting heads sizes bytes from to area area 0 from
 graft_start G = record { first = omega arith; last = G.ordered; short = omega arith; same = refl; so_far = refl }
 
--- n of the 64 bytes that the pattern of a state may have
-pub part_length : (heads : List ℕ) (q n : ℕ) → n ≤ 64 → 64 * q + 64 ≤ length heads → length (lent_head heads q n) ≡ n
-part_length heads q n h g = mid_len (64 * q) (64 * q + n) heads (omega arith) ∙ omega arith
-
--- if they are enough, they begin with the pattern
-head_first : (heads sizes : List ℕ) (q n : ℕ) {size : ℕ} → size ≡ get_or sizes q 0 → size ≤ n → 64 * q ≤ length heads → take size (lent_head heads q n) ≡ head_at heads sizes q
-head_first heads sizes q n {size} e h g =
-    let k : 64 * q + n - 64 * q ≡ n = omega arith in
-    rw (k, take-take size n (drop (64 * q) heads) h, e) (sym (slice_from heads (64 * q) (get_or sizes q 0) g))
-
--- a word written behind the first w bytes: they stay, and the first n of the word stand behind them
-take_word : (area word : List ℕ) (w n : ℕ) → n ≤ length word → w + length word ≤ length area → take (w + n) (sets area w word) ≡ take w area ++ take n word
-take_word area word w n h fits =
+-- a word written behind the first w bytes: they stay, and it stands behind them
+take_word : (area word : List ℕ) (w : ℕ) → w + length word ≤ length area → take (w + length word) (sets area w word) ≡ take w area ++ word
+take_word area word w fits =
     let l : length (take w area) ≡ w = length-take-le w area (omega arith) in
     let behind = drop (w + length word) area in
-    ap (take (w + n)) (sets-eq word area w fits ∙ append_assoc (take w area) word behind) ∙ ap (λ k. take (k + n) (take w area ++ (word ++ behind))) (sym l) ∙ take-append-add (take w area) (word ++ behind) n ∙ ap (λ r. take w area ++ r) (take-append-le n word behind h)
+    ap (take (w + length word)) (sets-eq word area w fits ∙ append_assoc (take w area) word behind) ∙ ap (λ k. take (k + length word) (take w area ++ (word ++ behind))) (sym l) ∙ take-append-add (take w area) (word ++ behind) (length word) ∙ ap (λ r. take w area ++ r) (take_at word behind (length word) refl)
 
 module _ {heads sizes bytes area₀ : List ℕ} {from to : ℕ} (G : Graftable heads sizes bytes from to area₀) {area : List ℕ} {w j : ℕ} (L : Grafting heads sizes bytes from to area₀ area w j) where
   module _ (less : j < to) where
@@ -281,19 +287,18 @@ module _ {heads sizes bytes area₀ : List ℕ} {from to : ℕ} (G : Graftable h
           so_far = rw (add-one, take-suc-set area w x r, append_assoc) (ap (λ r. take w area ++ r) (sym s) ∙ L.so_far);
         })
 
-    pub graft_call : (n : ℕ) {area' : List ℕ} {w' q size : ℕ} → size ≤ n → n ≤ 64 → (get_or bytes (2 * j) 0 ≡ 0 → ⊥) → q ≡ get_or bytes (2 * j + 1) 0 → size ≡ get_or sizes q 0 → area' ≡ sets area w (lent_head heads q n) → w' ≡ w + size → Grafting heads sizes bytes from to area₀ area' w' (j + 1)
-    graft_call n {q = q} {size} enough few some c d e f =
+    pub graft_call : {area' : List ℕ} {w' q size : ℕ} → (get_or bytes (2 * j) 0 ≡ 0 → ⊥) → q ≡ get_or bytes (2 * j + 1) 0 → size ≡ get_or sizes q 0 → area' ≡ sets area w (lent_head heads q size) → w' ≡ w + size → Grafting heads sizes bytes from to area₀ area' w' (j + 1)
+    graft_call {q = q} {size} some c d e f =
         let C = called G j L.first less some c in
-        let word = lent_head heads q n in
-        let l : length word ≡ n = part_length heads q n few C.inside in
-        let h : take size word ≡ head_at heads sizes q = head_first heads sizes q n d enough (omega (arith, C.inside)) in
-        let t = take_word area word w size (omega arith) (omega (arith, graft_room)) ∙ ap (λ r. take w area ++ r) h in
-        rw (e, f) (record {
+        let word = head_at heads sizes q in
+        let h : lent_head heads q size ≡ word = head_lent heads sizes q d (omega (arith, C.inside)) in
+        let l : size ≡ length word = d ∙ sym C.long in
+        rw (e, f, h) (record {
           first = omega (arith, L.first);
           last = omega arith;
           short = omega (arith, L.short, L.first, C.small);
           same = length-sets area w word ∙ L.same;
-          so_far = rw (t, append_assoc) (ap (λ r. take w area ++ r) (sym C.next) ∙ L.so_far);
+          so_far = rw (l, take_word area word w (omega (arith, graft_room, C.small)), append_assoc) (ap (λ r. take w area ++ r) (sym C.next) ∙ L.so_far);
         })
 
   -- no mark is left
@@ -395,11 +400,11 @@ module _ {outs heads sizes bytes other : List ℕ} {from to q : ℕ} (C : Cuttab
     lent_head_lem : lent_head heads q n ≡ head_at heads sizes q
     lent_head_lem = head_lent heads sizes q right (omega (arith, C.table.long, C.state))
 
-    lent_graft : lent_area len other' ≡ grafted heads sizes bytes from to
-    lent_graft = let z : len - 0 ≡ len = omega arith in rw z P.wrote
+    lent_graft : take len other' ≡ grafted heads sizes bytes from to
+    lent_graft = P.wrote
 
     -- both are patterns
-    pub to_cut_pattern : IsPattern outs (lent_head heads q n) × IsPattern outs (lent_area len other')
+    pub to_cut_pattern : IsPattern outs (lent_head heads q n) × IsPattern outs (take len other')
     to_cut_pattern = (rw lent_head_lem (C.table.each q C.state), rw lent_graft (graft_read C.table bytes from to C.children C.whole).pattern)
 
     -- the part and the room that are lent
@@ -407,21 +412,21 @@ module _ {outs heads sizes bytes other : List ℕ} {from to q : ℕ} (C : Cuttab
     lent_inside = (omega (arith, C.table.long, C.state, C.table.small q C.state), P.inside)
 
     module _ {after : List ℕ} {size : ℕ} {b : Bool} (same : length after ≡ length (lent_head heads q n))
-        (M : CutPattern outs (lent_head heads q n) (lent_area len other') after size b) where
+        (M : CutPattern outs (lent_head heads q n) (take len other') after size b) where
       -- the new size fits a byte
       pub size_small : size ≤ 64
       size_small = omega (arith, M.short, ap length lent_head_lem, head_length heads sizes q (omega (arith, lent_inside.0)), C.table.small q C.state)
 
       -- the code of the new pattern of q
-      new_head_lem : head_at (put_head heads q n after) (set sizes q size) q ≡ pattern_code (shared_of outs (lent_head heads q n) (lent_area len other'))
+      new_head_lem : head_at (put_head heads q n after) (set sizes q size) q ≡ pattern_code (shared_of outs (lent_head heads q n) (take len other'))
       new_head_lem = head_cut C.table q C.state right after same size (omega (arith, M.short)) ∙ M.shared
 
       -- so it is a pattern, and which
       new_back : IsPattern outs (head_at (put_head heads q n after) (set sizes q size) q)
-          × (head_of outs (put_head heads q n after) (set sizes q size) q ≡ shared_of outs (lent_head heads q n) (lent_area len other'))
+          × (head_of outs (put_head heads q n after) (set sizes q size) q ≡ shared_of outs (lent_head heads q n) (take len other'))
       unfolding head_of
       new_back =
-          let k = shared_back outs C.few_symbols (lent_head heads q n) (lent_area len other') to_cut_pattern.0 in
+          let k = shared_back outs C.few_symbols (lent_head heads q n) (take len other') to_cut_pattern.0 in
           (rw new_head_lem k.0, ap (read_pattern outs) new_head_lem ∙ k.1)
 
       -- the old one
@@ -450,3 +455,9 @@ module _ {outs heads sizes bytes other : List ℕ} {from to q : ℕ} (C : Cuttab
         others = λ p g. ap (read_pattern outs) (by_cases (dec_lt p (length sizes)) (λ h. kept p h g) (λ h. head_none (put_head heads q n after) (set sizes q size) p (omega (arith, length-set sizes q size)) ∙ sym (head_none heads sizes p (omega arith))));
         told = decides_same (λ f e. f (sym new_back.1 ∙ e ∙ sym old_head)) (λ f e. f (new_back.1 ∙ e ∙ old_head)) M.told;
       }
+
+    -- nothing was taken away
+    pub cut_none : {after : List ℕ} → length after ≡ length (lent_head heads q n) → CutPattern outs (lent_head heads q n) (take len other') after (length (lent_head heads q n)) false → CutBy outs bytes from to q heads sizes (put_head heads q n after) sizes false
+    cut_none same M =
+        let e : length (lent_head heads q n) ≡ get_or sizes q 0 = ap length lent_head_lem ∙ head_length heads sizes q (omega (arith, lent_inside.0, right)) in
+        rw (e, set-get_or sizes q 0) at (cut_by same M)

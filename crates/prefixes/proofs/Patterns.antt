@@ -1,16 +1,16 @@
 -- Laws of patterns as bytes: what a byte says where a pattern begins, where the pattern ends, and what two patterns share.
 -- Assumes nothing.
 use Prim.Native.Nat.{ℕ, suc, ◌+◌, ◌-◌, ◌≤◌, ◌<◌}
-use native.Mathlib.Decide.{dec_lt}
 use native.Mathlib.Numerals.{add-one}
 use native.Mathlib.Omega.{arith}
-use mathlib.Core.Bool.{Bool, true, false}
-use mathlib.Core.Logic.{◌↔◌, by_cases}
+use mathlib.Core.Bool.{Bool, true, false, ◌||◌}
+use mathlib.Core.Logic.{◌↔◌}
 use mathlib.Core.Path.{◌≡◌, refl, sym, ap, ap₂, ◌∙◌}
 use mathlib.Core.List.{List, [], ◌∷◌, ◌++◌, append_assoc, append-nil}
+use Rattle.std.proofs.Math.Bool.{or-true, or-false}
 use lib.Dec.{leb, ltb, eqb}
 use lib.ListN.{length, get_or, drop, take, set, length-drop, length-set, drop_of_length-le}
-use lib.Seq.{drop-drop, drop-set-lt, set-get_or, take-suc-set}
+use lib.Seq.{drop-drop, drop-set-lt, take-suc-set}
 use borrow.Author.Tests.{ltb-true, ltb-false, lt-ltb, le-ltb, leb-true, eqb-true}
 use Rattle.theory.specs.Term.{var, node, Terms, none, more, count}
 use Rattle.theory.specs.Lcp.{lcp, lcps, Patterns}
@@ -22,7 +22,7 @@ use Rattle.trees.specs.Inner.Decode.{firsts, rests, node_if, put, forest}
 use Rattle.trees.specs.Refusal.{Decides}
 use Rattle.trees.proofs.Codes.{single}
 use Rattle.trees.proofs.Forest.{count_firsts, count_rests, all_drop}
-use Rattle.prefixes.specs.Inner.Patterns.{top, top_if, top_of, pattern_code, IsPattern, read_pattern, Ended, Alike, Run, CutPattern}
+use Rattle.prefixes.specs.Inner.Patterns.{top, top_if, top_of, pattern_code, IsPattern, read_pattern, Ended, CutPattern}
 use Rattle.prefixes.proofs.Ends.{taken, letter_put, Ranks}
 
 -- the patterns that stand from position p on
@@ -170,10 +170,10 @@ told_done {P} {Q} {cut} T q = record { sound = T.sound; complete = λ n. go cut 
     go false e n = absurd (n (T.back e q))
 
 -- at two bytes a symbol is cut away, and ⊤ is not
-told_other : {P : Type 0} {outs : List ℕ} {k : ℕ} {F' F L G : Patterns} {cut cut' : Bool} → Byte outs k F' F → L ≡ more (var tt) G → Told P (L ≡ F) cut → (k < length outs → cut' ≡ true) → (length outs ≤ k → cut' ≡ cut) → Told P (G ≡ rests 1 F) cut'
+told_other : {P : Type 0} {outs : List ℕ} {k : ℕ} {F' F L G : Patterns} (cut : Bool) → Byte outs k F' F → L ≡ more (var tt) G → Told P (L ≡ F) cut → Told P (G ≡ rests 1 F) (cut || ltb k (length outs))
 unfolding rests
-told_other (named l e) q T f g = rw (f l) (told_cut T (λ r. conflict (cc)))
-told_other (free l e) q T f g = rw (g l) (told_on T (λ r. cc, λ r. q ∙ ap (more (var tt)) r))
+told_other {outs = outs} {k} cut (named l e) q T = rw (lt-ltb k (length outs) l, or-true cut) (told_cut T (λ r. conflict (cc)))
+told_other {outs = outs} {k} cut (free l e) q T = rw (le-ltb k (length outs) l, or-false cut) (told_on T (λ r. cc, λ r. q ∙ ap (more (var tt)) r))
 
 -- ---- two patterns, compared from left to right
 -- All is compared up to position i of the first pattern, which is now x, and j of the second, y; the w bytes of what they share up to there are written.
@@ -254,38 +254,10 @@ module _ {outs before y x : List ℕ} {i j w : ℕ} {cut : Bool} (M : Cutting ou
         next_turn (i + 1) (j + 1) (get_or x i 0) (omega arith) (omega arith) s.0 (told_on M.told s.1)
 
     -- two bytes: both patterns that begin with them are passed, and ⊤ is written
-    pub other_turn : {i' j' : ℕ} {cut' : Bool} → (get_or x i 0 ≡ get_or y j 0 → ⊥) → Ended (top_of outs) x i i' → Ended (top_of outs) y j j' → (get_or x i 0 < length outs → cut' ≡ true) → (length outs ≤ get_or x i 0 → cut' ≡ cut) → Cutting outs before y (set x w top) i' j' (w + 1) cut'
-    other_turn {i'} {j'} n E E' f g =
+    pub other_turn : {i' j' : ℕ} → (get_or x i 0 ≡ get_or y j 0 → ⊥) → Ended (top_of outs) x i i' → Ended (top_of outs) y j j' → Cutting outs before y (set x w top) i' j' (w + 1) (cut || ltb (get_or x i 0) (length outs))
+    other_turn {i'} {j'} n E E' =
         let B = byte_at outs x i first_there in
         let C = byte_at outs y j second_there in
         let b : patterns_at outs x i' ≡ rests 1 (patterns_at outs x i) = E.behind in
         let c : patterns_at outs y j' ≡ rests 1 (patterns_at outs y j) = E'.behind in
-        next_turn i' j' top E.further E.inside (rw (b, c) (other_byte B C n M.paired)) (rw (b, c) (told_other B (lcps_other B C n) M.told f g))
-
--- ---- bytes that are the same
--- t of them, and n behind those
-pub alike_more : (x y : List ℕ) (i j t n : ℕ) → Alike x i y j t → Alike x (i + t) y (j + t) n → Alike x i y j (t + n)
-alike_more x y i j t n A B u h = by_cases (dec_lt u t) (A u) (λ l.
-    let e : i + t + (u - t) ≡ i + u = omega arith in
-    let f : j + t + (u - t) ≡ j + u = omega arith in
-    rw (e, f) at (B (u - t) (omega arith)))
-
--- n bytes that are the same in both, while what they share stands where they are: nothing is written
-pub same_turns : {outs before y x : List ℕ} {cut : Bool} (i j n : ℕ) → i + n ≤ length x → Alike x i y j n → Cutting outs before y x i j i cut → Cutting outs before y x (i + n) (j + n) (i + n) cut
-same_turns i j ℕ.zero h A M =
-    let e : i + 0 ≡ i = omega arith in
-    let f : j + 0 ≡ j = omega arith in
-    rw (e, f) M
-same_turns {x = x} i j (suc n) h A M =
-    let e : i + suc n ≡ i + n + 1 = omega arith in
-    let f : j + suc n ≡ j + n + 1 = omega arith in
-    let N = same_turn (same_turns i j n (omega arith) (λ t l. A t (omega arith)) M) (omega arith) (A n (omega arith)) in
-    rw (e, f) (rw (set-get_or x (i + n) 0) at N)
-
--- a byte that is the same in both, and t behind it
-pub run_turn : {outs before y x : List ℕ} {i j w t : ℕ} {cut : Bool} → Cutting outs before y x i j w cut → i < length x → get_or x i 0 ≡ get_or y j 0 → w ≡ i → Run x (i + 1) y (j + 1) t → Cutting outs before y x (i + t + 1) (j + t + 1) (w + t + 1) cut
-run_turn {x = x} {i} {j} {w} {t} M h e s R =
-    let N = rw (s, set-get_or x i 0) at (same_turn M h e) in
-    let a : i + t + 1 ≡ i + 1 + t = omega arith in
-    let b : j + t + 1 ≡ j + 1 + t = omega arith in
-    rw (s, a, b) (same_turns (i + 1) (j + 1) t R.first R.alike N)
+        next_turn i' j' top E.further E.inside (rw (b, c) (other_byte B C n M.paired)) (rw (b, c) (told_other cut B (lcps_other B C n) M.told))

@@ -1,9 +1,9 @@
 -- Cut upon cut: what one cut does to the patterns, what many do, and that the patterns are the common prefixes when no cut takes anything away.
 -- Assumes nothing.
-use Prim.Native.Nat.{ℕ, ◌+◌, ◌*◌, ◌≤◌, ◌<◌}
+use Prim.Native.Nat.{ℕ, ◌+◌, ◌-◌, ◌*◌, ◌^◌, ◌≤◌, ◌<◌}
 use native.Mathlib.Decide.{ℕ_discrete}
 use native.Mathlib.Omega.{arith}
-use mathlib.Core.Bool.{Bool, true, false}
+use mathlib.Core.Bool.{Bool, true, false, ◌||◌}
 use mathlib.Core.List.{List}
 use mathlib.Core.Logic.{◌≢◌, by_cases, ⊎_elim}
 use mathlib.Core.Path.{◌≡◌, refl, sym, ap, ◌∙◌, fun_ext}
@@ -31,15 +31,27 @@ use Rattle.formats.specs.Inner.Layout.{mark_of, body, body_number, transducer}
 use Rattle.formats.specs.Inner.Marked.{part}
 use Rattle.trees.specs.Refusal.{Decides}
 use Rattle.formats.proofs.Pairs.{number_less}
-use Rattle.theory.specs.Weight.{one_if}
 use Rattle.forms.specs.Alphabet.{alphabet, children_inside}
 use Rattle.prefixes.specs.Inner.Patterns.{top}
-use Rattle.prefixes.specs.Inner.Heads.{Heads, head_of, Cuttable, CutBy, Bodies, FixedAt, AllAbove, AllUnder, UnderLeaf, Cuts, CutRhs, CutState, Swept, Followed, Settled}
+use Rattle.prefixes.specs.declared.pattern.Patterns.{Patterns}
+use Rattle.prefixes.specs.Inner.Heads.{Stays, Heads, head_of, Cuttable, CutBy, Bodies, FixedAt, AllAbove, UnderLeaf, Cuts, CutRhs, CutState, Swept, Followed, Settled}
 use Rattle.forms.specs.Inner.Tables.{machine}
 use Rattle.prefixes.proofs.Grafts.{head_top}
 use Rattle.prefixes.proofs.Above.{prefix_self, cut_above, above_end}
 use Rattle.theory.proofs.NothingEarlier.{prefix_bind}
 use Rattle.forms.proofs.Files.{machine_wf}
+
+-- ---- the table stays where it is
+pub stays_self : (p : Patterns) → Stays p p
+stays_self p = record { heads = refl; sizes = refl; long_heads = refl; long_sizes = refl }
+
+pub stays_more : {p q r : Patterns} → Stays p q → Stays q r → Stays p r
+stays_more S R = record {
+  heads = R.heads ∙ S.heads;
+  sizes = R.sizes ∙ S.sizes;
+  long_heads = R.long_heads ∙ S.long_heads;
+  long_sizes = R.long_sizes ∙ S.long_sizes;
+}
 
 -- ---- one cut
 module _ {ins : List ℕ} {M : Transducer ℕ} {n : ℕ} (W : (l : Leaf ins) → Wf (alphabet ins l) M (λ q. q < n))
@@ -78,16 +90,21 @@ module _ {ins : List ℕ} {M : Transducer ℕ} {n : ℕ} {h h₁ : ℕ → Patte
       go true e = omega (arith, C.less e)
       go false e = omega (arith, ap (λ k. total k n) (same_patterns C e))
 
-  pub then_cut : {h₂ : ℕ → Pattern} {b : Bool} → b ≡ true → Cuts ins M n h₁ h₂ b → Cuts ins M n h h₂ true
-  then_cut t D = record { above = λ l a. D.above l (C.above l a); under = λ q v. prefix_trans (D.under q v) (C.under q v); less = λ e. omega (arith, D.less t, not_more); kept = λ e. conflict (cc) }
+both_false : (a b : Bool) → (a || b) ≡ false → (a ≡ false) × (b ≡ false)
+both_false true b e = conflict (cc)
+both_false false b e = (refl, e)
 
-  pub then_none : {h₂ : ℕ → Pattern} {b : Bool} → b ≡ false → Cuts ins M n h₁ h₂ b → Cuts ins M n h h₂ any
-  then_none f D = record {
-    above = λ l a. D.above l (C.above l a);
-    under = λ q v. prefix_trans (D.under q v) (C.under q v);
-    less = λ e. omega (arith, C.less e, ap (λ k. total k n) (same_patterns D f));
-    kept = λ e p. D.kept f p ∙ C.kept e p;
-  }
+pub then_cuts : {ins : List ℕ} {M : Transducer ℕ} {n : ℕ} {h h₁ h₂ : ℕ → Pattern} {any b : Bool} → Cuts ins M n h h₁ any → Cuts ins M n h₁ h₂ b → Cuts ins M n h h₂ (any || b)
+then_cuts {n = n} {h} {h₂ = h₂} {any} {b} C D = record {
+  above = λ l a. D.above l (C.above l a);
+  under = λ q v. prefix_trans (D.under q v) (C.under q v);
+  less = go any refl;
+  kept = λ e p. let w = both_false any b e in D.kept w.1 p ∙ C.kept w.0 p;
+}
+  where
+    go : (a : Bool) → any ≡ a → (a || b) ≡ true → total h₂ n < total h n
+    go true e t = omega (arith, C.less e, not_more D)
+    go false e t = omega (arith, not_more C, D.less t)
 
 -- ---- the end: the right-hand side for the leaf cuts nothing either
 pub all_fixed : {ins : List ℕ} {M : Transducer ℕ} {n : ℕ} (l : Leaf ins) {leaf : ℕ} → Wf (alphabet ins l) M (λ q. q < n) → {h : ℕ → Pattern} → AllAbove ins l M n h → UnderLeaf M leaf n h → ((q : ℕ) → q < n → FixedAt ins leaf M h q) → Prefs (alphabet ins l) M (λ q. q < n) h
@@ -148,207 +165,125 @@ pub other_table : {ins outs starts bytes heads₀ sizes₀ other₀ : List ℕ} 
 other_table B T e f = record { table = T; layout = rw e B.layout; room = omega (arith, B.room) }
 
 -- ---- the loop over the right-hand sides of q: those before a are passed
-pub record StateLoop (ins outs starts bytes : List ℕ) (leaf q : ℕ) (heads₀ sizes₀ other₀ heads sizes other : List ℕ) (any : Bool) (a : ℕ) : Type 0 where
+pub record StateLoop (ins outs starts bytes : List ℕ) (leaf q : ℕ) (p₀ : Patterns) (other₀ : List ℕ) (p : Patterns) (other : List ℕ) (any : Bool) (a : ℕ) : Type 0 where
   pub inside : a ≤ length ins
-  pub table : Heads outs heads sizes
-  pub same_heads : length heads ≡ length heads₀
-  pub same_sizes : length sizes ≡ length sizes₀
+  pub table : Heads outs p.heads.now p.sizes.now
+  pub stays : Stays p₀ p
   pub same_other : length other ≡ length other₀
-  pub cuts : Cuts ins (machine ins outs starts bytes (length sizes₀)) (length sizes₀) (head_of outs heads₀ sizes₀) (head_of outs heads sizes) any
-  pub passed : any ≡ false → (b : ℕ) → b < a → b ≢ leaf → lcp (head_of outs heads₀ sizes₀ q) (graft (head_of outs heads₀ sizes₀) ((machine ins outs starts bytes (length sizes₀)).rhs q b)) ≡ head_of outs heads₀ sizes₀ q
+  pub cuts : Cuts ins (machine ins outs starts bytes (length p₀.sizes.now)) (length p₀.sizes.now) (head_of outs p₀.heads.now p₀.sizes.now) (head_of outs p.heads.now p.sizes.now) any
+  pub passed : any ≡ false → (b : ℕ) → b < a → b ≢ leaf → lcp (head_of outs p₀.heads.now p₀.sizes.now q) (graft (head_of outs p₀.heads.now p₀.sizes.now) ((machine ins outs starts bytes (length p₀.sizes.now)).rhs q b)) ≡ head_of outs p₀.heads.now p₀.sizes.now q
 
-pub state_start : {ins outs starts bytes heads sizes other : List ℕ} (leaf q : ℕ) → Heads outs heads sizes → StateLoop ins outs starts bytes leaf q heads sizes other heads sizes other false 0
-state_start leaf q T = record { inside = omega arith; table = T; same_heads = refl; same_sizes = refl; same_other = refl; cuts = no_cut _; passed = λ e b h. absurd (omega arith) }
+pub state_start : {ins outs starts bytes other : List ℕ} {p : Patterns} (leaf q : ℕ) → Heads outs p.heads.now p.sizes.now → StateLoop ins outs starts bytes leaf q p other p other false 0
+state_start leaf q T = record { inside = omega arith; table = T; stays = stays_self _; same_other = refl; cuts = no_cut _; passed = λ e b h. absurd (omega arith) }
 
-module _ {ins outs starts bytes heads₀ sizes₀ other₀ : List ℕ} (B : Bodies ins outs starts bytes heads₀ sizes₀ other₀) {leaf q : ℕ}
-    {heads sizes other : List ℕ} {any : Bool} {a : ℕ} (L : StateLoop ins outs starts bytes leaf q heads₀ sizes₀ other₀ heads sizes other any a) where
-  pub state_bodies : Bodies ins outs starts bytes heads sizes other
-  state_bodies = other_table B L.table L.same_sizes L.same_other
+module _ {ins outs starts bytes other₀ : List ℕ} {p₀ : Patterns} (B : Bodies ins outs starts bytes p₀.heads.now p₀.sizes.now other₀) {leaf q : ℕ}
+    {p : Patterns} {other : List ℕ} {any : Bool} {a : ℕ} (L : StateLoop ins outs starts bytes leaf q p₀ other₀ p other any a) where
+  pub state_bodies : Bodies ins outs starts bytes p.heads.now p.sizes.now other
+  state_bodies = other_table B L.table L.stays.long_sizes L.same_other
 
-  module _ (there : a < length ins) {heads' sizes' : List ℕ} {b : Bool} (C : CutRhs ins outs starts bytes leaf q a heads sizes heads' sizes' b) (sh : length heads' ≡ length heads) (ss : length sizes' ≡ length sizes) where
-    rhs_here : Cuts ins (machine ins outs starts bytes (length sizes₀)) (length sizes₀) (head_of outs heads sizes) (head_of outs heads' sizes') b
-    rhs_here = rw (← L.same_sizes) C.cuts
+  module _ (there : a < length ins) {p' : Patterns} {b : Bool} (C : CutRhs ins outs starts bytes leaf q a p.heads.now p.sizes.now p'.heads.now p'.sizes.now b) (s : Stays p p') where
+    rhs_here : Cuts ins (machine ins outs starts bytes (length p₀.sizes.now)) (length p₀.sizes.now) (head_of outs p.heads.now p.sizes.now) (head_of outs p'.heads.now p'.sizes.now) b
+    rhs_here = rw (← L.stays.long_sizes) C.cuts
 
-    pub loop_cut : {other' : List ℕ} → length other' ≡ length other → b ≡ true → {now : Bool} → now ≡ true → StateLoop ins outs starts bytes leaf q heads₀ sizes₀ other₀ heads' sizes' other' now (a + 1)
-    loop_cut so e z = rw z (record {
+    pub state_next : {other' : List ℕ} → length other' ≡ length other → StateLoop ins outs starts bytes leaf q p₀ other₀ p' other' (any || b) (a + 1)
+    state_next so = record {
       inside = omega arith;
       table = C.table;
-      same_heads = sh ∙ L.same_heads;
-      same_sizes = ss ∙ L.same_sizes;
+      stays = stays_more L.stays s;
       same_other = so ∙ L.same_other;
-      cuts = then_cut L.cuts e rhs_here;
-      passed = λ z. conflict (cc);
-    })
+      cuts = then_cuts L.cuts rhs_here;
+      passed = λ z. let w = both_false any b z in below_more (λ b. b ≢ leaf → lcp (head_of outs p₀.heads.now p₀.sizes.now q) (graft (head_of outs p₀.heads.now p₀.sizes.now) ((machine ins outs starts bytes (length p₀.sizes.now)).rhs q b)) ≡ head_of outs p₀.heads.now p₀.sizes.now q) a (L.passed w.0) (rw (← same_patterns L.cuts w.0, ← L.stays.long_sizes) (C.fixed w.1));
+    }
 
-    pub loop_none : {other' : List ℕ} → length other' ≡ length other → b ≡ false → {now : Bool} → now ≡ any → StateLoop ins outs starts bytes leaf q heads₀ sizes₀ other₀ heads' sizes' other' now (a + 1)
-    loop_none so e y = rw y (record {
-      inside = omega arith;
-      table = C.table;
-      same_heads = sh ∙ L.same_heads;
-      same_sizes = ss ∙ L.same_sizes;
-      same_other = so ∙ L.same_other;
-      cuts = then_none L.cuts e rhs_here;
-      passed = λ z. below_more (λ b. b ≢ leaf → lcp (head_of outs heads₀ sizes₀ q) (graft (head_of outs heads₀ sizes₀) ((machine ins outs starts bytes (length sizes₀)).rhs q b)) ≡ head_of outs heads₀ sizes₀ q) a (L.passed z) (rw (← same_patterns L.cuts z, ← L.same_sizes) (C.fixed e));
-    })
-
-  pub state_end : length ins ≤ a → CutState ins outs starts bytes leaf q heads₀ sizes₀ heads sizes any
+  pub state_end : length ins ≤ a → CutState ins outs starts bytes leaf q p₀.heads.now p₀.sizes.now p.heads.now p.sizes.now any
   state_end h = record { table = L.table; cuts = L.cuts; fixed = λ e b g. L.passed e b (omega arith) }
 
 -- ---- the loop over the states, from the last to the first: those from q on are passed
-pub record SweepLoop (ins outs starts bytes : List ℕ) (leaf : ℕ) (heads₀ sizes₀ other₀ heads sizes other : List ℕ) (any : Bool) (q : ℕ) : Type 0 where
-  pub inside : q ≤ length sizes₀
-  pub table : Heads outs heads sizes
-  pub same_heads : length heads ≡ length heads₀
-  pub same_sizes : length sizes ≡ length sizes₀
+pub record SweepLoop (ins outs starts bytes : List ℕ) (leaf : ℕ) (p₀ : Patterns) (other₀ : List ℕ) (p : Patterns) (other : List ℕ) (any : Bool) (q : ℕ) : Type 0 where
+  pub inside : q ≤ length p₀.sizes.now
+  pub table : Heads outs p.heads.now p.sizes.now
+  pub stays : Stays p₀ p
   pub same_other : length other ≡ length other₀
-  pub cuts : Cuts ins (machine ins outs starts bytes (length sizes₀)) (length sizes₀) (head_of outs heads₀ sizes₀) (head_of outs heads sizes) any
-  pub passed : any ≡ false → (p : ℕ) → q ≤ p → p < length sizes₀ → FixedAt ins leaf (machine ins outs starts bytes (length sizes₀)) (head_of outs heads₀ sizes₀) p
+  pub cuts : Cuts ins (machine ins outs starts bytes (length p₀.sizes.now)) (length p₀.sizes.now) (head_of outs p₀.heads.now p₀.sizes.now) (head_of outs p.heads.now p.sizes.now) any
+  pub passed : any ≡ false → (r : ℕ) → q ≤ r → r < length p₀.sizes.now → FixedAt ins leaf (machine ins outs starts bytes (length p₀.sizes.now)) (head_of outs p₀.heads.now p₀.sizes.now) r
 
-pub sweep_start : {ins outs starts bytes heads sizes other : List ℕ} (leaf : ℕ) → Heads outs heads sizes → SweepLoop ins outs starts bytes leaf heads sizes other heads sizes other false (length sizes)
-sweep_start leaf T = record { inside = omega arith; table = T; same_heads = refl; same_sizes = refl; same_other = refl; cuts = no_cut _; passed = λ e p h g. absurd (omega arith) }
+pub sweep_start : {ins outs starts bytes other : List ℕ} {p : Patterns} (leaf : ℕ) → Heads outs p.heads.now p.sizes.now → SweepLoop ins outs starts bytes leaf p other p other false (length p.sizes.now)
+sweep_start leaf T = record { inside = omega arith; table = T; stays = stays_self _; same_other = refl; cuts = no_cut _; passed = λ e r h g. absurd (omega arith) }
 
-module _ {ins outs starts bytes heads₀ sizes₀ other₀ : List ℕ} (B : Bodies ins outs starts bytes heads₀ sizes₀ other₀) {leaf : ℕ}
-    {heads sizes other : List ℕ} {any : Bool} {k : ℕ} (L : SweepLoop ins outs starts bytes leaf heads₀ sizes₀ other₀ heads sizes other any k) where
-  pub sweep_bodies : Bodies ins outs starts bytes heads sizes other
-  sweep_bodies = other_table B L.table L.same_sizes L.same_other
+module _ {ins outs starts bytes other₀ : List ℕ} {p₀ : Patterns} (B : Bodies ins outs starts bytes p₀.heads.now p₀.sizes.now other₀) {leaf : ℕ}
+    {p : Patterns} {other : List ℕ} {any : Bool} {k : ℕ} (L : SweepLoop ins outs starts bytes leaf p₀ other₀ p other any k) where
+  pub sweep_bodies : Bodies ins outs starts bytes p.heads.now p.sizes.now other
+  sweep_bodies = other_table B L.table L.stays.long_sizes L.same_other
 
-  module _ {q : ℕ} (before : k ≡ q + 1) {heads' sizes' : List ℕ} {b : Bool} (C : CutState ins outs starts bytes leaf q heads sizes heads' sizes' b) (sh : length heads' ≡ length heads) (ss : length sizes' ≡ length sizes) where
-    cuts_here : Cuts ins (machine ins outs starts bytes (length sizes₀)) (length sizes₀) (head_of outs heads sizes) (head_of outs heads' sizes') b
-    cuts_here = rw (← L.same_sizes) C.cuts
+  module _ (some : 0 < k) {p' : Patterns} {b : Bool} (C : CutState ins outs starts bytes leaf (k - 1) p.heads.now p.sizes.now p'.heads.now p'.sizes.now b) (s : Stays p p') where
+    cuts_here : Cuts ins (machine ins outs starts bytes (length p₀.sizes.now)) (length p₀.sizes.now) (head_of outs p.heads.now p.sizes.now) (head_of outs p'.heads.now p'.sizes.now) b
+    cuts_here = rw (← L.stays.long_sizes) C.cuts
 
-    pub sweep_cut : {other' : List ℕ} → length other' ≡ length other → b ≡ true → {now : Bool} → now ≡ true → SweepLoop ins outs starts bytes leaf heads₀ sizes₀ other₀ heads' sizes' other' now q
-    sweep_cut so e z = rw z (record {
+    pub sweep_next : {other' : List ℕ} → length other' ≡ length other → SweepLoop ins outs starts bytes leaf p₀ other₀ p' other' (any || b) (k - 1)
+    sweep_next so = record {
       inside = omega (arith, L.inside);
       table = C.table;
-      same_heads = sh ∙ L.same_heads;
-      same_sizes = ss ∙ L.same_sizes;
+      stays = stays_more L.stays s;
       same_other = so ∙ L.same_other;
-      cuts = then_cut L.cuts e cuts_here;
-      passed = λ z. conflict (cc);
-    })
+      cuts = then_cuts L.cuts cuts_here;
+      passed = λ z r h g. let w = both_false any b z in by_cases (ℕ_discrete r (k - 1)) (λ f. rw f (rw (← same_patterns L.cuts w.0, ← L.stays.long_sizes) (C.fixed w.1))) (λ f. L.passed w.0 r (omega arith) g);
+    }
 
-    pub sweep_none : {other' : List ℕ} → length other' ≡ length other → b ≡ false → {now : Bool} → now ≡ any → SweepLoop ins outs starts bytes leaf heads₀ sizes₀ other₀ heads' sizes' other' now q
-    sweep_none so e y = rw y (record {
-      inside = omega (arith, L.inside);
-      table = C.table;
-      same_heads = sh ∙ L.same_heads;
-      same_sizes = ss ∙ L.same_sizes;
-      same_other = so ∙ L.same_other;
-      cuts = then_none L.cuts e cuts_here;
-      passed = λ z p h g. by_cases (ℕ_discrete p q) (λ f. rw f (rw (← same_patterns L.cuts z, ← L.same_sizes) (C.fixed e))) (λ f. L.passed z p (omega arith) g);
-    })
+  pub sweep_end : k ≡ 0 → Swept ins outs starts bytes leaf p₀.heads.now p₀.sizes.now p.heads.now p.sizes.now any
+  sweep_end h = record { table = L.table; cuts = L.cuts; fixed = λ e r g. L.passed e r (omega arith) g }
 
-  pub sweep_end : k ≡ 0 → Swept ins outs starts bytes leaf heads₀ sizes₀ heads sizes any
-  sweep_end h = record { table = L.table; cuts = L.cuts; fixed = λ e p g. L.passed e p (omega arith) g }
-
--- ---- cuts of the states whose callees changed
--- what is left to cut of n states, and the sum of the words of flags, which is less than 2 ^ 66
+-- ---- any number of cuts
+-- what is left to cut of n states, and the words of flags together, which are less than 2 ^ 129
 abbrev pub ahead : List ℕ → List ℕ → List ℕ → ℕ → ℕ → ℕ
-ahead outs heads sizes n flags = 73786976294838206464 * total (head_of outs heads sizes) n + flags
+ahead outs heads sizes n flags = 2 ^ 129 * total (head_of outs heads sizes) n + flags
 
--- the loop over the flags: those of this round are the words `flags` together, and f is the first
-pub record FollowLoop (ins outs starts bytes heads₀ sizes₀ other₀ heads sizes other : List ℕ) (flags f : ℕ) : Type 0 where
-  pub same_heads : length heads ≡ length heads₀
-  pub same_sizes : length sizes ≡ length sizes₀
+-- the table was cut, and no area has another length
+pub record FollowLoop (ins outs starts bytes : List ℕ) (p₀ : Patterns) (other₀ : List ℕ) (p : Patterns) (other : List ℕ) : Type 0 where
+  pub stays : Stays p₀ p
   pub same_other : length other ≡ length other₀
-  pub set : f < length sizes₀ → 0 < flags
-  pub followed : Followed ins outs starts bytes heads₀ sizes₀ heads sizes
+  pub followed : Followed ins outs starts bytes p₀.heads.now p₀.sizes.now p.heads.now p.sizes.now
 
-pub follow_start : {ins outs starts bytes heads sizes other : List ℕ} {flags f : ℕ} → 0 < flags → Heads outs heads sizes → FollowLoop ins outs starts bytes heads sizes other heads sizes other flags f
-follow_start h T = record { same_heads = refl; same_sizes = refl; same_other = refl; set = λ g. h; followed = record { table = T; any = false; cuts = no_cut _ } }
+pub follow_start : {ins outs starts bytes other : List ℕ} {p : Patterns} → Heads outs p.heads.now p.sizes.now → FollowLoop ins outs starts bytes p other p other
+follow_start T = record { stays = stays_self _; same_other = refl; followed = record { table = T; any = false; cuts = no_cut _ } }
 
-module _ {ins outs starts bytes heads₀ sizes₀ other₀ : List ℕ} (B : Bodies ins outs starts bytes heads₀ sizes₀ other₀)
-    {heads sizes other : List ℕ} {flags f : ℕ} (L : FollowLoop ins outs starts bytes heads₀ sizes₀ other₀ heads sizes other flags f) where
-  pub follow_bodies : Bodies ins outs starts bytes heads sizes other
-  follow_bodies = other_table B L.followed.table L.same_sizes L.same_other
+module _ {ins outs starts bytes other₀ : List ℕ} {p₀ : Patterns} (B : Bodies ins outs starts bytes p₀.heads.now p₀.sizes.now other₀)
+    {p : Patterns} {other : List ℕ} (L : FollowLoop ins outs starts bytes p₀ other₀ p other) where
+  cuts_on : {h' : ℕ → Pattern} {b : Bool} → Cuts ins (machine ins outs starts bytes (length p.sizes.now)) (length p.sizes.now) (head_of outs p.heads.now p.sizes.now) h' b → Cuts ins (machine ins outs starts bytes (length p₀.sizes.now)) (length p₀.sizes.now) (head_of outs p.heads.now p.sizes.now) h' b
+  cuts_on C = rw (← L.stays.long_sizes) C
 
-  module _ {leaf q : ℕ} {heads' sizes' : List ℕ} {b : Bool} (C : CutState ins outs starts bytes leaf q heads sizes heads' sizes' b) where
-    state_here : Cuts ins (machine ins outs starts bytes (length sizes₀)) (length sizes₀) (head_of outs heads sizes) (head_of outs heads' sizes') b
-    state_here = rw (← L.same_sizes) C.cuts
+  pub follow_bodies : Bodies ins outs starts bytes p.heads.now p.sizes.now other
+  follow_bodies = other_table B L.followed.table L.stays.long_sizes L.same_other
 
-    pub follow_next : {other' : List ℕ} {flags' f' : ℕ} → length heads' ≡ length heads → length sizes' ≡ length sizes → length other' ≡ length other → (f' < 128 → 0 < flags') → FollowLoop ins outs starts bytes heads₀ sizes₀ other₀ heads' sizes' other' flags' f'
-    follow_next sh ss so first = record {
-      same_heads = sh ∙ L.same_heads;
-      same_sizes = ss ∙ L.same_sizes;
+  module _ {p' : Patterns} {b : Bool} (C : Cuts ins (machine ins outs starts bytes (length p.sizes.now)) (length p.sizes.now) (head_of outs p.heads.now p.sizes.now) (head_of outs p'.heads.now p'.sizes.now) b) where
+    -- more cuts
+    pub follow_next : Heads outs p'.heads.now p'.sizes.now → Stays p p' → {other' : List ℕ} → length other' ≡ length other → FollowLoop ins outs starts bytes p₀ other₀ p' other'
+    follow_next T s so = record {
+      stays = stays_more L.stays s;
       same_other = so ∙ L.same_other;
-      set = λ h. first (omega (arith, B.layout.few_states));
-      followed = go b refl;
-    }
-      where
-        go : (x : Bool) → b ≡ x → Followed ins outs starts bytes heads₀ sizes₀ heads' sizes'
-        go true e = record { table = C.table; any = true; cuts = then_cut L.followed.cuts e state_here }
-        go false e = record { table = C.table; any = L.followed.any; cuts = then_none L.followed.cuts e state_here }
-
-    pub less_cut : (k : ℕ) {k' : ℕ} → b ≡ true → k' < 73786976294838206464 → ahead outs heads' sizes' (length sizes₀) k' < ahead outs heads sizes (length sizes₀) k
-    less_cut k e h = omega (arith, state_here.less e)
-
-    pub less_none : {k k' : ℕ} → b ≡ false → k' < k → ahead outs heads' sizes' (length sizes₀) k' < ahead outs heads sizes (length sizes₀) k
-    less_none e h = omega (arith, ap (λ k. total k (length sizes₀)) (same_patterns state_here e))
-
--- ---- the loop until nothing is cut
-pub record SettleLoop (ins outs starts bytes : List ℕ) (leaf : ℕ) (heads₀ sizes₀ other₀ heads sizes other : List ℕ) (again : Bool) : Type 0 where
-  pub table : Heads outs heads sizes
-  pub same_heads : length heads ≡ length heads₀
-  pub same_sizes : length sizes ≡ length sizes₀
-  pub same_other : length other ≡ length other₀
-  pub above : (l : Leaf ins) → AllAbove ins l (machine ins outs starts bytes (length sizes₀)) (length sizes₀) (head_of outs heads₀ sizes₀) → AllAbove ins l (machine ins outs starts bytes (length sizes₀)) (length sizes₀) (head_of outs heads sizes)
-  pub under : AllUnder (length sizes₀) (head_of outs heads sizes) (head_of outs heads₀ sizes₀)
-  pub fixed : again ≡ false → (q : ℕ) → q < length sizes₀ → FixedAt ins leaf (machine ins outs starts bytes (length sizes₀)) (head_of outs heads sizes) q
-
--- what is left to cut, and one turn that finds nothing
-pub left : List ℕ → List ℕ → List ℕ → Bool → ℕ
-left outs heads sizes again = total (head_of outs heads sizes) (length sizes) + one_if again
-
-pub settle_start : {ins outs starts bytes heads sizes other : List ℕ} (leaf : ℕ) → Heads outs heads sizes → SettleLoop ins outs starts bytes leaf heads sizes other heads sizes other true
-settle_start leaf T = record { table = T; same_heads = refl; same_sizes = refl; same_other = refl; above = λ l a. a; under = λ q v. prefix_self _; fixed = λ e. conflict (cc) }
-
-module _ {ins outs starts bytes heads₀ sizes₀ other₀ : List ℕ} (B : Bodies ins outs starts bytes heads₀ sizes₀ other₀) {leaf : ℕ}
-    {heads sizes other : List ℕ} {again : Bool} (L : SettleLoop ins outs starts bytes leaf heads₀ sizes₀ other₀ heads sizes other again) where
-  pub settle_bodies : Bodies ins outs starts bytes heads sizes other
-  settle_bodies = other_table B L.table L.same_sizes L.same_other
-
-  -- what follows calls keeps the loop going, and leaves no more to cut
-  module _ {heads' sizes' : List ℕ} (F : Followed ins outs starts bytes heads sizes heads' sizes') (ss : length sizes' ≡ length sizes) where
-    followed_here : Cuts ins (machine ins outs starts bytes (length sizes₀)) (length sizes₀) (head_of outs heads sizes) (head_of outs heads' sizes') F.any
-    followed_here = rw (← L.same_sizes) F.cuts
-
-    pub settle_follow : {other' : List ℕ} → length heads' ≡ length heads → length other' ≡ length other → SettleLoop ins outs starts bytes leaf heads₀ sizes₀ other₀ heads' sizes' other' true
-    settle_follow sh so = record {
-      table = F.table;
-      same_heads = sh ∙ L.same_heads;
-      same_sizes = ss ∙ L.same_sizes;
-      same_other = so ∙ L.same_other;
-      above = λ l a. followed_here.above l (L.above l a);
-      under = λ q v. prefix_trans (followed_here.under q v) (L.under q v);
-      fixed = λ e. conflict (cc);
+      followed = record { table = T; any = L.followed.any || b; cuts = then_cuts L.followed.cuts (cuts_on C) };
     }
 
-    pub follow_fewer : again ≡ true → left outs heads' sizes' true ≤ left outs heads sizes again
-    unfolding left
-    follow_fewer t = rw (ss, t) (omega (arith, not_more F.cuts))
+  module _ {leaf q : ℕ} {p' : Patterns} {b : Bool} (C : CutState ins outs starts bytes leaf q p.heads.now p.sizes.now p'.heads.now p'.sizes.now b) (s : Stays p p') where
+    pub less_cut : (k : ℕ) {k' : ℕ} → b ≡ true → k' < 2 ^ 129 → ahead outs p'.heads.now p'.sizes.now (length p₀.sizes.now) k' < ahead outs p.heads.now p.sizes.now (length p₀.sizes.now) k
+    less_cut k e h = omega (arith, (cuts_on C.cuts).less e)
 
-  module _ {heads' sizes' : List ℕ} {b : Bool} (C : Swept ins outs starts bytes leaf heads sizes heads' sizes' b) (sh : length heads' ≡ length heads) (ss : length sizes' ≡ length sizes) where
-    swept_here : Cuts ins (machine ins outs starts bytes (length sizes₀)) (length sizes₀) (head_of outs heads sizes) (head_of outs heads' sizes') b
-    swept_here = rw (← L.same_sizes) C.cuts
+    pub less_none : {k k' : ℕ} → b ≡ false → k' < k → ahead outs p'.heads.now p'.sizes.now (length p₀.sizes.now) k' < ahead outs p.heads.now p.sizes.now (length p₀.sizes.now) k
+    less_none e h = omega (arith, ap (λ k. total k (length p₀.sizes.now)) (same_patterns (cuts_on C.cuts) e))
 
-    pub settle_next : {other' : List ℕ} → length other' ≡ length other → SettleLoop ins outs starts bytes leaf heads₀ sizes₀ other₀ heads' sizes' other' b
-    settle_next so = record {
-      table = C.table;
-      same_heads = sh ∙ L.same_heads;
-      same_sizes = ss ∙ L.same_sizes;
-      same_other = so ∙ L.same_other;
-      above = λ l a. swept_here.above l (L.above l a);
-      under = λ q v. prefix_trans (swept_here.under q v) (L.under q v);
-      fixed = λ e q h. rw (same_patterns swept_here e, ← L.same_sizes) (C.fixed e q (omega (arith, L.same_sizes)));
-    }
+module _ {ins outs starts bytes other₀ : List ℕ} {p₀ : Patterns} (B : Bodies ins outs starts bytes p₀.heads.now p₀.sizes.now other₀)
+    {p : Patterns} {other : List ℕ} (L : FollowLoop ins outs starts bytes p₀ other₀ p other) where
+  -- ---- until nothing is cut
+  module _ {leaf : ℕ} {p' : Patterns} {b : Bool} (C : Swept ins outs starts bytes leaf p.heads.now p.sizes.now p'.heads.now p'.sizes.now b) (s : Stays p p') where
+    -- what cuts is not done, and leaves less to cut
+    pub settle_less : b ≡ true → {p'' : Patterns} → Followed ins outs starts bytes p'.heads.now p'.sizes.now p''.heads.now p''.sizes.now → Stays p' p'' → total (head_of outs p''.heads.now p''.sizes.now) (length p''.sizes.now) < total (head_of outs p.heads.now p.sizes.now) (length p.sizes.now)
+    settle_less t F r = rw (r.long_sizes, s.long_sizes) (let k = rw s.long_sizes at (not_more F.cuts) in omega (arith, C.cuts.less t))
 
-    pub settle_less : again ≡ true → left outs heads' sizes' b < left outs heads sizes again
-    unfolding left
-    settle_less t = go b refl
-      where
-        go : (x : Bool) → b ≡ x → total (head_of outs heads' sizes') (length sizes') + one_if b < total (head_of outs heads sizes) (length sizes) + one_if again
-        go true e = rw (ss, t, e) (omega (arith, C.cuts.less e))
-        go false e = rw (ss, t, e) (omega (arith, ap (λ k. total k (length sizes)) (same_patterns C.cuts e)))
-
-  pub settle_end : again ≡ false → Settled ins outs starts bytes leaf heads₀ sizes₀ heads sizes
-  settle_end e = record { table = L.table; prefs = λ l a u. all_fixed l (machine_wf l B.layout.wholes) (L.above l a) (λ q v. prefix_trans (L.under q v) (u q v)) (L.fixed e) }
+    -- what cuts nothing ends with the common prefixes
+    pub settle_end : b ≡ false → Settled ins outs starts bytes leaf p₀.heads.now p₀.sizes.now p'.heads.now p'.sizes.now
+    settle_end e =
+        let cuts = (follow_next B L C.cuts C.table s {other' = other} refl).followed.cuts in
+        record {
+          table = C.table;
+          prefs = λ l a u. all_fixed l (machine_wf l B.layout.wholes) (cuts.above l a) (λ q v. prefix_trans (cuts.under q v) (u q v))
+              (λ q h. rw (same_patterns C.cuts e, ← L.stays.long_sizes) (C.fixed e q (omega (arith, L.stays.long_sizes))));
+        }

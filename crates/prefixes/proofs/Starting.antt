@@ -4,7 +4,7 @@ use Prim.Native.Nat.{ℕ, suc, ◌+◌, ◌-◌, ◌*◌, ◌≤◌, ◌<◌}
 use native.Mathlib.Omega.{arith}
 use mathlib.Core.List.{List, [], ◌∷◌, ◌++◌, map, append_assoc}
 use mathlib.Core.Path.{◌≡◌, refl, sym, ap, ◌∙◌}
-use lib.ListN.{length, get_or, take, drop, length-map, length-set}
+use lib.ListN.{length, get_or, take, drop, length-map}
 use lib.Seq.{slice, slice_empty, length-slice, length-take-le, take_at, drop_at, take-take, take-append-le, sets, sets-eq, length-sets, get_or-set_same, get_or-set_other}
 use borrow.Author.Count.{below_more}
 use Rattle.theory.specs.Inner.Graft.{graft}
@@ -23,12 +23,14 @@ use Rattle.transducer.specs.Inner.Written.{spell, Callable}
 use Rattle.transducer.proofs.Meaning.{body_read}
 use Rattle.forms.specs.Alphabet.{alphabet}
 use Rattle.prefixes.specs.Inner.Patterns.{top, pattern_code, IsPattern, read_pattern, head_at}
-use Rattle.prefixes.specs.Inner.Heads.{head_of, Bodies, AllAbove, UnderLeaf, Settled, names, Startable, Started, AllStartable, AllStarted, Prefixable, Prefixes}
+use Rattle.prefixes.specs.declared.pattern.Patterns.{Patterns}
+use Rattle.prefixes.proofs.Settling.{stays_self, stays_more}
+use Rattle.prefixes.specs.Inner.Heads.{Stays, head_of, Bodies, AllAbove, UnderLeaf, Settled, names, Startable, Started, AllStartable, AllStarted, Prefixable, Prefixes}
 use Rattle.forms.specs.Inner.Tables.{machine, Layout}
 use Rattle.forms.proofs.Slices.{slice_from}
 use Rattle.prefixes.proofs.Grafts.{top_letter, over_graft, pattern_back}
 use Rattle.forms.proofs.Leaves.{pref_leaf}
-use Rattle.forms.proofs.Files.{machine_wf, number_fits}
+use Rattle.forms.proofs.Files.{machine_wf}
 
 -- ---- the names of the marks
 module _ (bytes : List ℕ) where
@@ -100,14 +102,13 @@ pub record Stands (ins starts bytes : List ℕ) (leaf : ℕ) (heads sizes : List
   pub small : get_or sizes p 0 ≤ 64
   pub head : head_at heads sizes p ≡ leaf_names ins starts bytes leaf p
 
-pub record StartLoop (ins starts bytes : List ℕ) (leaf : ℕ) (heads₀ sizes₀ heads sizes : List ℕ) (q : ℕ) : Type 0 where
-  pub inside : q ≤ length sizes₀
-  pub same_heads : length heads ≡ length heads₀
-  pub same_sizes : length sizes ≡ length sizes₀
-  pub passed : (p : ℕ) → p < q → Stands ins starts bytes leaf heads sizes p
+pub record StartLoop (ins starts bytes : List ℕ) (leaf : ℕ) (p₀ p : Patterns) (q : ℕ) : Type 0 where
+  pub inside : q ≤ length p₀.sizes.now
+  pub stays : Stays p₀ p
+  pub passed : (r : ℕ) → r < q → Stands ins starts bytes leaf p.heads.now p.sizes.now r
 
-pub start_none : {ins starts bytes : List ℕ} {leaf : ℕ} {heads sizes : List ℕ} → StartLoop ins starts bytes leaf heads sizes heads sizes 0
-start_none = record { inside = omega arith; same_heads = refl; same_sizes = refl; passed = λ p h. absurd (omega arith) }
+pub start_none : {ins starts bytes : List ℕ} {leaf : ℕ} {p : Patterns} → StartLoop ins starts bytes leaf p p 0
+start_none = record { inside = omega arith; stays = stays_self _; passed = λ r h. absurd (omega arith) }
 
 -- one state: its names have room
 pub start_fits : {bytes : List ℕ} {from to : ℕ} {heads sizes : List ℕ} {q : ℕ} → Startable bytes from to heads sizes q → 64 * q + length (names bytes from to) ≤ length heads
@@ -133,51 +134,46 @@ module _ {ins starts bytes : List ℕ} {leaf from to q : ℕ} {heads sizes heads
         head = rw (s, S.wrote) (sets_before heads (names bytes from to) (64 * q) (start_fits A) (64 * p) (64 * p + get_or sizes p 0) (omega (arith, P.small)) ∙ P.head);
       }
 
-module _ {ins starts bytes : List ℕ} {leaf : ℕ} {heads₀ sizes₀ : List ℕ} (A : AllStartable ins starts bytes leaf heads₀ sizes₀)
-    {heads sizes : List ℕ} {q : ℕ} (L : StartLoop ins starts bytes leaf heads₀ sizes₀ heads sizes q) where
-  -- the number of the right-hand side of q, and the next, are in the table of starts
-  pub start_number : q < length sizes → (body_number ins q leaf < 2049) × (body_number ins q leaf + 1 < length starts)
-  start_number h = number_fits A.layout (omega (arith, L.same_sizes)) A.there
-
-  module _ (there : q < length sizes) {from to : ℕ} (f : from ≡ get_or starts (body_number ins q leaf) 0) (t : to ≡ get_or starts (body_number ins q leaf + 1) 0) where
+module _ {ins starts bytes : List ℕ} {leaf : ℕ} {p₀ : Patterns} (A : AllStartable ins starts bytes leaf p₀.heads.now p₀.sizes.now)
+    {p : Patterns} {q : ℕ} (L : StartLoop ins starts bytes leaf p₀ p q) where
+  module _ (there : q < length p₀.sizes.now) {from to : ℕ} (f : from ≡ get_or starts (body_number ins q leaf) 0) (t : to ≡ get_or starts (body_number ins q leaf + 1) 0) where
     -- each state can be started
-    pub can_start : Startable bytes from to heads sizes q
+    pub can_start : Startable bytes from to p.heads.now p.sizes.now q
     can_start =
         let Y = A.layout in
-        let less = number_less ins q (length sizes₀) leaf (omega (arith, L.same_sizes)) A.there in
+        let less = number_less ins q (length p₀.sizes.now) leaf there A.there in
         record {
           ordered = omega (arith, Y.bounds.ordered (body_number ins q leaf) less);
           inside = omega (arith, Y.bounds.inside (body_number ins q leaf + 1) (omega arith));
           few = omega (arith, Y.few (body_number ins q leaf) less);
-          state = there;
-          room = omega (arith, A.long, L.same_heads, L.same_sizes);
+          state = omega (arith, L.stays.long_sizes);
+          room = omega (arith, A.long, L.stays.long_heads);
         }
 
-    pub start_next : {heads' sizes' : List ℕ} → Started bytes from to heads sizes q heads' sizes' → StartLoop ins starts bytes leaf heads₀ sizes₀ heads' sizes' (q + 1)
-    start_next {heads'} {sizes'} S = record {
-      inside = omega (arith, L.same_sizes);
-      same_heads = ap length S.wrote ∙ length-sets heads (64 * q) (names bytes from to) ∙ L.same_heads;
-      same_sizes = ap length S.size ∙ length-set sizes q (to - from) ∙ L.same_sizes;
-      passed = below_more (Stands ins starts bytes leaf heads' sizes') q (λ p h. stands_before can_start S h (L.passed p h)) (stands_here can_start S f t);
+    pub start_next : {p' : Patterns} → Stays p p' → Started bytes from to p.heads.now p.sizes.now q p'.heads.now p'.sizes.now → StartLoop ins starts bytes leaf p₀ p' (q + 1)
+    start_next {p'} s S = record {
+      inside = omega (arith, L.stays.long_sizes);
+      stays = stays_more L.stays s;
+      passed = below_more (Stands ins starts bytes leaf p'.heads.now p'.sizes.now) q (λ r h. stands_before can_start S h (L.passed r h)) (stands_here can_start S f t);
     }
 
   -- the bytes of each state are a pattern: its right-hand side for the leaf
-  leaf_read : length sizes ≤ q → (outs : List ℕ) → Layout ins outs starts bytes (length sizes₀) → (p : ℕ) → p < length sizes₀ → IsPattern outs (head_at heads sizes p) × (read_pattern outs (head_at heads sizes p) ≡ mapT (λ e. tt) ((machine ins outs starts bytes (length sizes₀)).rhs p leaf))
+  leaf_read : length p₀.sizes.now ≤ q → (outs : List ℕ) → Layout ins outs starts bytes (length p₀.sizes.now) → (r : ℕ) → r < length p₀.sizes.now → IsPattern outs (head_at p.heads.now p.sizes.now r) × (read_pattern outs (head_at p.heads.now p.sizes.now r) ≡ mapT (λ e. tt) ((machine ins outs starts bytes (length p₀.sizes.now)).rhs r leaf))
   unfolding transducer body
-  leaf_read h outs Y p g =
-      let r = names_read outs Y.few_symbols (length sizes₀) (get_or ins leaf 0) A.rank (body (λ j. get_or starts j 0) bytes (body_number ins p leaf)) (Y.wholes.rhs p leaf g A.there) in
-      rw (L.passed p (omega (arith, L.same_sizes))).head r
+  leaf_read h outs Y r g =
+      let n = names_read outs Y.few_symbols (length p₀.sizes.now) (get_or ins leaf 0) A.rank (body (λ j. get_or starts j 0) bytes (body_number ins r leaf)) (Y.wholes.rhs r leaf g A.there) in
+      rw (L.passed r (omega arith)).head n
 
   -- all states are started
-  pub start_end : length sizes ≤ q → AllStarted ins starts bytes leaf sizes₀ heads sizes
+  pub start_end : length p₀.sizes.now ≤ q → AllStarted ins starts bytes leaf p₀.sizes.now p.heads.now p.sizes.now
   unfolding head_of
   start_end h = record {
     table = λ outs Y. record {
-      long = omega (arith, A.long, L.same_heads, L.same_sizes);
-      small = λ p g. (L.passed p (omega arith)).small;
-      each = λ p g. (leaf_read h outs Y p (omega (arith, L.same_sizes))).0;
+      long = omega (arith, A.long, L.stays.long_heads, L.stays.long_sizes);
+      small = λ r g. (L.passed r (omega (arith, L.stays.long_sizes))).small;
+      each = λ r g. (leaf_read h outs Y r (omega (arith, L.stays.long_sizes))).0;
     };
-    started = λ outs Y p g. (leaf_read h outs Y p g).1;
+    started = λ outs Y r g. (leaf_read h outs Y r g).1;
   }
 
 -- ---- the common prefixes
@@ -202,3 +198,7 @@ module _ {ins outs starts bytes heads₀ sizes₀ other₀ : List ℕ} (A : Pref
       let l₀ : Leaf ins = record { symbol = leaf; there = found.0; rank = found.1 } in
       let P = rw same at (T.prefs l₀) in
       record { table = T.table; same = e ∙ same; prefs = λ l q h. pref_leaf l₀ l (P (start_above l₀ A.layout S) (start_under A.layout S) q h) }
+
+-- the areas that were lent hold them
+pub put_back : {ins outs starts bytes sizes heads' sizes' heads'' sizes'' : List ℕ} → heads'' ≡ heads' → sizes'' ≡ sizes' → Prefixes ins outs starts bytes sizes heads' sizes' → Prefixes ins outs starts bytes sizes heads'' sizes''
+put_back e f P = rw (e, f) P

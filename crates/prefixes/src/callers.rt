@@ -1,103 +1,68 @@
-// Which states call a state: two words of 64 flags for each state called.
-ghost use Rattle.std.specs.Prelude.{◌+◌, ◌*◌, ◌≤◌, ◌<◌, ◌≡◌, length};
+// Which states call a state, and which states are to be cut again: 128 flags in one word.
+ghost use Rattle.std.specs.Prelude.{◌*◌, ◌^◌, ◌≤◌, ◌<◌, length, MatchOption};
 ghost use Rattle.forms.specs.Inner.Tables.{Bounded};
 ghost use Rattle.prefixes.specs.Inner.Heads.{weight};
 
-use trees::bytes::{number, wide};
+use crate::tables::Tables;
 
-// Sets the flag `bit` of word `word` for each state that the marks number `from` up to `to` call.
-fn flag_calls(marks: &[u8], from: usize, to: usize, word: usize, bit: u64, callers: &mut [u64])
-    requires { (2 * to ≤ length marks.now) × (word < 2) × (length callers.old ≡ 256) }
+// Sets the flag `bit` for each state that the marks number `from` up to `to` call.
+fn flag_calls(marks: &[u8], from: usize, to: usize, bit: u128, callers: &mut [u128; 128])
+    requires { 2 * to ≤ length marks.now }
 {
-    let mut j = from;
-    while j < to {
-        let q = wide(marks[2 * j + 1]);
-        if marks[2 * j] > 0 {
-            if q < 128 {
-                let k = 2 * q + word;
-                callers[k] = callers[k] | bit;
-            }
+    for j in from..to {
+        let q = usize::from(marks[2 * j + 1]);
+        if marks[2 * j] > 0 && q < 128 {
+            callers[q] |= bit;
         }
-        j += 1;
     }
 }
 
-// Flags the callers of all of n states; the right-hand sides of a state stand one after the other. State p has flag n - 1 - p.
-pub(crate) fn find_callers(ins: &[u8], starts: &[u16], marks: &[u8], n: usize, callers: &mut [u64])
-    requires { Bounded ins.now starts.now marks.now n × (length callers.old ≡ 256) }
+// The flags of the callers of each of n states, of which the state p has flag n - 1 - p. The right-hand sides of a state stand one after the other.
+pub(crate) fn find_callers(tables: &Tables, n: usize) -> [u128; 128]
+    requires { Bounded tables.now.ins.now tables.now.starts.now tables.now.marks.now n }
 {
-    let mut p = 0;
-    while p < n {
-        let b = 1 + p * ins.len();
-        let from = number(starts[b]);
-        let to = number(starts[b + ins.len()]);
-        let f = n - 1 - p;
-        flag_calls(marks, from, to, f / 64, 1u64 << ((f % 64) as u32), callers);
-        p += 1;
+    let mut callers = [0; 128];
+    for p in 0..n {
+        let b = 1 + p * tables.ins.len();
+        let from = usize::from(tables.starts[b]);
+        let to = usize::from(tables.starts[b + tables.ins.len()]);
+        flag_calls(tables.marks, from, to, 1 << (n - 1 - p), &mut callers);
     }
+    callers
 }
 
-// The flags that are set of 128, in this round and in the next.
-#[derive(Clone, Copy)]
-pub struct Flags {
-    pub low: u64,
-    pub high: u64,
-    pub low2: u64,
-    pub high2: u64,
+// The flags that are set of 128: in this round and in the next.
+#[derive(Clone, Copy, Debug, PartialEq, Eq)]
+pub(crate) struct Flags {
+    pub round: u128,
+    pub next: u128,
 }
 
-// The first flag that is set in this round, or 128.
-pub(crate) fn first_flag(flags: Flags) -> usize
-    ensures { (result < 128 → 0 < flags.low + flags.high) × (weight flags.low flags.high flags.low2 flags.high2 < 73786976294838206464) }
-{
-    if flags.low > 0 {
-        return u64::trailing_zeros(flags.low) as usize;
+impl Flags {
+    // Takes away the first flag that is set in this round and says which it is; if none of the first n is set, this round becomes the next.
+    pub(crate) fn take_first(&mut self, n: usize) -> Option<usize>
+        requires { n ≤ 128 }
+        ensures { MatchOption result (Unit {0}) (λ f. (f < n) × (weight self.new.round self.new.next < weight self.old.round self.old.next)) }
+    {
+        if self.round.trailing_zeros() as usize >= n {
+            self.round = self.next;
+            self.next = 0;
+        }
+        let first = self.round.trailing_zeros() as usize;
+        if first >= n {
+            return None;
+        }
+        self.round &= self.round - 1;
+        Some(first)
     }
-    64 + u64::trailing_zeros(flags.high) as usize
-}
 
-// The flags without the first that is set in this round.
-pub(crate) fn other_flags(flags: Flags) -> Flags
-    requires { 0 < flags.low + flags.high }
-    ensures { weight result.low result.high result.low2 result.high2 < weight flags.low flags.high flags.low2 flags.high2 }
-{
-    if flags.low > 0 {
-        return Flags {
-            low: flags.low & (flags.low - 1),
-            high: flags.high,
-            low2: flags.low2,
-            high2: flags.high2,
-        };
-    }
-    Flags {
-        low: flags.low,
-        high: flags.high & (flags.high - 1),
-        low2: flags.low2,
-        high2: flags.high2,
-    }
-}
-
-// The flags with those of two more words in the next round.
-pub(crate) fn more_flags(flags: Flags, low: u64, high: u64) -> Flags {
-    Flags {
-        low: flags.low,
-        high: flags.high,
-        low2: flags.low2 | low,
-        high2: flags.high2 | high,
-    }
-}
-
-// The flags, or those of the next round if none of the first n is set.
-pub(crate) fn next_flags(flags: Flags, n: usize) -> Flags
-    ensures { weight result.low result.high result.low2 result.high2 ≤ weight flags.low flags.high flags.low2 flags.high2 }
-{
-    if first_flag(flags) < n {
-        return flags;
-    }
-    Flags {
-        low: flags.low2,
-        high: flags.high2,
-        low2: 0,
-        high2: 0,
+    // The flags with those of a word in the next round.
+    pub(crate) fn with(self, word: u128) -> Flags
+        ensures { weight result.round result.next < 2 ^ 129 }
+    {
+        Flags {
+            round: self.round,
+            next: self.next | word,
+        }
     }
 }

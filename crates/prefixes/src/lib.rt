@@ -4,3 +4,4 @@
 pub mod callers;
 pub mod pattern;
 pub mod prefix;
+mod tables;

@@ -8,6 +8,8 @@ use Rattle.theory.specs.Pref.{CommonPrefix, Prefs}
 use Rattle.theory.specs.Prefix.{Pattern, Prefix}
 use Rattle.theory.specs.Term.{Term, mapT}
 use Rattle.theory.specs.Transducer.{Transducer}
+use Rattle.prefixes.specs.declared.tables.Tables.{Tables}
+use Rattle.prefixes.specs.declared.pattern.Patterns.{Patterns}
 use Rattle.trees.specs.Alphabets.{Leaf}
 use Rattle.trees.specs.Inner.Decode.{forest, first, Whole}
 use Rattle.formats.specs.Inner.Layout.{mark_of}
@@ -16,6 +18,21 @@ use Rattle.trees.specs.Refusal.{Decides}
 use Rattle.forms.specs.Alphabet.{alphabet}
 use Rattle.forms.specs.Inner.Tables.{machine, Layout}
 use Rattle.prefixes.specs.Inner.Patterns.{IsPattern, read_pattern, head_at}
+
+-- of the tables of a transducer
+abbrev pub of_tables : {A : Type 1} → (List ℕ → List ℕ → List ℕ → List ℕ → A) → Tables → A
+of_tables f m = f m.ins.now m.outs.now m.starts.now m.marks.now
+
+-- of a table of patterns before and after a cut
+abbrev pub of_cut : {A : Type 1} → (List ℕ → List ℕ → List ℕ → List ℕ → A) → Patterns → Patterns → A
+of_cut f p p' = f p.heads.now p.sizes.now p'.heads.now p'.sizes.now
+
+-- a table of patterns stays where it is
+pub record Stays (p p' : Patterns) : Type 0 where
+  pub heads : p'.heads.ghost_name ≡ p.heads.ghost_name
+  pub sizes : p'.sizes.ghost_name ≡ p.sizes.ghost_name
+  pub long_heads : length p'.heads.now ≡ length p.heads.now
+  pub long_sizes : length p'.sizes.now ≡ length p.sizes.now
 
 -- each state has a pattern of at most 64 bytes
 pub record Heads (outs heads sizes : List ℕ) : Type 0 where
@@ -99,8 +116,8 @@ pub record Swept (ins outs starts bytes : List ℕ) (leaf : ℕ) (heads sizes he
 
 -- ---- cuts of the states whose callees changed
 -- the flags that are set, of this round and of the next: a sum of words
-abbrev pub weight : ℕ → ℕ → ℕ → ℕ → ℕ
-weight low high low2 high2 = low + high + low2 + high2
+abbrev pub weight : ℕ → ℕ → ℕ
+weight round next = round + next
 
 -- any number of cuts
 pub record Followed (ins outs starts bytes heads sizes heads' sizes' : List ℕ) : Type 0 where

@@ -1,5 +1,5 @@
 -- Patterns as bytes, and what is done with them: the end of one, what two share, the grafting of a right-hand side.
-use Rattle.std.specs.Prelude.{ℕ, ◌+◌, ◌*◌, ◌≤◌, ◌<◌, Bool, true, false, List, [], ◌∷◌, ◌≡◌, ltb, eqb, length, get_or, drop, take}
+use Rattle.std.specs.Prelude.{ℕ, ◌+◌, ◌*◌, ◌≤◌, ◌<◌, Bool, true, false, List, [], ◌∷◌, ◌≡◌, ltb, eqb, length, get_or, drop, take, Option, None, Some}
 use Rattle.std.proofs.Math.Seq.{slice}
 use Rattle.theory.specs.Lcp.{lcp}
 use Rattle.theory.specs.Prefix.{Pattern}
@@ -39,21 +39,16 @@ pub record Ended {A : Type 0} (f : ℕ → Letter A) (s : List ℕ) (at e : ℕ)
   pub inside : e ≤ length s
   pub behind : forest f (drop e s) ≡ rests 1 (forest f (drop at s))
 
--- the n bytes of x from position i on are those of y from position j on
-abbrev pub Alike : List ℕ → ℕ → List ℕ → ℕ → ℕ → Type 0
-Alike x i y j n = (t : ℕ) → t < n → get_or x (i + t) 0 ≡ get_or y (j + t) 0
-
--- and both have as many
-pub record Run (x : List ℕ) (i : ℕ) (y : List ℕ) (j n : ℕ) : Type 0 where
-  pub first : i + n ≤ length x
-  pub second : j + n ≤ length y
-  pub alike : Alike x i y j n
-
 -- the pattern x was cut to what it shares with y; cut says whether that took anything away
 pub record CutPattern (outs x y after : List ℕ) (size : ℕ) (cut : Bool) : Type 0 where
   pub short : size ≤ length x
   pub shared : take size after ≡ pattern_code (lcp (read_pattern outs x) (read_pattern outs y))
   pub told : Decides (lcp (read_pattern outs x) (read_pattern outs y) ≡ read_pattern outs x → ⊥) cut
+
+-- how long x is after a cut that answers so
+abbrev pub size_after : List ℕ → Option ℕ → ℕ
+size_after x None = length x
+size_after x (Some n) = n
 
 -- ---- a table of patterns: that of state q stands from byte 64 q on
 abbrev pub head_at : List ℕ → List ℕ → ℕ → List ℕ

@@ -3,14 +3,12 @@ use Prim.Native.Nat.{◌<◌}
 use native.Mathlib.Omega.{arith}
 use lib.ListN.{length}
 use Rattle.prefixes.proofs.Ends.{letter_inside}
-use Rattle.prefixes.proofs.Patterns.{cutting_start, cutting_done, first_there, second_there, same_turn, other_turn, run_turn}
+use Rattle.prefixes.proofs.Grafts.{cut_answer}
+use Rattle.prefixes.proofs.Patterns.{cutting_start, cutting_done, first_there, second_there, same_turn, other_turn}
 use Rattle.prefixes.proofs.pattern.cut_pattern.Goals as goal
-use Rattle.prefixes.proofs.pattern.cut_pattern.Goals.{then-k-y, then-w-i, else-w-i, else-k-y, then-wide-outs, else-wide-outs}
+use Rattle.prefixes.proofs.pattern.cut_pattern.Goals.{then-k-y, else-k-y}
 
 -- the same byte in both: it stays where it is with those behind it that are the same, or is written further to the front
-pub loop-i-init : goal.loop-i-init
-loop-i-init c = cutting_start _ _ _ c.requires.0 c.requires.1
-
 pub bounds-y-j : goal.bounds-y-j
 bounds-y-j c =
     let l = c.loop-i in
@@ -21,29 +19,8 @@ overflow_add-j c =
     let inside : c.loop-i.j < length c.args.y.now = letter_inside _ _ c.loop-i.j (second_there c.loop-i.invariant c.loop-i-test.true) in
     omega arith
 
-pub same_run-t-requires : goal.same_run-t-requires
-same_run-t-requires c = let inside : c.loop-i.j < length c.args.y.now = letter_inside _ _ c.loop-i.j (second_there c.loop-i.invariant c.loop-i-test.true) in (omega arith, omega arith)
-
-pub overflow_add-i-then-w-i : goal.overflow_add-i-then-w-i
-overflow_add-i-then-w-i c = omega (arith, c.same_run-t.ensures.first)
-
-pub overflow_add-j-then-w-i : goal.overflow_add-j-then-w-i
-overflow_add-j-then-w-i c = omega (arith, c.same_run-t.ensures.second)
-
-pub overflow_add-w : goal.overflow_add-w
-overflow_add-w c = omega (arith, c.same_run-t.ensures.first)
-
-pub overflow_add-i-then-k-y : goal.overflow_add-i-then-k-y
-overflow_add-i-then-k-y c =
-    elim c.if-w-i.branch [ then-w-i w ↦ omega (arith, w.same_run-t.ensures.first, c.loop-i.invariant.long) | else-w-i w ↦ omega (arith, c.loop-i.invariant.long) ]
-
-pub overflow_add-j-then-k-y : goal.overflow_add-j-then-k-y
-overflow_add-j-then-k-y c =
-    let inside : c.loop-i.j < length c.args.y.now = letter_inside _ _ c.loop-i.j (second_there c.loop-i.invariant c.loop-i-test.true) in
-    elim c.if-w-i.branch [ then-w-i w ↦ omega (arith, w.same_run-t.ensures.second) | else-w-i w ↦ omega arith ]
-
-pub wide-requires : goal.wide-requires
-wide-requires c = tt
+pub loop-i-init : goal.loop-i-init
+loop-i-init c = cutting_start _ _ _ c.requires.0 c.requires.1
 
 pub pattern_end-i-requires : goal.pattern_end-i-requires
 pattern_end-i-requires c = first_there c.loop-i.invariant c.loop-i-test.true
@@ -51,43 +28,19 @@ pattern_end-i-requires c = first_there c.loop-i.invariant c.loop-i-test.true
 pub pattern_end-j-requires : goal.pattern_end-j-requires
 pattern_end-j-requires c = second_there c.loop-i.invariant c.loop-i-test.true
 
-pub overflow_add-w-in-loop-i : goal.overflow_add-w-in-loop-i
-overflow_add-w-in-loop-i c =
-    let M = c.loop-i.invariant in
-    let t = c.loop-i-test.true in
-    elim c.if-k-y.branch [
-      | then-k-y w ↦ elim w.if-w-i.branch [
-        | then-w-i v ↦ omega (arith, (run_turn M t w.if-k-y.true v.if-w-i.true v.same_run-t.ensures).behind, v.same_run-t.ensures.first, M.long)
-        | else-w-i v ↦ omega (arith, (same_turn M t w.if-k-y.true).behind, M.long)
-      ]
-      | else-k-y w ↦ omega (arith, M.behind, M.long)
-    ]
-
 pub loop-i-smaller : goal.loop-i-smaller
 loop-i-smaller c =
     let M = c.loop-i.invariant in
-    elim c.if-k-y.branch [
-      | then-k-y w ↦ elim w.if-w-i.branch [ then-w-i v ↦ omega (arith, v.same_run-t.ensures.first, M.long) | else-w-i v ↦ omega (arith, M.long) ]
-      | else-k-y w ↦ omega (arith, w.pattern_end-i.ensures.further, M.long)
-    ]
+    elim c.if-k-y.branch [ then-k-y w ↦ omega (arith, M.long) | else-k-y w ↦ omega (arith, w.pattern_end-i.ensures.further, M.long) ]
 
 pub loop-i-preserved : goal.loop-i-preserved
 loop-i-preserved c =
     let M = c.loop-i.invariant in
     let t = c.loop-i-test.true in
     elim c.if-k-y.branch [
-      | then-k-y w ↦ elim w.if-w-i.branch [
-        | then-w-i v ↦ rw (w.x-is, w.i-is, w.j-is, w.w-is, w.cut-is, v.x-is, v.i-is, v.j-is, v.w-is) (run_turn M t w.if-k-y.true v.if-w-i.true v.same_run-t.ensures)
-        | else-w-i v ↦ rw (w.x-is, w.i-is, w.j-is, w.w-is, w.cut-is, v.x-is, v.i-is, v.j-is, v.w-is) (same_turn M t w.if-k-y.true)
-      ]
-      | else-k-y w ↦ rw (w.x-is, w.i-is, w.j-is, w.w-is, w.cut-is)
-          (other_turn M t w.if-k-y.false w.pattern_end-i.ensures w.pattern_end-j.ensures
-          (λ h. elim w.if-wide-outs.branch [ then-wide-outs v ↦ v.cut-is | else-wide-outs v ↦ absurd (omega arith) ])
-          (λ h. elim w.if-wide-outs.branch [ then-wide-outs v ↦ absurd (omega arith) | else-wide-outs v ↦ v.cut-is ]))
+      | then-k-y w ↦ rw (w.x-is, w.i-is, w.j-is, w.cut-is) (same_turn M t w.if-k-y.true)
+      | else-k-y w ↦ rw (w.x-is, w.i-is, w.j-is, w.cut-is, w.from.ensures) (other_turn M t w.if-k-y.false w.pattern_end-i.ensures w.pattern_end-j.ensures)
     ]
 
-pub shape_of-x : goal.shape_of-x
-shape_of-x c = c.loop-i.invariant.long
-
 pub returns : goal.returns
-returns c = cutting_done c.loop-i.invariant (omega arith)
+returns c = rw c.then_some.ensures (cut_answer c.loop-i.cut c.requires.0 (cutting_done c.loop-i.invariant (omega arith)))

@@ -1,9 +1,0 @@
--- `sweep` meets its contract. The invariant is `SweepLoop`. Assumes nothing.
-use Rattle.prefixes.proofs.Settling.{SweepLoop}
-use Rattle.prefixes.proofs.prefix.sweep.Given as goal
-
-abbrev pub invariant-loop-q : goal.invariant-loop-q
-invariant-loop-q l = SweepLoop l.ins l.outs l.starts l.marks l.leaf l.initial.heads l.initial.sizes l.initial.other l.heads l.sizes l.other l.any l.q
-
-abbrev pub decreases-loop-q : goal.decreases-loop-q
-decreases-loop-q l = l.q
