@@ -5,30 +5,11 @@ use lib.ListN.{length}
 use Rattle.formats.specs.Inner.Layout.{body_number}
 use Rattle.trees.proofs.Deciding.{decides_no, decides_yes, refuted, held}
 use Rattle.formats.proofs.Pairs.{number_less}
-use Rattle.forms.proofs.Files.{number_fits}
 use Rattle.classes.specs.Inner.Classes.{SameBodies}
 use Rattle.classes.proofs.classes.same_states.Goals as goal
 
 pub loop-a-init : goal.loop-a-init
 loop-a-init c = λ b h. absurd (omega arith)
-
-pub overflow_mul-p : goal.overflow_mul-p
-overflow_mul-p c = omega (arith, number_fits c.requires.0.layout c.requires.1 c.loop-a-test.true)
-
-pub overflow_add-p : goal.overflow_add-p
-overflow_add-p c = omega (arith, number_fits c.requires.0.layout c.requires.1 c.loop-a-test.true)
-
-pub overflow_add-p-in-loop-a : goal.overflow_add-p-in-loop-a
-overflow_add-p-in-loop-a c = omega (arith, number_fits c.requires.0.layout c.requires.1 c.loop-a-test.true)
-
-pub overflow_mul-q : goal.overflow_mul-q
-overflow_mul-q c = omega (arith, number_fits c.requires.0.layout c.requires.2 c.loop-a-test.true)
-
-pub overflow_add-q : goal.overflow_add-q
-overflow_add-q c = omega (arith, number_fits c.requires.0.layout c.requires.2 c.loop-a-test.true)
-
-pub overflow_add-q-in-loop-a : goal.overflow_add-q-in-loop-a
-overflow_add-q-in-loop-a c = omega (arith, number_fits c.requires.0.layout c.requires.2 c.loop-a-test.true)
 
 pub same_bodies-requires : goal.same_bodies-requires
 same_bodies-requires c =
