@@ -74,10 +74,11 @@ fn pattern_byte(marks: &[u8], from: usize, to: usize) -> u8
     let mut h: usize = 0;
     for j in from..to {
         let i = usize::from(marks[2 * j]);
-        let mut x = usize::from(marks[2 * j + 1]);
-        if i > 0 {
-            x = 0;
-        }
+        let x = if i > 0 {
+            0
+        } else {
+            usize::from(marks[2 * j + 1])
+        };
         h = (31 * h + 7 * i + x) % 256;
     }
     h as u8

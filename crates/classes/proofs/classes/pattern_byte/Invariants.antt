@@ -4,4 +4,3 @@ use Rattle.classes.proofs.classes.pattern_byte.Given as goal
 
 abbrev pub invariant-loop-j : goal.invariant-loop-j
 invariant-loop-j l = PatternLoop l.marks l.from l.to l.h l.j
-

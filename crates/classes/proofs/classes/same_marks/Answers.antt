@@ -6,9 +6,6 @@ use Rattle.classes.proofs.Keys.{all_same, first_there, second_there, other_child
 use Rattle.classes.proofs.classes.same_marks.Goals as goal
 use Rattle.classes.proofs.classes.same_marks.Goals.{then-x-y+else-c-eq0+else-classes-from, else-x-y}
 
-pub loop-k-init : goal.loop-k-init
-loop-k-init c = (omega arith, λ m h. absurd (omega arith))
-
 pub returns-then-c-marks : goal.returns-then-c-marks
 returns-then-c-marks c = other_child c.requires c.loop-k-test.true (λ e. omega (arith, c.if-c-marks.true, e))
 

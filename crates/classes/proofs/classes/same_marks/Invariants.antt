@@ -5,4 +5,3 @@ use Rattle.classes.proofs.classes.same_marks.Given as goal
 
 abbrev pub invariant-loop-k : goal.invariant-loop-k
 invariant-loop-k l = (l.k ≤ l.n) × SameBefore l.classes l.marks l.i l.j l.k
-

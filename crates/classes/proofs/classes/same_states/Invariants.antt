@@ -6,4 +6,3 @@ use Rattle.classes.proofs.classes.same_states.Given as goal
 
 abbrev pub invariant-loop-a : goal.invariant-loop-a
 invariant-loop-a l = (b : ℕ) → b < l.a → SameBodies l.starts l.marks l.classes (body_number l.ins l.p b) (body_number l.ins l.q b)
-
