@@ -109,14 +109,16 @@ module _ {callers : List Row} {r n : ℕ} {pending₀ pending : List Bool} {list
 
 -- ---- all states
 -- those before state q are pending and listed
-pub record AllLoop (pending : List Bool) (list : List ℕ) (q : ℕ) : Type 0 where
+pub record AllLoop (pending : List Bool) (list : List ℕ) (len q : ℕ) : Type 0 where
+  pub counted : len ≡ q
   pub flags : length pending ≡ 128
   pub room : length list ≡ 128
   pub waiting : (p : ℕ) → p < q → Placed pending p → ⊥
   pub listed : (j : ℕ) → j < q → at list j ≡ j
 
-pub all_next : {pending : List Bool} {list : List ℕ} {q : ℕ} → AllLoop pending list q → q < 128 → AllLoop (set pending q true) (set list q q) (q + 1)
+pub all_next : {pending : List Bool} {list : List ℕ} {q : ℕ} → AllLoop pending list q q → q < 128 → AllLoop (set pending q true) (set list q q) (q + 1) (q + 1)
 all_next {pending} {list} {q} L h = record {
+  counted = refl;
   flags = length-set pending q true ∙ L.flags;
   room = length-set list q q ∙ L.room;
   waiting = λ p l. by_cases (ℕ_discrete p q) (λ z e. let y = get_or-set_same pending q true false (omega (arith, L.flags)) in let x = rw z at e in conflict (cc)) (λ z e. L.waiting p (omega arith) (sym (get_or-set_other pending q p true false z) ∙ e));
@@ -129,7 +131,7 @@ no_standing ℕ.zero c = refl
 no_standing (suc n) ℕ.zero = refl
 no_standing (suc n) (suc c) = no_standing n c
 
-pub all_end : {pending : List Bool} {reps : List (Option ℕ)} {list : List ℕ} {n q : ℕ} → AllLoop pending list q → length reps ≡ 128 → ((c : ℕ) → standing reps c ≡ None) → n ≤ 128 → n ≤ q → AllPending pending reps list n
+pub all_end : {pending : List Bool} {reps : List (Option ℕ)} {list : List ℕ} {n len q : ℕ} → AllLoop pending list len q → length reps ≡ 128 → ((c : ℕ) → standing reps c ≡ None) → n ≤ 128 → n ≤ q → AllPending pending reps list n
 all_end {list = list} L names unnamed few h = record {
   flags = L.flags;
   names = names;

@@ -10,7 +10,12 @@ use Rattle.formats.specs.Inner.Layout.{body_count}
 use Rattle.forms.specs.Alphabet.{alphabet}
 use Rattle.forms.specs.Inner.Tables.{machine, Layout}
 use Rattle.classes.specs.Inner.Classes.{SameStates, at, Classed}
+use Rattle.merging.specs.declared.refining.Bodies.{Bodies}
 use Rattle.merging.specs.declared.refining.Row.{Row}
+
+-- of the bodies of a transducer
+abbrev pub of_bodies : {A : Type 1} → (List ℕ → List ℕ → List ℕ → A) → Bodies → A
+of_bodies f b = f b.ins.now b.starts.now b.marks.now
 
 -- state q is not pending
 abbrev pub Placed : List Bool → ℕ → Type 0

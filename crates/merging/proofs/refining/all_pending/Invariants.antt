@@ -3,4 +3,4 @@ use Rattle.merging.proofs.Worklist.{AllLoop}
 use Rattle.merging.proofs.refining.all_pending.Given as goal
 
 abbrev pub invariant-loop-q : goal.invariant-loop-q
-invariant-loop-q l = AllLoop l.pending l.list l.q
+invariant-loop-q l = AllLoop l.placing.pending l.list.bytes l.list.len l.q

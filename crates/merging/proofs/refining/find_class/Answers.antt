@@ -13,7 +13,7 @@ use Rattle.merging.proofs.refining.find_class.Goals.{in-Some+else-old-q, else-ol
 pub returns-then-same_states : goal.returns-then-same_states
 returns-then-same_states c =
     let i = c.loop-k in
-    let t : Takes c.args.ins.now c.args.starts.now c.args.marks.now c.args.old.now c.args.reps.now c.args.p i.k = (c.from-q.result, (c.in-Some.is ∙ ap Some (sym c.from-q.ensures), c.if-old-q.true, c.same_states.ensures.sound c.if-same_states.true)) in
+    let t : Takes c.args.bodies.now.ins.now c.args.bodies.now.starts.now c.args.bodies.now.marks.now c.args.old.now c.args.reps.now c.args.p i.k = (c.from-q.result, (c.in-Some.is ∙ ap Some (sym c.from-q.ensures), c.if-old-q.true, c.same_states.ensures.sound c.if-same_states.true)) in
     record {
       found = λ k e. let z : k ≡ i.k = same_Some _ _ (sym e) in rw z (i.auto.k, c.loop-k-test.true, t);
       first = λ k e. let z : k ≡ i.k = same_Some _ _ (sym e) in rw z i.invariant;
@@ -24,14 +24,14 @@ pub loop-k-preserved : goal.loop-k-preserved
 loop-k-preserved c =
     let a = c.args in
     let i = c.loop-k in
-    let miss : a.base ≤ i.k → Takes a.ins.now a.starts.now a.marks.now a.old.now a.reps.now a.p i.k → ⊥ = elim c.match-reps-k.branch [
+    let miss : a.base ≤ i.k → Takes a.bodies.now.ins.now a.bodies.now.starts.now a.bodies.now.marks.now a.old.now a.reps.now a.p i.k → ⊥ = elim c.match-reps-k.branch [
       | in-Some+else-old-q w ↦ elim w.else-old-q.branch [
         | else-old-q-via-then-old-q+else-same_states w' ↦ λ b t. decided_not w'.same_states.ensures w'.if-same_states.false (takes_like a.reps.now i.k (w.in-Some.is ∙ ap Some (sym w.from-q.ensures)) t).1
         | else-old-q-via-else-old-q w' ↦ λ b t. w'.if-old-q.false (takes_like a.reps.now i.k (w.in-Some.is ∙ ap Some (sym w.from-q.ensures)) t).0
       ]
       | in_default w ↦ λ b t. w.in_default.not-Some t.0 t.1.0
     ] in
-    λ j b h. below_more (λ j. a.base ≤ j → Takes a.ins.now a.starts.now a.marks.now a.old.now a.reps.now a.p j → ⊥) i.k (λ j h b. i.invariant j b h) miss j h b
+    λ j b h. below_more (λ j. a.base ≤ j → Takes a.bodies.now.ins.now a.bodies.now.starts.now a.bodies.now.marks.now a.old.now a.reps.now a.p j → ⊥) i.k (λ j h b. i.invariant j b h) miss j h b
 
 pub returns : goal.returns
 returns c = record { found = λ k e. absurd (cc); first = λ k e. absurd (cc); none = λ e j b h. c.loop-k.invariant j b (omega arith) }
