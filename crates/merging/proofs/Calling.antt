@@ -1,6 +1,6 @@
 -- The callers of states: what is flagged stays so, and every call is flagged.
 -- Assumes nothing.
-use Prim.Native.Nat.{ℕ, ◌+◌, ◌*◌, ◌≤◌, ◌<◌}
+use Prim.Native.Nat.{ℕ, ◌+◌, ◌*◌, ◌<◌}
 use native.Mathlib.Decide.{ℕ_discrete}
 use native.Mathlib.Omega.{arith}
 use mathlib.Core.List.{List}
@@ -39,25 +39,13 @@ module _ {bytes : List ℕ} {from p : ℕ} {callers₀ callers : List Row} {j : 
   pub next_other : (0 < at bytes (2 * j) → at bytes (2 * j + 1) < 128 → ⊥) → CallsLoop bytes from p callers₀ callers (j + 1)
   next_other f = next_call (still_refl L.still.room) (λ z w. absurd (f z w))
 
-pub no_calls : {bytes : List ℕ} {from p : ℕ} {callers : List Row} → length callers ≡ 128 → CallsLoop bytes from p callers callers from
-no_calls T = record { still = still_refl T; calls = record { each = λ k b l. absurd (omega arith) } }
-
-pub all_calls : {bytes : List ℕ} {from to p : ℕ} {callers₀ callers : List Row} {j : ℕ} → CallsLoop bytes from p callers₀ callers j → to ≤ j → StillFlagged callers₀ callers × FlaggedCalls bytes from to p callers
-all_calls L h = (L.still, record { each = λ k b l. L.calls.each k b (omega arith) })
-
 -- ---- the calls of all states
 pub record StatesLoop (ins starts bytes : List ℕ) (callers₀ callers : List Row) (p : ℕ) : Type 0 where
   pub still : StillFlagged callers₀ callers
   pub calls : Callers ins starts bytes p callers
-
-pub no_states : {ins starts bytes : List ℕ} {callers : List Row} → length callers ≡ 128 → StatesLoop ins starts bytes callers callers 0
-no_states T = record { still = still_refl T; calls = record { each = λ k l. absurd (omega arith) } }
 
 pub next_state : {ins starts bytes : List ℕ} {callers₀ callers callers' : List Row} {p from to : ℕ} → StatesLoop ins starts bytes callers₀ callers p → StillFlagged callers callers' × FlaggedCalls bytes from to p callers' → from ≡ at starts (body_count ins p) → to ≡ at starts (body_count ins p + length ins) → StatesLoop ins starts bytes callers₀ callers' (p + 1)
 next_state {bytes = bytes} {p = p} L S f t = record {
   still = still_trans L.still S.0;
   calls = record { each = λ q l. by_cases (ℕ_discrete q p) (λ e. rw (e, ← f, ← t) S.1) (λ e. let F = L.calls.each q (omega arith) in record { each = λ j b m z w. S.0.still (at bytes (2 * j + 1)) q (F.each j b m z w) }) };
 }
-
-pub all_states : {ins starts bytes : List ℕ} {callers₀ callers : List Row} {p n : ℕ} → StatesLoop ins starts bytes callers₀ callers p → n ≤ p → Callers ins starts bytes n callers
-all_states L h = record { each = λ q l. L.calls.each q (omega arith) }

@@ -17,17 +17,12 @@ use Rattle.theory.proofs.Pigeon.{pigeon}
 use Rattle.theory.proofs.Terms.{conflict}
 use Rattle.trees.specs.Refusal.{Decides}
 use Rattle.classes.specs.Inner.Classes.{SameStates, at, Classed}
-use Rattle.merging.specs.Inner.Refining.{Placed, standing, NonePlaced, PlacedMember, Member, Represents, Takes, FindsClass, Round, Places, Listed, Moved, Rounded}
+use Rattle.merging.specs.Inner.Refining.{Placed, standing, NonePlaced, PlacedMember, Member, Represents, Takes, FindsClass, Round, Places, Listed, Moved}
 
 -- what holds of an answer that is some state, and of none, holds
 some_or_none : {P : Type 0} (o : Option ℕ) → ((s : ℕ) → o ≡ Some s → P) → (o ≡ None → P) → P
 some_or_none None f g = g refl
 some_or_none (Some s) f g = f s refl
-
--- a flag is clear or set
-clear_or_set : {P : Type 0} (b : Bool) → (b ≡ false → P) → (b ≡ true → P) → P
-clear_or_set false f g = f refl
-clear_or_set true f g = g refl
 
 pub none_if : (o : Option ℕ) → is_some o ≡ false → o ≡ None
 none_if None e = refl
@@ -415,15 +410,6 @@ pub record RoundLoop (ins starts bytes old list : List ℕ) (base len : ℕ) (ne
   pub listed : Moved old new moved m
   pub grew : 0 < m → base < count
 
-pub round_start : {ins starts bytes old new : List ℕ} {pending : List Bool} {reps : List (Option ℕ)} {list moved : List ℕ} {base len : ℕ} → Round ins starts bytes old new pending reps base base → Listed pending list (length old) len → length moved ≡ 128 → ((q : ℕ) → q < length old → at new q ≡ at old q) → RoundLoop ins starts bytes old list base len new pending reps moved base 0 0
-round_start R L m e = record {
-  less = omega arith;
-  round = R;
-  left = λ q h d. let w = L.all q h d in (w.0, (omega arith, w.1.0, w.1.1));
-  listed = record { room = m; few = omega arith; states = λ j h. absurd (omega arith); all = λ q h. inl (e q h) };
-  grew = λ h. absurd (omega arith);
-}
-
 module _ {ins starts bytes old : List ℕ} {pending₀ : List Bool} {list : List ℕ} {base len : ℕ} {new : List ℕ} {pending : List Bool} {reps : List (Option ℕ)} {moved : List ℕ} {count m i p : ℕ} (L : RoundLoop ins starts bytes old list base len new pending reps moved count m i) (A : Listed pending₀ list (length old) len) (h : i < len) (e : p ≡ at list i) where
   pub turn_state : p < length old
   turn_state = rw e (A.states i h)
@@ -481,11 +467,3 @@ module _ {ins starts bytes old : List ℕ} {pending₀ : List Bool} {list : List
           };
           grew = λ l. by_cases (dec_lt base count') (λ z. z) (λ z. absurd (k (P.round.stays p turn_state (omega (arith, P.round.below p turn_state)))));
         }
-
-pub round_end : {ins starts bytes old list : List ℕ} {base len : ℕ} {new : List ℕ} {pending : List Bool} {reps : List (Option ℕ)} {moved : List ℕ} {count m i : ℕ} → RoundLoop ins starts bytes old list base len new pending reps moved count m i → len ≤ i → Rounded ins starts bytes old new pending reps moved base count m
-round_end {pending = pending} {i = i} L h = record {
-  round = L.round;
-  placed = λ q l. clear_or_set (get_or pending q false) (λ z. z) (λ z. let w = L.left q l (waits pending q z) in absurd (omega arith));
-  listed = L.listed;
-  grew = L.grew;
-}

@@ -3,7 +3,7 @@
 use Prim.Native.Nat.{ℕ, suc, ◌+◌, ◌-◌, ◌*◌, ◌≤◌, ◌<◌}
 use native.Mathlib.Decide.{ℕ_discrete, dec_lt}
 use native.Mathlib.Omega.{arith}
-use mathlib.Core.Bool.{Bool, true, false}
+use mathlib.Core.Bool.{Bool, false}
 use mathlib.Core.List.{List, []}
 use mathlib.Core.Logic.{by_cases, ⊎_elim}
 use mathlib.Core.Path.{◌≡◌, refl, sym, ap, ◌∙◌}
@@ -11,7 +11,6 @@ use lib.ListN.{length, get_or}
 use lib.Seq.{ext_get_or, take_all, sets, length-sets}
 use Rattle.std.specs.Prelude.{Option, Some, None}
 use Rattle.theory.proofs.Bisimulation.{refine_respects, stable_exact}
-use Rattle.theory.proofs.Terms.{conflict}
 use Rattle.formats.specs.Inner.Layout.{body_number, body_count}
 use Rattle.formats.specs.Inner.Marked.{part}
 use Rattle.formats.proofs.Laws.{written_take}
@@ -211,28 +210,9 @@ module _ {ins starts bytes old new : List ℕ} {pending : List Bool} {reps : Lis
           (λ z. omega (arith, R.grew z, round_few R.round, long, one_sign m', some_sign m h))
           (λ z. omega (arith, R.round.at_least, no_sign m' (omega arith), some_sign m h))
 
-module _ {ins starts bytes old new : List ℕ} {pending : List Bool} {reps : List (Option ℕ)} {list : List ℕ} {count : ℕ} (S : Startable ins starts bytes old new count) (A : AllPending pending reps list (length old)) where
-  -- what the first round asks
-  pub first_asks : Classed ins starts bytes old × Round ins starts bytes old new pending reps count count × Listed pending list (length old) (length old)
-  first_asks = (
-    S.classed,
-    pending_round S.long S.same (λ q h. rw (S.same q h) (S.below q h)) S.every A,
-    A.listed,
-  )
-
-  pub first_refined : {new' : List ℕ} {pending' : List Bool} {reps' : List (Option ℕ)} {moved : List ℕ} {count' m : ℕ} → Rounded ins starts bytes old new' pending' reps' moved count count' m → Refined ins starts bytes old new' pending' reps' list moved count' m
-  first_refined R = record { base = count; classed = S.classed; respects = S.respects; rounded = R; room = A.listed.room }
-
 -- ---- from the bytes to the end
 copied : (from area area' : List ℕ) → length from ≡ length area → area' ≡ sets area 0 from → area' ≡ from
 copied from area area' l e = sym (take_all (length from) area' (omega (arith, ap length e, length-sets area 0 from))) ∙ written_take from area area' (length from) refl (omega arith) e
-
--- where no state is moved, the classes are as they were
-pub refines_none : {ins starts bytes old new : List ℕ} {pending : List Bool} {reps : List (Option ℕ)} {list moved : List ℕ} {count m : ℕ} → Refined ins starts bytes old new pending reps list moved count m → m ≡ 0 → Refines ins starts bytes old old new false
-refines_none P z = record { stable = refined_stable P z; kept = λ e. (refl, λ q h. ⊎_elim (λ w. w) (λ w. absurd (omega arith)) (P.rounded.listed.all q h)) }
-
-pub refines_some : {ins starts bytes old old' new' : List ℕ} → Stable ins starts bytes (length old) old' → Refines ins starts bytes old old' new' true
-refines_some S = record { stable = S; kept = λ e. conflict (cc) }
 
 -- the bytes of the right-hand sides, numbered, are classes to start from
 pub numbered_start : {ins starts bytes old₀ old new least old' : List ℕ} {count : ℕ} → Classed ins starts bytes old₀ → length old ≡ length old₀ → Patterned ins starts bytes (length old₀) old → Numbers old new least count → length new ≡ length old₀ → old' ≡ sets old 0 new → Startable ins starts bytes old' new count

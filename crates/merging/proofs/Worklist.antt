@@ -5,7 +5,7 @@ use native.Mathlib.Decide.{ℕ_discrete}
 use native.Mathlib.Omega.{arith}
 use mathlib.Core.Bool.{Bool, true, false}
 use mathlib.Core.List.{List}
-use mathlib.Core.Logic.{◌⊎◌, inl, inr, by_cases, ⊎_elim}
+use mathlib.Core.Logic.{◌⊎◌, by_cases}
 use mathlib.Core.Path.{◌≡◌, refl, sym, ap, ◌∙◌}
 use lib.ListN.{length, get_or, replicate, set, length-set}
 use lib.Seq.{get_or-set_same, get_or-set_other}
@@ -13,16 +13,13 @@ use Rattle.std.specs.Prelude.{Option, None}
 use Rattle.theory.proofs.Terms.{conflict}
 use Rattle.classes.specs.Inner.Classes.{at}
 use Rattle.merging.specs.declared.refining.Row.{Row}
-use Rattle.merging.specs.Inner.Refining.{Placed, standing, row, Moved, Flagged, flag, pending_count, Queue, FlagsCallers, FlagsMoved, AllPending}
+use Rattle.merging.specs.Inner.Refining.{Placed, standing, Moved, Flagged, flag, pending_count, Queue, AllPending}
 
 -- ---- how many states are pending
 one_flag : (b : Bool) → flag b ≤ 1
 unfolding flag
 one_flag false = omega arith
 one_flag true = omega arith
-
-flag_of : {b : Bool} {k : Bool} → b ≡ k → flag b ≡ flag k
-flag_of e = ap flag e
 
 pending_le : (pending : List Bool) (n : ℕ) → pending_count pending n ≤ n
 unfolding pending_count
@@ -81,9 +78,6 @@ pub record FlagLoop (callers : List Row) (r n : ℕ) (pending₀ pending : List 
   pub still : (p : ℕ) → Placed pending p → Placed pending₀ p
   pub passed : (p : ℕ) → p < q → Flagged callers r p → Placed pending p → ⊥
 
-pub flag_start : {callers : List Row} {r n : ℕ} {pending : List Bool} {list : List ℕ} {len : ℕ} → length pending ≡ 128 → Queue pending list n len → FlagLoop callers r n pending pending list len (row callers r).first
-flag_start f Q = record { flags = f; queue = Q; still = λ p d. d; passed = λ p l F. absurd (omega (arith, F.low)) }
-
 module _ {callers : List Row} {r n : ℕ} {pending₀ pending : List Bool} {list : List ℕ} {len q : ℕ} (L : FlagLoop callers r n pending₀ pending list len q) where
   flag_next : {pending' : List Bool} {list' : List ℕ} {len' : ℕ} → length pending' ≡ 128 → Queue pending' list' n len' → ((p : ℕ) → Placed pending' p → Placed pending p) → (Flagged callers r q → Placed pending' q → ⊥) → FlagLoop callers r n pending₀ pending' list' len' (q + 1)
   flag_next {pending'} f Q s h = record {
@@ -104,9 +98,6 @@ module _ {callers : List Row} {r n : ℕ} {pending₀ pending : List Bool} {list
     pub flag_new : FlagLoop callers r n pending₀ (set pending q true) (set list len q) (len + 1) (q + 1)
     flag_new = flag_next (length-set pending q true ∙ L.flags) (queue_more L.queue L.flags few less d) (still_pending L.queue L.flags few less d) (λ F e. now_pending L.queue L.flags few less d e)
 
-  pub flag_end : ((p : ℕ) → p < n → p < (row callers r).end → p < q) → FlagsCallers callers r n pending₀ pending list len
-  flag_end h = record { flags = L.flags; queue = L.queue; still = L.still; flagged = λ p l F d. L.passed p (h p l F.high) F d }
-
 -- ---- all states
 -- those before state q are pending and listed
 pub record AllLoop (pending : List Bool) (list : List ℕ) (len q : ℕ) : Type 0 where
@@ -115,15 +106,6 @@ pub record AllLoop (pending : List Bool) (list : List ℕ) (len q : ℕ) : Type 
   pub room : length list ≡ 128
   pub waiting : (p : ℕ) → p < q → Placed pending p → ⊥
   pub listed : (j : ℕ) → j < q → at list j ≡ j
-
-pub all_next : {pending : List Bool} {list : List ℕ} {q : ℕ} → AllLoop pending list q q → q < 128 → AllLoop (set pending q true) (set list q q) (q + 1) (q + 1)
-all_next {pending} {list} {q} L h = record {
-  counted = refl;
-  flags = length-set pending q true ∙ L.flags;
-  room = length-set list q q ∙ L.room;
-  waiting = λ p l. by_cases (ℕ_discrete p q) (λ z e. let y = get_or-set_same pending q true false (omega (arith, L.flags)) in let x = rw z at e in conflict (cc)) (λ z e. L.waiting p (omega arith) (sym (get_or-set_other pending q p true false z) ∙ e));
-  listed = λ j l. by_cases (ℕ_discrete j q) (λ z. rw z (get_or-set_same list q q 0 (omega (arith, L.room)))) (λ z. get_or-set_other list q j q 0 z ∙ L.listed j (omega arith));
-}
 
 -- no state stands for a class in a row of Nones
 pub no_standing : (n c : ℕ) → standing (replicate n None) c ≡ None
@@ -154,34 +136,6 @@ pub record MovedLoop (callers : List Row) (old₀ new moved : List ℕ) (m : ℕ
   pub left : (q : ℕ) → q < length old₀ → (at new q ≡ at old q) ⊎ ((i : ℕ) × ((j ≤ i) × (i < m) × (at moved i ≡ q)))
   pub passed : (i : ℕ) → i < j → (q : ℕ) → q < length old₀ → Flagged callers (at moved i) q → Placed pending q → ⊥
 
-pub moved_start : {callers : List Row} {old new moved : List ℕ} {pending : List Bool} {list : List ℕ} {m : ℕ} → Moved old new moved m → ((q : ℕ) → q < length old → Placed pending q) → length pending ≡ 128 → length list ≡ 128 → MovedLoop callers old new moved m old pending list 0 0
-moved_start M z f l = record {
-  long = refl;
-  flags = f;
-  queue = record { listed = record { room = l; few = omega arith; states = λ j h. absurd (omega arith); all = λ q h d. absurd (d (z q h)) }; counted = omega arith };
-  left = λ q h. ⊎_elim inl (λ w. inr (w.0, (omega arith, w.1.0, w.1.1))) (M.all q h);
-  passed = λ i h. absurd (omega arith);
-}
-
 module _ {callers : List Row} {old₀ new moved : List ℕ} {m : ℕ} {old : List ℕ} {pending : List Bool} {list : List ℕ} {len j p : ℕ} (L : MovedLoop callers old₀ new moved m old pending list len j) (M : Moved old₀ new moved m) (h : j < m) (e : p ≡ at moved j) where
   pub moved_state : p < length old₀
   moved_state = rw e (M.states j h)
-
-  pub moved_next : {n : ℕ} {pending' : List Bool} {list' : List ℕ} {len' : ℕ} → n ≡ length old₀ → FlagsCallers callers p n pending pending' list' len' → MovedLoop callers old₀ new moved m (set old p (at new p)) pending' list' len' (j + 1)
-  moved_next z F = record {
-    long = length-set old p (at new p) ∙ L.long;
-    flags = F.flags;
-    queue = rw z at F.queue;
-    left = λ q l. by_cases (ℕ_discrete q p)
-        (λ x. inl (rw x (sym (get_or-set_same old p (at new p) 0 (omega (arith, L.long, moved_state))))))
-        (λ x. ⊎_elim (λ w. inl (w ∙ sym (get_or-set_other old p q (at new p) 0 x))) (λ w. let y : w.0 ≡ j → ⊥ = λ y. x (sym w.1.2 ∙ ap (at moved) y ∙ sym e) in inr (w.0, (omega arith, w.1.1, w.1.2))) (L.left q l));
-    passed = λ i l. by_cases (ℕ_discrete i j) (λ x q k G d. F.flagged q (omega arith) (rw (x, ← e) at G) d) (λ x q k G d. L.passed i (omega arith) q k G (F.still q d));
-  }
-
-pub moved_end : {callers : List Row} {old₀ new moved : List ℕ} {m : ℕ} {old : List ℕ} {pending : List Bool} {list : List ℕ} {len j : ℕ} → MovedLoop callers old₀ new moved m old pending list len j → Moved old₀ new moved m → m ≤ j → FlagsMoved callers old₀ new old pending list len
-moved_end L M h = record {
-  flags = L.flags;
-  same = λ q l. ⊎_elim (λ w. w) (λ w. absurd (omega arith)) (L.left q l);
-  listed = L.queue.listed;
-  flagged = λ r q k l f F d. ⊎_elim (λ w. f w) (λ w. L.passed w.0 (omega arith) q l (rw w.1.1 F) d) (M.all r k);
-}

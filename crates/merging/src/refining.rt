@@ -333,7 +333,7 @@ fn next_round(
     list: &mut States,
     moved: &States,
 )
-    requires { Moved old.old new.now moved.now.bytes moved.now.len × (length new.now ≡ length old.old) × (length old.old ≤ 128) × ((q : ℕ) → q < length old.old → Placed placing.old.pending q) × (length placing.old.reps ≡ 128) }
+    requires { Moved old.old new.now moved.now.bytes moved.now.len × (length new.now ≡ length old.old) × (length old.old ≤ 128) × ((q : ℕ) → q < length old.old → Placed placing.old.pending q) }
     ensures { Continues callers.now old.old new.now placing.old.reps old.new placing.new.pending placing.new.reps list.new.bytes list.new.len }
 {
     let n = old.len();
