@@ -20,12 +20,11 @@ use Rattle.classes.proofs.Keys.{key_symbol, key_call}
 -- ---- the byte of a part
 -- the marks before number j are mixed into h
 pub record PatternLoop (bytes : List ℕ) (from to h j : ℕ) : Type 0 where
-  pub bound : j ≤ to
   pub byte : h < 256
   pub rest : mixed h (keyed [] (part bytes j to)) ≡ pattern_byte bytes from to
 
-pub pattern_start : {bytes : List ℕ} {from to : ℕ} → from ≤ to → PatternLoop bytes from to 0 from
-pattern_start l = record { bound = l; byte = omega arith; rest = refl }
+pub pattern_start : {bytes : List ℕ} {from to : ℕ} → PatternLoop bytes from to 0 from
+pattern_start = record { byte = omega arith; rest = refl }
 
 module _ {bytes : List ℕ} {from to h j : ℕ} (L : PatternLoop bytes from to h j) (inside : 2 * to ≤ length bytes) (l : j < to) where
   first_key : keyed [] (part bytes j to) ≡ key_of [] (at bytes (2 * j), at bytes (2 * j + 1)) ∷ keyed [] (part bytes (suc j) to)
@@ -36,7 +35,6 @@ module _ {bytes : List ℕ} {from to h j : ℕ} (L : PatternLoop bytes from to h
   next_byte : {i x : ℕ} → key_of [] (at bytes (2 * j), at bytes (2 * j + 1)) ≡ (i, x) → PatternLoop bytes from to ((31 * h + 7 * i + x) % 256) (j + 1)
   unfolding mixed
   next_byte {i} {x} e = record {
-    bound = omega arith;
     byte = omega arith;
     rest = rw (add-one j) (ap (λ m. mixed (mix h m) (keyed [] (part bytes (suc j) to))) (sym e) ∙ ap (mixed h) (sym first_key) ∙ L.rest);
   }
@@ -49,11 +47,9 @@ module _ {bytes : List ℕ} {from to h j : ℕ} (L : PatternLoop bytes from to h
   pub next_called : {i x : ℕ} → i ≡ at bytes (2 * j) → (i ≡ 0 → ⊥) → x ≡ 0 → PatternLoop bytes from to ((31 * h + 7 * i + x) % 256) (j + 1)
   next_called e z f = next_byte (key_call [] _ _ (omega arith) ∙ ap₂ (λ a b. (a, b)) (sym e) (sym f))
 
-pub pattern_end : {bytes : List ℕ} {from to h j : ℕ} → PatternLoop bytes from to h j → to ≤ j → h ≡ pattern_byte bytes from to
+pub pattern_end : {bytes : List ℕ} {from to h j : ℕ} → PatternLoop bytes from to h j → j ≡ to → h ≡ pattern_byte bytes from to
 unfolding mixed
-pattern_end {bytes} {from} {to} {h} {j} L l =
-    let z : j ≡ to = omega (arith, L.bound) in
-    sym (ap (λ ms. mixed h (keyed [] ms)) (ap (λ k. part bytes k to) z ∙ slice_empty to (pairs bytes))) ∙ L.rest
+pattern_end {bytes} {from} {to} {h} {j} L e = sym (ap (λ ms. mixed h (keyed [] ms)) (ap (λ k. part bytes k to) e ∙ slice_empty to (pairs bytes))) ∙ L.rest
 
 -- ---- the right-hand sides of a state, one after the other
 pub starts_ordered : {ins starts bytes : List ℕ} {n : ℕ} → InBounds ins n starts bytes → (i d : ℕ) → i + d ≤ body_count ins n → at starts i ≤ at starts (i + d)
@@ -67,12 +63,9 @@ pub record BytesLoop (ins starts bytes classes₀ classes : List ℕ) (p : ℕ) 
   pub long : length classes ≡ length classes₀
   pub each : Patterned ins starts bytes p classes
 
-module _ {ins starts bytes classes₀ classes : List ℕ} {p : ℕ} (C : Classed ins starts bytes classes₀) (L : BytesLoop ins starts bytes classes₀ classes p) (h : p < length classes) where
-  bytes_less : p < length classes₀
-  bytes_less = omega (arith, L.long)
-
+module _ {ins starts bytes classes₀ classes : List ℕ} {p : ℕ} (C : Classed ins starts bytes classes₀) (L : BytesLoop ins starts bytes classes₀ classes p) (h : p < length classes₀) where
   pub bytes_fit : (1 + p * length ins + length ins < 2050) × (1 + p * length ins + length ins ≤ body_count ins (length classes₀))
-  bytes_fit = row_fits (layout_bounded C.layout) bytes_less
+  bytes_fit = row_fits (layout_bounded C.layout) h
 
   module _ {from to : ℕ} (f : from ≡ at starts (body_count ins p)) (t : to ≡ at starts (body_count ins p + length ins)) where
     pub bytes_part : (from ≤ to) × (2 * to ≤ length bytes)
@@ -83,13 +76,10 @@ module _ {ins starts bytes classes₀ classes : List ℕ} {p : ℕ} (C : Classed
       long = length-set classes p x ∙ L.long;
       each = record {
         each = λ q l. by_cases (ℕ_discrete q p)
-            (λ z. rw z (get_or-set_same classes p x 0 h ∙ e ∙ ap₂ (pattern_byte bytes) f t))
+            (λ z. rw z (get_or-set_same classes p x 0 (omega (arith, L.long)) ∙ e ∙ ap₂ (pattern_byte bytes) f t))
             (λ z. get_or-set_other classes p q x 0 z ∙ L.each.each q (omega arith));
       };
     }
-
-pub bytes_end : {ins starts bytes classes₀ classes : List ℕ} {p : ℕ} → BytesLoop ins starts bytes classes₀ classes p → length classes ≤ p → Patterned ins starts bytes (length classes₀) classes
-bytes_end L h = record { each = λ q l. L.each.each q (omega (arith, L.long)) }
 
 -- ---- equivalent states
 -- two parts side by side are one

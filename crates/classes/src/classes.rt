@@ -6,15 +6,12 @@ ghost use Rattle.formats.specs.Inner.Marked.{part};
 ghost use Rattle.trees.specs.Refusal.{Decides};
 ghost use Rattle.classes.specs.Inner.Classes.{keyed, Keyable, SameBodies, SameStates, Classed, pattern_byte, Patterned, Numbers};
 
-use trees::bytes::{number, wide};
-
 // Whether the n marks from number i on and those from number j on are the same up to classes.
 fn same_marks(classes: &[u8], marks: &[u8], i: usize, j: usize, n: usize) -> bool
     requires { Keyable classes.now marks.now i n × Keyable classes.now marks.now j n }
     ensures { Decides (keyed classes.now (part marks.now i (i + n)) ≡ keyed classes.now (part marks.now j (j + n))) result }
 {
-    let mut k = 0;
-    while k < n {
+    for k in 0..n {
         let c = marks[2 * (i + k)];
         if c != marks[2 * (j + k)] {
             return false;
@@ -25,11 +22,10 @@ fn same_marks(classes: &[u8], marks: &[u8], i: usize, j: usize, n: usize) -> boo
             if c == 0 {
                 return false;
             }
-            if classes[wide(x)] != classes[wide(y)] {
+            if classes[usize::from(x)] != classes[usize::from(y)] {
                 return false;
             }
         }
-        k += 1;
     }
     true
 }
@@ -39,10 +35,10 @@ fn same_bodies(ins: &[u8], starts: &[u16], marks: &[u8], classes: &[u8], i: usiz
     requires { Classed ins.now starts.now marks.now classes.now × (i < body_count ins.now (length classes.now)) × (j < body_count ins.now (length classes.now)) }
     ensures { Decides (SameBodies starts.now marks.now classes.now i j) result }
 {
-    let from = number(starts[i]);
-    let other = number(starts[j]);
-    let size = number(starts[i + 1]) - from;
-    if number(starts[j + 1]) - other != size {
+    let from = usize::from(starts[i]);
+    let other = usize::from(starts[j]);
+    let size = usize::from(starts[i + 1]) - from;
+    if usize::from(starts[j + 1]) - other != size {
         return false;
     }
     same_marks(classes, marks, from, other, size)
@@ -60,19 +56,12 @@ pub fn same_states(
     requires { Classed ins.now starts.now marks.now classes.now × (p < length classes.now) × (q < length classes.now) }
     ensures { Decides (SameStates ins.now starts.now marks.now classes.now p q) result }
 {
-    let mut a = 0;
-    while a < ins.len() {
-        if !same_bodies(
-            ins,
-            starts,
-            marks,
-            classes,
-            1 + p * ins.len() + a,
-            1 + q * ins.len() + a,
-        ) {
+    for a in 0..ins.len() {
+        let i = 1 + p * ins.len() + a;
+        let j = 1 + q * ins.len() + a;
+        if !same_bodies(ins, starts, marks, classes, i, j) {
             return false;
         }
-        a += 1;
     }
     true
 }
@@ -83,15 +72,14 @@ fn pattern_byte(marks: &[u8], from: usize, to: usize) -> u8
     ensures { result ≡ pattern_byte marks.now from to }
 {
     let mut h: usize = 0;
-    let mut j = from;
-    while j < to {
-        let i = wide(marks[2 * j]);
-        let mut x = wide(marks[2 * j + 1]);
-        if i > 0 {
-            x = 0;
-        }
+    for j in from..to {
+        let i = usize::from(marks[2 * j]);
+        let x = if i > 0 {
+            0
+        } else {
+            usize::from(marks[2 * j + 1])
+        };
         h = (31 * h + 7 * i + x) % 256;
-        j += 1;
     }
     h as u8
 }
@@ -101,13 +89,11 @@ pub fn pattern_classes(ins: &[u8], starts: &[u16], marks: &[u8], classes: &mut [
     requires { Classed ins.now starts.now marks.now classes.old }
     ensures { Patterned ins.now starts.now marks.now (length classes.old) classes.new }
 {
-    let mut p = 0;
-    while p < classes.len() {
+    for p in 0..classes.len() {
         let b = 1 + p * ins.len();
-        let from = number(starts[b]);
-        let to = number(starts[b + ins.len()]);
+        let from = usize::from(starts[b]);
+        let to = usize::from(starts[b + ins.len()]);
         classes[p] = pattern_byte(marks, from, to);
-        p += 1;
     }
 }
 
@@ -116,18 +102,20 @@ pub fn number_classes(old: &[u8], new: &mut [u8], least: &mut [u8]) -> usize
     requires { (length old.now ≤ 128) × (length new.old ≡ length old.now) × (128 ≤ length least.old) }
     ensures { Numbers old.now new.new least.new result }
 {
-    let mut numbers = [255u8; 256];
+    let mut numbers: [Option<u8>; 256] = [None; 256];
     let mut count = 0;
-    let mut p = 0;
-    while p < old.len() {
-        let c = wide(old[p]);
-        if numbers[c] == 255 {
-            numbers[c] = count as u8;
-            least[count] = p as u8;
-            count += 1;
-        }
-        new[p] = numbers[c];
-        p += 1;
+    for p in 0..old.len() {
+        let c = usize::from(old[p]);
+        new[p] = match numbers[c] {
+            Some(number) => number,
+            None => {
+                let number = count as u8;
+                numbers[c] = Some(number);
+                least[count] = p as u8;
+                count += 1;
+                number
+            }
+        };
     }
     count
 }

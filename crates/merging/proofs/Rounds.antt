@@ -8,41 +8,62 @@ use mathlib.Core.Bool.{Bool, true, false}
 use mathlib.Core.List.{List}
 use mathlib.Core.Logic.{◌⊎◌, inl, inr, by_cases, ⊎_elim}
 use mathlib.Core.Path.{◌≡◌, refl, sym, ap, ◌∙◌}
-use lib.ListN.{length, set, length-set}
+use lib.ListN.{length, get_or, set, length-set}
 use lib.Seq.{get_or-set_same, get_or-set_other, set-get_or}
+use Rattle.std.specs.Prelude.{Option, Some, None, is_some}
+use Rattle.std.specs.Option.{unwrap_or}
+use Rattle.std.proofs.lemmas.Option.{same_Some}
 use Rattle.theory.proofs.Pigeon.{pigeon}
 use Rattle.theory.proofs.Terms.{conflict}
 use Rattle.trees.specs.Refusal.{Decides}
 use Rattle.classes.specs.Inner.Classes.{SameStates, at, Classed}
-use Rattle.merging.specs.Inner.Refining.{Placed, NonePlaced, PlacedMember, Member, Represents, FindsClass, Round, Places, Listed, Moved, Rounded}
+use Rattle.merging.specs.Inner.Refining.{Placed, standing, NonePlaced, PlacedMember, Member, Represents, Takes, FindsClass, Round, Places, Listed, Moved}
 
--- ---- the state that stands for a class
-module _ {classes pending reps : List ℕ} {c start r : ℕ} (C : PlacedMember classes pending c start r) {pending' reps' : List ℕ} {q : ℕ} (named : reps' ≡ set reps c q) where
-  -- a placed state was found
-  pub placed_represents : r < length classes → pending' ≡ pending → q ≡ r → Represents classes pending reps c pending' reps' q
-  placed_represents h d e = rw e (record { member = record { there = h; class = (C.found h).0 }; kept = inl (d, (C.found h).1); named = rw e at named })
+-- what holds of an answer that is some state, and of none, holds
+some_or_none : {P : Type 0} (o : Option ℕ) → ((s : ℕ) → o ≡ Some s → P) → (o ≡ None → P) → P
+some_or_none None f g = g refl
+some_or_none (Some s) f g = f s refl
 
-  -- or any state of the class is placed from now on
-  pub made_represents : length classes ≤ r → start ≡ at reps c → Member classes c q → pending' ≡ set pending q 0 → Represents classes pending reps c pending' reps' q
-  made_represents h s m d = record { member = m; kept = inr (d, λ l. C.none h (omega arith)); named = named }
+pub none_if : (o : Option ℕ) → is_some o ≡ false → o ≡ None
+none_if None e = refl
+none_if (Some s) e = conflict (cc)
 
--- ---- the class of a state among those made
+pub waits : (pending : List Bool) (q : ℕ) → get_or pending q false ≡ true → Placed pending q → ⊥
+waits pending q e d = conflict (cc)
+
 pub decided_not : {P : Type 0} {b : Bool} → Decides P b → b ≡ false → P → ⊥
 decided_not D f s = conflict (let t = D.complete s in let z = sym f ∙ t in cc)
 
--- state p is not of class k
-abbrev pub Misses : List ℕ → List ℕ → List ℕ → List ℕ → List ℕ → ℕ → ℕ → Type 0
-Misses ins starts bytes old reps p k = at old (at reps k) ≡ at old p → SameStates ins starts bytes old (at reps k) p → ⊥
+-- ---- the state that stands for a class
+-- r is a placed state of class c, if there is one or no state stands for the class
+pub record Looked (classes : List ℕ) (pending : List Bool) (reps : List (Option ℕ)) (c : ℕ) (r : Option ℕ) : Type 0 where
+  pub found : (q : ℕ) → r ≡ Some q → (q < length classes) × (at classes q ≡ c) × Placed pending q
+  pub none : r ≡ None → (s : ℕ) → standing reps c ≡ Some s → NonePlaced classes pending c
 
-module _ (ins starts bytes old reps : List ℕ) (p k : ℕ) {q : ℕ} (e : q ≡ at reps k) where
-  pub other_class : (at old q ≡ at old p → ⊥) → Misses ins starts bytes old reps p k
-  other_class f x s = f (ap (at old) e ∙ x)
+pub looked_from : {classes : List ℕ} {pending : List Bool} {reps : List (Option ℕ)} {c : ℕ} {r : Option ℕ} → PlacedMember classes pending c r → Looked classes pending reps c r
+looked_from P = record { found = P.found; none = λ e s x. P.none e }
 
-  pub other_rhs : {b : Bool} → Decides (SameStates ins starts bytes old q p) b → b ≡ false → Misses ins starts bytes old reps p k
-  other_rhs D f x s = decided_not D f (rw e s)
+pub looked_nowhere : {classes : List ℕ} {pending : List Bool} (reps : List (Option ℕ)) (c : ℕ) → standing reps c ≡ None → Looked classes pending reps c None
+looked_nowhere reps c e = record { found = λ q x. absurd (cc); none = λ y s x. absurd (cc) }
 
-  pub this_class : {b : Bool} {base count : ℕ} → base ≤ k → k < count → ((j : ℕ) → j < k → base ≤ j → Misses ins starts bytes old reps p j) → at old q ≡ at old p → Decides (SameStates ins starts bytes old q p) b → b ≡ true → FindsClass ins starts bytes old reps base count p k
-  this_class w l m x D t = record { low = w; small = omega arith; found = λ h. (sym (ap (at old) e) ∙ x, rw e at (D.sound t)); none = λ j b h. m j h b }
+-- the first state of the class behind the middle, or the one at hand
+pub member_or : {classes : List ℕ} {c p : ℕ} (r : Option ℕ) → ((q : ℕ) → r ≡ Some q → Member classes c q) → Member classes c p → Member classes c (unwrap_or r p)
+member_or None f m = m
+member_or (Some q) f m = f q refl
+
+module _ {classes : List ℕ} {pending : List Bool} {reps : List (Option ℕ)} {c : ℕ} {r : Option ℕ} (C : Looked classes pending reps c r) {pending' : List Bool} {reps' : List (Option ℕ)} {q : ℕ} (named : reps' ≡ set reps c (Some q)) where
+  -- a placed state was found
+  pub placed_represents : {s : ℕ} → r ≡ Some s → pending' ≡ pending → q ≡ s → Represents classes pending reps c pending' reps' q
+  placed_represents {s} h d e = let w = C.found s h in rw e (record { member = record { there = w.0; class = w.1 }; kept = inl (d, w.2); named = rw e at named })
+
+  -- or any state of the class is placed from now on
+  pub made_represents : r ≡ None → Member classes c q → pending' ≡ set pending q false → Represents classes pending reps c pending' reps' q
+  made_represents h m d = record { member = m; kept = inr (d, C.none h); named = named }
+
+-- ---- the class of a state among those made
+-- a class for which state q stands takes p only if q is like p
+pub takes_like : {ins starts bytes old : List ℕ} (reps : List (Option ℕ)) {p : ℕ} (k : ℕ) {q : ℕ} → standing reps k ≡ Some q → Takes ins starts bytes old reps p k → (at old q ≡ at old p) × SameStates ins starts bytes old q p
+takes_like reps k {q} e t = let z : q ≡ t.0 = same_Some _ _ (sym e ∙ t.1.0) in rw z (t.1.1, t.1.2)
 
 -- ---- the same right-hand sides
 module _ {ins starts bytes classes : List ℕ} where
@@ -61,9 +82,9 @@ elsewhere P p x f q = by_cases (ℕ_discrete q p) (λ z. rw z x) (λ z. f q z)
 
 -- ---- a state placed in a class
 -- what class k is to p
-record Fits (ins starts bytes old new pending reps : List ℕ) (base count p : ℕ) (new' pending' reps' : List ℕ) (k count' : ℕ) : Type 0 where
+record Fits (ins starts bytes old new : List ℕ) (pending : List Bool) (reps : List (Option ℕ)) (base count p : ℕ) (new' : List ℕ) (pending' : List Bool) (reps' : List (Option ℕ)) (k count' : ℕ) : Type 0 where
   moved : new' ≡ set new p k
-  flagged : pending' ≡ set pending p 0
+  flagged : pending' ≡ set pending p false
   few : length old ≤ 128
   names_long : length reps' ≡ 128
   fine : (r : ℕ) → r < length old → Placed pending r → at new r ≡ k → (at old r ≡ at old p) × SameStates ins starts bytes old r p
@@ -71,42 +92,44 @@ record Fits (ins starts bytes old new pending reps : List ℕ) (base count p : �
   stays : k < base → k ≡ at old p
   below : k < count'
   at_least : count ≤ count'
-  names : (j : ℕ) → j < count → at reps' j ≡ at reps j
-  named : k < base → at reps' k < length old
-  fresh : (j : ℕ) → count ≤ j → j < count' → Member new' j (at reps' j) × Placed pending' (at reps' j)
+  names : (j : ℕ) → j < count → standing reps' j ≡ standing reps j
+  inside : (j s : ℕ) → standing reps' j ≡ Some s → s < length old
+  named : k < base → standing reps' k ≡ None → ⊥
+  fresh : (j : ℕ) → count ≤ j → j < count' → (s : ℕ) × ((standing reps' j ≡ Some s) × Member new' j s × Placed pending' s)
   keeper : (s : ℕ) × (Member new' (at old p) s × Placed pending' s)
 
 -- there are no more classes than states
 every_few : (classes : List ℕ) (count : ℕ) → ((k : ℕ) → k < count → (s : ℕ) × Member classes k s) → count ≤ length classes
 every_few classes count f = pigeon (length classes) count (λ k l. (f k l).0) (λ k l. (f k l).1.there) (λ i j k l e. sym (f i k).1.class ∙ ap (at classes) e ∙ (f j l).1.class)
 
-module _ {ins starts bytes old new pending reps : List ℕ} {base count : ℕ} (R : Round ins starts bytes old new pending reps base count) where
+module _ {ins starts bytes old new : List ℕ} {pending : List Bool} {reps : List (Option ℕ)} {base count : ℕ} (R : Round ins starts bytes old new pending reps base count) where
   pub round_few : count ≤ length old
   round_few = omega (arith, every_few new count R.every, R.long)
 
   -- a state comes to stand for an old class
-  round_named : {c q : ℕ} → length old ≤ 128 → c < base → q < length old → Round ins starts bytes old new pending (set reps c q) base count
+  round_named : {c q : ℕ} → length old ≤ 128 → c < base → q < length old → Round ins starts bytes old new pending (set reps c (Some q)) base count
   round_named {c} {q} few l h =
-      let here : at (set reps c q) c ≡ q = get_or-set_same reps c q 0 (omega (arith, round_few, R.at_least, R.names)) in
-      let there : (k : ℕ) → (k ≡ c → ⊥) → at (set reps c q) k ≡ at reps k = λ k z. get_or-set_other reps c k q 0 z in
+      let here : standing (set reps c (Some q)) c ≡ Some q = get_or-set_same reps c (Some q) None (omega (arith, round_few, R.at_least, R.names)) in
+      let there : (k : ℕ) → (k ≡ c → ⊥) → standing (set reps c (Some q)) k ≡ standing reps k = λ k z. get_or-set_other reps c k (Some q) None z in
       record {
         waits = R.waits;
         fine = R.fine;
         coarse = R.coarse;
-        made = λ k b m. rw (there k (λ z. omega arith)) (R.made k b m);
+        made = λ k b m. let w = R.made k b m in (w.0, (there k (λ z. omega arith) ∙ w.1.0, w.1.1, w.1.2));
+        inside = λ k s e. by_cases (ℕ_discrete k c) (λ z. let y : s ≡ q = same_Some _ _ (sym e ∙ ap (standing (set reps c (Some q))) z ∙ here) in rw y h) (λ z. R.inside k s (sym (there k z) ∙ e));
         long = R.long;
         known = R.known;
         below = R.below;
         stays = R.stays;
         keeps = R.keeps;
         every = R.every;
-        unnamed = λ k b m. by_cases (ℕ_discrete k c) (λ z. absurd (omega (arith, here, ap (at (set reps c q)) z))) (λ z. R.unnamed k b (rw (there k z) at m));
+        unnamed = λ k b m. by_cases (ℕ_discrete k c) (λ z. let y = ap (standing (set reps c (Some q))) z in absurd (cc)) (λ z. R.unnamed k b (sym (there k z) ∙ m));
         at_least = R.at_least;
         flags = R.flags;
-        names = length-set reps c q ∙ R.names;
+        names = length-set reps c (Some q) ∙ R.names;
       }
 
-  module _ {p : ℕ} (h : p < length old) (waiting : Placed pending p → ⊥) {new' pending' reps' : List ℕ} {k count' : ℕ} (F : Fits ins starts bytes old new pending reps base count p new' pending' reps' k count') where
+  module _ {p : ℕ} (h : p < length old) (waiting : Placed pending p → ⊥) {new' : List ℕ} {pending' : List Bool} {reps' : List (Option ℕ)} {k count' : ℕ} (F : Fits ins starts bytes old new pending reps base count p new' pending' reps' k count') where
     here : at new' p ≡ k
     here = ap (λ l. at l p) F.moved ∙ get_or-set_same new p k 0 (omega (arith, R.long))
 
@@ -114,10 +137,10 @@ module _ {ins starts bytes old new pending reps : List ℕ} {base count : ℕ} (
     there q z = ap (λ l. at l q) F.moved ∙ get_or-set_other new p q k 0 z
 
     placed_here : Placed pending' p
-    placed_here = ap (λ l. at l p) F.flagged ∙ get_or-set_same pending p 0 0 (omega (arith, F.few, R.flags))
+    placed_here = ap (λ l. get_or l p false) F.flagged ∙ get_or-set_same pending p false false (omega (arith, F.few, R.flags))
 
-    placed_there : (q : ℕ) → (q ≡ p → ⊥) → at pending' q ≡ at pending q
-    placed_there q z = ap (λ l. at l q) F.flagged ∙ get_or-set_other pending p q 0 0 z
+    placed_there : (q : ℕ) → (q ≡ p → ⊥) → get_or pending' q false ≡ get_or pending q false
+    placed_there q z = ap (λ l. get_or l q false) F.flagged ∙ get_or-set_other pending p q false false z
 
     placed_was : (q : ℕ) → (q ≡ p → ⊥) → Placed pending' q → Placed pending q
     placed_was q z e = sym (placed_there q z) ∙ e
@@ -155,15 +178,15 @@ module _ {ins starts bytes old new pending reps : List ℕ} {base count : ℕ} (
         (λ l m d e x S. there q y ∙ F.coarse q l (placed_was q y d) x S ∙ sym here)
         (λ r z l m d e x S. there q y ∙ R.coarse q r l m (placed_was q y d) (placed_was r z e) x S ∙ sym (there r z)))
 
-    made' : (j : ℕ) → base ≤ j → j < count' → Member new' j (at reps' j) × Placed pending' (at reps' j)
-    made' j b l = by_cases (dec_lt j count) (λ m. rw (F.names j m) (placed_member_still (R.made j b m))) (λ m. F.fresh j (omega arith) l)
+    made' : (j : ℕ) → base ≤ j → j < count' → (s : ℕ) × ((standing reps' j ≡ Some s) × Member new' j s × Placed pending' s)
+    made' j b l = by_cases (dec_lt j count) (λ m. let w = R.made j b m in let y = placed_member_still (w.1.1, w.1.2) in (w.0, (F.names j m ∙ w.1.0, y.0, y.1))) (λ m. F.fresh j (omega arith) l)
 
     every' : (j : ℕ) → j < count' → (s : ℕ) × Member new' j s
     every' j l = by_cases (dec_lt j count)
         (λ m. let w = R.every j m in by_cases (ℕ_discrete w.0 p)
         (λ z. let e : j ≡ at old p = sym w.1.class ∙ ap (at new) z ∙ R.waits p h waiting in (F.keeper.0, rw e F.keeper.1.0))
         (λ z. (w.0, member_still w.1 z)))
-        (λ m. (at reps' j, (F.fresh j (omega arith) l).0))
+        (λ m. let w = F.fresh j (omega arith) l in (w.0, w.1.1))
 
     round_placed : Round ins starts bytes old new' pending' reps' base count'
     round_placed = record {
@@ -171,6 +194,7 @@ module _ {ins starts bytes old new pending reps : List ℕ} {base count : ℕ} (
       fine = fine';
       coarse = coarse';
       made = made';
+      inside = F.inside;
       long = long';
       known = R.known;
       below = elsewhere (λ q. q < length old → at new' q < count') p (λ l. rw here F.below) (λ q z l. rw (there q z) (omega (arith, R.below q l, F.at_least)));
@@ -178,19 +202,19 @@ module _ {ins starts bytes old new pending reps : List ℕ} {base count : ℕ} (
       keeps = elsewhere (λ r. r < length old → Placed pending' r → (s : ℕ) × (Member new' (at old r) s × Placed pending' s)) p (λ l d. F.keeper) (λ r z l d. let w = R.keeps r l (placed_was r z d) in (w.0, placed_member_still w.1));
       every = every';
       unnamed = λ c b m. elsewhere (λ q. q < length new' → at new' q ≡ c → Placed pending' q → ⊥) p
-          (λ l e d. let w : k ≡ c = sym here ∙ e in omega (arith, F.named (omega arith), ap (at reps') w))
-          (λ q z l e d. R.unnamed c b (rw (← F.names c (omega (arith, R.at_least))) m) q (omega (arith, long', R.long)) (sym (there q z) ∙ e) (placed_was q z d));
+          (λ l e d. let w : k ≡ c = sym here ∙ e in F.named (omega arith) (ap (standing reps') w ∙ m))
+          (λ q z l e d. R.unnamed c b (sym (F.names c (omega (arith, R.at_least))) ∙ m) q (omega (arith, long', R.long)) (sym (there q z) ∙ e) (placed_was q z d));
       at_least = omega (arith, R.at_least, F.at_least);
       flags = ap length F.flagged ∙ simp length-set R.flags;
       names = F.names_long;
     }
 
-module _ {ins starts bytes old new pending reps : List ℕ} {base count : ℕ} (R : Round ins starts bytes old new pending reps base count) {p : ℕ} (few : length old ≤ 128) (h : p < length old) where
+module _ {ins starts bytes old new : List ℕ} {pending : List Bool} {reps : List (Option ℕ)} {base count : ℕ} (R : Round ins starts bytes old new pending reps base count) {p : ℕ} (few : length old ≤ 128) (h : p < length old) where
   flags : p < length pending
   flags = omega (arith, R.flags)
 
   -- the first placed state of an old class keeps the class
-  round_first : NonePlaced new pending (at new p) → at reps (at new p) < length old → Round ins starts bytes old new (set pending p 0) reps base count
+  round_first : NonePlaced new pending (at new p) → (standing reps (at new p) ≡ None → ⊥) → Round ins starts bytes old new (set pending p false) reps base count
   round_first none named =
       let waiting : Placed pending p → ⊥ = λ d. none p (omega (arith, R.long)) refl d in
       let w : at new p ≡ at old p = R.waits p h waiting in
@@ -205,20 +229,21 @@ module _ {ins starts bytes old new pending reps : List ℕ} {base count : ℕ} (
         below = R.below p h;
         at_least = omega arith;
         names = λ j m. refl;
+        inside = R.inside;
         named = λ b. named;
         fresh = λ j l m. absurd (omega arith);
-        keeper = (p, (record { there = omega (arith, R.long); class = w }, get_or-set_same pending p 0 0 flags));
+        keeper = (p, (record { there = omega (arith, R.long); class = w }, get_or-set_same pending p false false flags));
       })
 
   module _ (waiting : Placed pending p → ⊥) {q : ℕ} (m : Member new (at old p) q) (d : Placed pending q) where
     -- a placed state that stays in the old class of p
-    keeper : (k : ℕ) {new' : List ℕ} → new' ≡ set new p k → (s : ℕ) × (Member new' (at old p) s × Placed (set pending p 0) s)
+    keeper : (k : ℕ) {new' : List ℕ} → new' ≡ set new p k → (s : ℕ) × (Member new' (at old p) s × Placed (set pending p false) s)
     keeper k {new'} e =
         let z : q ≡ p → ⊥ = λ z. waiting (rw z at d) in
-        (q, (record { there = omega (arith, m.there, ap length e, length-set new p k); class = ap (λ l. at l q) e ∙ get_or-set_other new p q k 0 z ∙ m.class }, get_or-set_other pending p q 0 0 z ∙ d))
+        (q, (record { there = omega (arith, m.there, ap length e, length-set new p k); class = ap (λ l. at l q) e ∙ get_or-set_other new p q k 0 z ∙ m.class }, get_or-set_other pending p q false false z ∙ d))
 
     -- a state comes into the class of a placed state with the same right-hand sides
-    round_joined : {s : ℕ} {new' : List ℕ} → s < length old → Placed pending s → at old s ≡ at old p → SameStates ins starts bytes old s p → at reps (at old p) < length old → new' ≡ set new p (at new s) → Round ins starts bytes old new' (set pending p 0) reps base count
+    round_joined : {s : ℕ} {new' : List ℕ} → s < length old → Placed pending s → at old s ≡ at old p → SameStates ins starts bytes old s p → (standing reps (at old p) ≡ None → ⊥) → new' ≡ set new p (at new s) → Round ins starts bytes old new' (set pending p false) reps base count
     round_joined {s} {new'} l c x S named e = round_placed R h waiting {count' = count} (record {
       moved = e;
       flagged = refl;
@@ -230,6 +255,7 @@ module _ {ins starts bytes old new pending reps : List ℕ} {base count : ℕ} (
       below = R.below s l;
       at_least = omega arith;
       names = λ j m. refl;
+      inside = R.inside;
       named = λ b. rw (R.stays s l b ∙ x) named;
       fresh = λ j l m. absurd (omega arith);
       keeper = keeper (at new s) e;
@@ -247,20 +273,23 @@ module _ {ins starts bytes old new pending reps : List ℕ} {base count : ℕ} (
             (λ i. let z : j ≡ count = omega arith in (p, rw z (record { there = omega (arith, length-set new p count, R.long); class = get_or-set_same new p count 0 (omega (arith, R.long)) })))
 
     -- a state is the first one of a new class
-    round_fresh : count < length reps → FindsClass ins starts bytes old reps base count p count → (SameStates ins starts bytes old q p → ⊥) → Round ins starts bytes old (set new p count) (set pending p 0) (set reps count p) base (suc count)
+    round_fresh : count < length reps → ((j : ℕ) → base ≤ j → j < count → Takes ins starts bytes old reps p j → ⊥) → (SameStates ins starts bytes old q p → ⊥) → Round ins starts bytes old (set new p count) (set pending p false) (set reps count (Some p)) base (suc count)
     round_fresh room F differs = round_placed R h waiting {count' = suc count} (record {
       moved = refl;
       flagged = refl;
       few = few;
-      names_long = length-set reps count p ∙ R.names;
+      names_long = length-set reps count (Some p) ∙ R.names;
       fine = λ r l z y. absurd (omega (arith, R.below r l));
       coarse = λ r l z y T. absurd (apart r l z y T);
       stays = λ b. absurd (omega (arith, R.at_least));
       below = omega arith;
       at_least = omega arith;
-      names = λ j l. get_or-set_other reps count j p 0 (λ z. omega arith);
+      names = λ j l. get_or-set_other reps count j (Some p) None (λ z. omega arith);
+      inside = λ j s e. by_cases (ℕ_discrete j count)
+          (λ z. let y : s ≡ p = same_Some _ _ (sym e ∙ ap (standing (set reps count (Some p))) z ∙ get_or-set_same reps count (Some p) None room) in rw y h)
+          (λ z. R.inside j s (sym (get_or-set_other reps count j (Some p) None z) ∙ e));
       named = λ b. absurd (omega (arith, R.at_least));
-      fresh = λ j l k. let z : j ≡ count = omega arith in rw (z, get_or-set_same reps count p 0 room) (record { there = omega (arith, R.long, length-set new p count); class = get_or-set_same new p count 0 (omega (arith, R.long)) }, get_or-set_same pending p 0 0 flags);
+      fresh = λ j l k. let z : j ≡ count = omega arith in rw z (p, (get_or-set_same reps count (Some p) None room, record { there = omega (arith, R.long, length-set new p count); class = get_or-set_same new p count 0 (omega (arith, R.long)) }, get_or-set_same pending p false false flags));
       keeper = keeper count refl;
     })
       where
@@ -269,31 +298,31 @@ module _ {ins starts bytes old new pending reps : List ℕ} {base count : ℕ} (
             (λ b. let f = R.fine q r (omega (arith, m.there, R.long)) l d z (m.class ∙ sym (R.stays r l b ∙ y)) in differs (same_trans f.1 T))
             (λ b.
             let k = R.made (at new r) (omega arith) (R.below r l) in
-            let f = R.fine (at reps (at new r)) r (omega (arith, k.0.there, R.long)) l k.1 z k.0.class in
-            F.none (at new r) (omega arith) (R.below r l) (f.0 ∙ y) (same_trans f.1 T))
+            let f = R.fine k.0 r (omega (arith, k.1.1.there, R.long)) l k.1.2 z k.1.1.class in
+            F (at new r) (omega arith) (R.below r l) (k.0, (k.1.0, f.0 ∙ y, same_trans f.1 T)))
 
 -- a placed state q stands for the old class of p
-pub record Stands (ins starts bytes old new pending : List ℕ) (base count p : ℕ) (pending' reps' : List ℕ) (q : ℕ) : Type 0 where
+pub record Stands (ins starts bytes old new : List ℕ) (pending : List Bool) (base count p : ℕ) (pending' : List Bool) (reps' : List (Option ℕ)) (q : ℕ) : Type 0 where
   pub round : Round ins starts bytes old new pending' reps' base count
   pub member : Member new (at old p) q
   pub placed : Placed pending' q
   pub remain : (r : ℕ) → Placed pending r → Placed pending' r
-  pub named : at reps' (at old p) < length old
+  pub named : standing reps' (at old p) ≡ None → ⊥
 
-module _ {ins starts bytes old new pending reps : List ℕ} {base count p : ℕ} (C : Classed ins starts bytes old) (R : Round ins starts bytes old new pending reps base count) (h : p < length old) (waiting : Placed pending p → ⊥) where
+module _ {ins starts bytes old new : List ℕ} {pending : List Bool} {reps : List (Option ℕ)} {base count p : ℕ} (C : Classed ins starts bytes old) (R : Round ins starts bytes old new pending reps base count) (h : p < length old) (waiting : Placed pending p → ⊥) where
   -- what standing for the class of p asks
-  pub can_stand : Member new (at old p) p × (length new ≤ 128) × (length pending ≡ 128) × (length reps ≡ 128) × (at old p < 128)
-  can_stand = (record { there = omega (arith, R.long); class = R.waits p h waiting }, omega (arith, R.long, C.layout.few_states), R.flags, R.names, omega (arith, R.known p h, R.at_least, round_few R, C.layout.few_states))
+  pub can_stand : Member new (at old p) p × (length new ≤ 128) × (at old p < 128) × ((s : ℕ) → standing reps (at old p) ≡ Some s → s < length new)
+  can_stand = (record { there = omega (arith, R.long); class = R.waits p h waiting }, omega (arith, R.long, C.layout.few_states), omega (arith, R.known p h, R.at_least, round_few R, C.layout.few_states), λ s e. omega (arith, R.inside (at old p) s e, R.long))
 
-  pub stands : {pending' reps' : List ℕ} {q : ℕ} → Represents new pending reps (at old p) pending' reps' q → Stands ins starts bytes old new pending base count p pending' reps' q
+  pub stands : {pending' : List Bool} {reps' : List (Option ℕ)} {q : ℕ} → Represents new pending reps (at old p) pending' reps' q → Stands ins starts bytes old new pending base count p pending' reps' q
   stands {pending'} {reps'} {q} E = ⊎_elim
-      (λ w. rw (E.named, w.0) (record { round = S; member = E.member; placed = w.1; remain = λ r d. d; named = rw here l }))
+      (λ w. rw (E.named, w.0) (record { round = S; member = E.member; placed = w.1; remain = λ r d. d; named = stood }))
       (λ w. rw (E.named, w.0) (record {
-        round = round_first S C.layout.few_states l (rw E.member.class (none w.1)) (rw (E.member.class, here) l);
+        round = round_first S C.layout.few_states l (rw E.member.class (none w.1)) (rw E.member.class stood);
         member = E.member;
-        placed = get_or-set_same pending q 0 0 fits;
-        remain = elsewhere (λ r. Placed pending r → Placed (set pending q 0) r) q (λ d. get_or-set_same pending q 0 0 fits) (λ r z d. get_or-set_other pending q r 0 0 z ∙ d);
-        named = rw here l;
+        placed = get_or-set_same pending q false false fits;
+        remain = elsewhere (λ r. Placed pending r → Placed (set pending q false) r) q (λ d. get_or-set_same pending q false false fits) (λ r z d. get_or-set_other pending q r false false z ∙ d);
+        named = stood;
       }))
       E.kept
     where
@@ -303,16 +332,19 @@ module _ {ins starts bytes old new pending reps : List ℕ} {base count p : ℕ}
       fits : q < length pending
       fits = omega (arith, l, R.flags, C.layout.few_states)
 
-      here : at (set reps (at old p) q) (at old p) ≡ q
-      here = get_or-set_same reps (at old p) q 0 (omega (arith, R.names, can_stand.4))
+      here : standing (set reps (at old p) (Some q)) (at old p) ≡ Some q
+      here = get_or-set_same reps (at old p) (Some q) None (omega (arith, R.names, can_stand.2))
 
-      S : Round ins starts bytes old new pending (set reps (at old p) q) base count
+      stood : standing (set reps (at old p) (Some q)) (at old p) ≡ None → ⊥
+      stood e = let y = here in absurd (cc)
+
+      S : Round ins starts bytes old new pending (set reps (at old p) (Some q)) base count
       S = round_named R C.layout.few_states (R.known p h) l
 
-      none : (at reps (at old p) < length new → NonePlaced new pending (at old p)) → NonePlaced new pending (at old p)
-      none f = by_cases (dec_lt (at reps (at old p)) (length new)) f (λ z. R.unnamed (at old p) (R.known p h) (omega (arith, R.long)))
+      none : ((s : ℕ) → standing reps (at old p) ≡ Some s → NonePlaced new pending (at old p)) → NonePlaced new pending (at old p)
+      none f = some_or_none (standing reps (at old p)) f (R.unnamed (at old p) (R.known p h))
 
-module _ {ins starts bytes old new pending : List ℕ} {base count p : ℕ} {pending' reps' : List ℕ} {q : ℕ} (few : length old ≤ 128) (h : p < length old) (S : Stands ins starts bytes old new pending base count p pending' reps' q) where
+module _ {ins starts bytes old new : List ℕ} {pending : List Bool} {base count p : ℕ} {pending' : List Bool} {reps' : List (Option ℕ)} {q : ℕ} (few : length old ≤ 128) (h : p < length old) (S : Stands ins starts bytes old new pending base count p pending' reps' q) where
   -- it is p
   pub places_rep : Placed pending' p → Places ins starts bytes old new pending base count p new pending' reps' count
   places_rep d = record { round = S.round; here = d; remain = S.remain; others = λ q z. refl; at_least = omega arith }
@@ -321,8 +353,8 @@ module _ {ins starts bytes old new pending : List ℕ} {base count p : ℕ} {pen
     fits : p < length pending'
     fits = omega (arith, S.round.flags)
 
-    both : (r : ℕ) → Placed pending r → Placed (set pending' p 0) r
-    both r d = elsewhere (λ r. Placed pending' r → Placed (set pending' p 0) r) p (λ d. get_or-set_same pending' p 0 0 fits) (λ r z d. get_or-set_other pending' p r 0 0 z ∙ d) r (S.remain r d)
+    both : (r : ℕ) → Placed pending r → Placed (set pending' p false) r
+    both r d = elsewhere (λ r. Placed pending' r → Placed (set pending' p false) r) p (λ d. get_or-set_same pending' p false false fits) (λ r z d. get_or-set_other pending' p r false false z ∙ d) r (S.remain r d)
 
     q_less : q < length old
     q_less = omega (arith, S.member.there, S.round.long)
@@ -331,70 +363,59 @@ module _ {ins starts bytes old new pending : List ℕ} {base count p : ℕ} {pen
     q_class : at old q ≡ at old p
     q_class = sym (S.round.stays q q_less (rw S.member.class (S.round.known p h))) ∙ S.member.class
 
-    pub places_with : SameStates ins starts bytes old q p → Places ins starts bytes old new pending base count p new (set pending' p 0) reps' count
+    pub places_with : SameStates ins starts bytes old q p → Places ins starts bytes old new pending base count p new (set pending' p false) reps' count
     places_with T = record {
       round = round_joined S.round few h waiting S.member S.placed q_less S.placed q_class T S.named (sym (set-get_or new p 0) ∙ ap (set new p) (S.round.waits p h waiting ∙ sym S.member.class));
-      here = get_or-set_same pending' p 0 0 fits;
+      here = get_or-set_same pending' p false false fits;
       remain = both;
       others = λ q z. refl;
       at_least = omega arith;
     }
 
-    pub find_asks : (base ≤ count) × (count ≤ 128) × ((k : ℕ) → base ≤ k → k < count → at reps' k < length old)
-    find_asks = (S.round.at_least, omega (arith, round_few S.round), λ k b l. omega (arith, (S.round.made k b l).0.there, S.round.long))
+    pub find_asks : (count ≤ 128) × ((k s : ℕ) → standing reps' k ≡ Some s → s < length old)
+    find_asks = (omega (arith, round_few S.round), S.round.inside)
 
     pub room : count < length old
     room = round_room S.round few h waiting S.member S.placed
 
-    module _ {k : ℕ} (F : FindsClass ins starts bytes old reps' base count p k) where
-      pub places_made : k < count → Places ins starts bytes old new pending base count p (set new p k) (set pending' p 0) reps' count
-      places_made l =
-          let m = S.round.made k F.low l in
+    module _ {r : Option ℕ} (F : FindsClass ins starts bytes old reps' base count p r) where
+      pub places_made : {k : ℕ} → r ≡ Some k → Places ins starts bytes old new pending base count p (set new p k) (set pending' p false) reps' count
+      places_made {k} e =
+          let t = F.found k e in
+          let m = S.round.made k t.0 t.1 in
+          let z : m.0 ≡ t.2.0 = same_Some _ _ (sym m.1.0 ∙ t.2.1.0) in
           record {
-            round = round_joined S.round few h waiting S.member S.placed (omega (arith, m.0.there, S.round.long)) m.1 (F.found l).0 (F.found l).1 S.named (ap (set new p) (sym m.0.class));
-            here = get_or-set_same pending' p 0 0 fits;
+            round = round_joined S.round few h waiting S.member S.placed (omega (arith, m.1.1.there, S.round.long)) m.1.2 (rw z t.2.1.1) (rw z t.2.1.2) S.named (ap (set new p) (sym m.1.1.class));
+            here = get_or-set_same pending' p false false fits;
             remain = both;
             others = λ q z. get_or-set_other new p q k 0 z;
             at_least = omega arith;
           }
 
-      pub places_fresh : count ≤ k → (SameStates ins starts bytes old q p → ⊥) → Places ins starts bytes old new pending base count p (set new p k) (set pending' p 0) (set reps' k p) (count + 1)
-      places_fresh l differs =
-          let z : k ≡ count = omega (arith, F.small) in
-          record {
-            round = rw (z, add-one count) (round_fresh S.round few h waiting S.member S.placed (omega (arith, room, S.round.names)) (rw z at F) differs);
-            here = get_or-set_same pending' p 0 0 fits;
-            remain = both;
-            others = λ q z. get_or-set_other new p q k 0 z;
-            at_least = omega arith;
-          }
+      pub places_fresh : r ≡ None → (SameStates ins starts bytes old q p → ⊥) → Places ins starts bytes old new pending base count p (set new p count) (set pending' p false) (set reps' count (Some p)) (count + 1)
+      places_fresh e differs = record {
+        round = rw (add-one count) (round_fresh S.round few h waiting S.member S.placed (omega (arith, room, S.round.names)) (F.none e) differs);
+        here = get_or-set_same pending' p false false fits;
+        remain = both;
+        others = λ q z. get_or-set_other new p q count 0 z;
+        at_least = omega arith;
+      }
 
 -- ---- one round
 -- the states before number i of the list are placed, and m of them have another class than before
-pub record RoundLoop (ins starts bytes old list : List ℕ) (base len : ℕ) (new pending reps moved : List ℕ) (count m i : ℕ) : Type 0 where
-  pub bound : i ≤ len
+pub record RoundLoop (ins starts bytes old list : List ℕ) (base len : ℕ) (new : List ℕ) (pending : List Bool) (reps : List (Option ℕ)) (moved : List ℕ) (count m i : ℕ) : Type 0 where
   pub less : m ≤ i
   pub round : Round ins starts bytes old new pending reps base count
   pub left : (q : ℕ) → q < length old → (Placed pending q → ⊥) → (j : ℕ) × ((i ≤ j) × (j < len) × (at list j ≡ q))
   pub listed : Moved old new moved m
   pub grew : 0 < m → base < count
 
-pub round_start : {ins starts bytes old new pending reps list moved : List ℕ} {base len : ℕ} → Round ins starts bytes old new pending reps base base → Listed pending list (length old) len → length moved ≡ 128 → ((q : ℕ) → q < length old → at new q ≡ at old q) → RoundLoop ins starts bytes old list base len new pending reps moved base 0 0
-round_start R L m e = record {
-  bound = omega arith;
-  less = omega arith;
-  round = R;
-  left = λ q h d. let w = L.all q h d in (w.0, (omega arith, w.1.0, w.1.1));
-  listed = record { room = m; few = omega arith; states = λ j h. absurd (omega arith); all = λ q h. inl (e q h) };
-  grew = λ h. absurd (omega arith);
-}
-
-module _ {ins starts bytes old pending₀ list : List ℕ} {base len : ℕ} {new pending reps moved : List ℕ} {count m i p : ℕ} (L : RoundLoop ins starts bytes old list base len new pending reps moved count m i) (A : Listed pending₀ list (length old) len) (h : i < len) (e : p ≡ at list i) where
+module _ {ins starts bytes old : List ℕ} {pending₀ : List Bool} {list : List ℕ} {base len : ℕ} {new : List ℕ} {pending : List Bool} {reps : List (Option ℕ)} {moved : List ℕ} {count m i p : ℕ} (L : RoundLoop ins starts bytes old list base len new pending reps moved count m i) (A : Listed pending₀ list (length old) len) (h : i < len) (e : p ≡ at list i) where
   pub turn_state : p < length old
   turn_state = rw e (A.states i h)
 
   -- a state behind number i in the list is still to come
-  later : (pending' : List ℕ) → Placed pending' p → (q : ℕ) → (Placed pending' q → ⊥) → (j : ℕ) × ((i ≤ j) × (j < len) × (at list j ≡ q)) → (j : ℕ) × ((i + 1 ≤ j) × (j < len) × (at list j ≡ q))
+  later : (pending' : List Bool) → Placed pending' p → (q : ℕ) → (Placed pending' q → ⊥) → (j : ℕ) × ((i ≤ j) × (j < len) × (at list j ≡ q)) → (j : ℕ) × ((i + 1 ≤ j) × (j < len) × (at list j ≡ q))
   later pending' d q f w =
       let z : w.0 ≡ i → ⊥ = λ z. f (rw (sym w.1.2 ∙ ap (at list) z ∙ sym e) d) in
       (w.0, (omega arith, w.1.1, w.1.2))
@@ -402,7 +423,6 @@ module _ {ins starts bytes old pending₀ list : List ℕ} {base len : ℕ} {new
   -- the state is placed already
   pub turn_placed : Placed pending p → RoundLoop ins starts bytes old list base len new pending reps moved count m (i + 1)
   turn_placed d = record {
-    bound = omega arith;
     less = omega (arith, L.less);
     round = L.round;
     left = λ q l f. later pending d q f (L.left q l f);
@@ -410,14 +430,13 @@ module _ {ins starts bytes old pending₀ list : List ℕ} {base len : ℕ} {new
     grew = L.grew;
   }
 
-  module _ {new' pending' reps' : List ℕ} {count' : ℕ} (P : Places ins starts bytes old new pending base count p new' pending' reps' count') where
+  module _ {new' : List ℕ} {pending' : List Bool} {reps' : List (Option ℕ)} {count' : ℕ} (P : Places ins starts bytes old new pending base count p new' pending' reps' count') where
     left' : (q : ℕ) → q < length old → (Placed pending' q → ⊥) → (j : ℕ) × ((i + 1 ≤ j) × (j < len) × (at list j ≡ q))
     left' q l f = later pending' P.here q f (L.left q l (λ d. f (P.remain q d)))
 
     -- it keeps its class
     pub turn_kept : at new' p ≡ at old p → RoundLoop ins starts bytes old list base len new' pending' reps' moved count' m (i + 1)
     turn_kept k = record {
-      bound = omega arith;
       less = omega (arith, L.less);
       round = P.round;
       left = left';
@@ -437,7 +456,6 @@ module _ {ins starts bytes old pending₀ list : List ℕ} {base len : ℕ} {new
         let here : at (set moved m p) m ≡ p = get_or-set_same moved m p 0 room in
         let there : (j : ℕ) → j < m → at (set moved m p) j ≡ at moved j = λ j l. get_or-set_other moved m j p 0 (λ z. omega arith) in
         record {
-          bound = omega arith;
           less = omega (arith, L.less);
           round = P.round;
           left = left';
@@ -449,11 +467,3 @@ module _ {ins starts bytes old pending₀ list : List ℕ} {base len : ℕ} {new
           };
           grew = λ l. by_cases (dec_lt base count') (λ z. z) (λ z. absurd (k (P.round.stays p turn_state (omega (arith, P.round.below p turn_state)))));
         }
-
-pub round_end : {ins starts bytes old list : List ℕ} {base len : ℕ} {new pending reps moved : List ℕ} {count m i : ℕ} → RoundLoop ins starts bytes old list base len new pending reps moved count m i → len ≤ i → Rounded ins starts bytes old new pending reps moved base count m
-round_end {pending = pending} {i = i} L h = record {
-  round = L.round;
-  placed = λ q l. by_cases (ℕ_discrete (at pending q) 0) (λ z. z) (λ z. let w = L.left q l z in absurd (omega arith));
-  listed = L.listed;
-  grew = L.grew;
-}

@@ -1,27 +1,27 @@
 -- From round to round: a state that calls no moved state has the same right-hand sides up to new classes as up to old ones.
 -- Assumes nothing.
-use Prim.Native.Nat.{ℕ, ◌+◌, ◌-◌, ◌*◌, ◌≤◌, ◌<◌}
+use Prim.Native.Nat.{ℕ, suc, ◌+◌, ◌-◌, ◌*◌, ◌≤◌, ◌<◌}
 use native.Mathlib.Decide.{ℕ_discrete, dec_lt}
 use native.Mathlib.Omega.{arith}
-use mathlib.Core.Bool.{Bool, true, false}
+use mathlib.Core.Bool.{Bool, false}
 use mathlib.Core.List.{List, []}
 use mathlib.Core.Logic.{by_cases, ⊎_elim}
 use mathlib.Core.Path.{◌≡◌, refl, sym, ap, ◌∙◌}
 use lib.ListN.{length, get_or}
 use lib.Seq.{ext_get_or, take_all, sets, length-sets}
+use Rattle.std.specs.Prelude.{Option, Some, None}
 use Rattle.theory.proofs.Bisimulation.{refine_respects, stable_exact}
-use Rattle.theory.proofs.Terms.{conflict}
 use Rattle.formats.specs.Inner.Layout.{body_number, body_count}
 use Rattle.formats.specs.Inner.Marked.{part}
 use Rattle.formats.proofs.Laws.{written_take}
 use Rattle.formats.proofs.Pairs.{number_less}
 use Rattle.classes.specs.Inner.Classes.{keyed, body_marks, SameStates, at, Keyable, Classed, Patterned, Numbers}
-use Rattle.merging.specs.Inner.Refining.{Settles, Placed, NonePlaced, Member, Round, Rounded, Callers, Listed, FlagsMoved, AllPending, Continues, Respecting, Stable, Refined, Startable, Refines, sign}
+use Rattle.merging.specs.declared.refining.Row.{Row}
+use Rattle.merging.specs.Inner.Refining.{Settles, Placed, NonePlaced, Member, Round, Rounded, Callers, Listed, FlagsMoved, AllPending, Continues, Respecting, Stable, Refined, Startable, Refines, standing}
 use Rattle.classes.proofs.Keys.{key_at, key_symbol, key_call, keyed_length, keyed_at, body_ordered, body_keyable, first_there, same_simulates, simulates_same}
 use Rattle.classes.proofs.Numbering.{classes_agree, class_below, least_below}
 use Rattle.classes.proofs.Patterns.{starts_ordered, same_byte}
 use Rattle.merging.proofs.Rounds.{round_few}
-use Rattle.merging.proofs.Worklist.{no_sign, some_sign, one_sign}
 
 -- ---- the classes to start from
 -- equivalent states are in one of them
@@ -70,13 +70,14 @@ module _ {ins starts bytes old : List ℕ} (C : Classed ins starts bytes old) (n
   states_kept f S = record { each = λ a l. body_kept a l ∙ S.each a l ∙ sym (f a l) }
 
 -- ---- the start of a round
-module _ {ins starts bytes old new pending reps : List ℕ} {count : ℕ} (long : length new ≡ length old) (same : (q : ℕ) → q < length old → at new q ≡ at old q) (below : (q : ℕ) → q < length old → at new q < count) (every : (k : ℕ) → k < count → (s : ℕ) × Member new k s) where
-  start_round : length pending ≡ 128 → length reps ≡ 128 → ((p q : ℕ) → p < length old → q < length old → Placed pending p → Placed pending q → at new p ≡ at new q → SameStates ins starts bytes old p q) → ((c : ℕ) → c < count → length old ≤ at reps c → NonePlaced new pending c) → Round ins starts bytes old new pending reps count count
-  start_round flags names fine unnamed = record {
+module _ {ins starts bytes old new : List ℕ} {pending : List Bool} {reps : List (Option ℕ)} {count : ℕ} (long : length new ≡ length old) (same : (q : ℕ) → q < length old → at new q ≡ at old q) (below : (q : ℕ) → q < length old → at new q < count) (every : (k : ℕ) → k < count → (s : ℕ) × Member new k s) where
+  start_round : length pending ≡ 128 → length reps ≡ 128 → ((p q : ℕ) → p < length old → q < length old → Placed pending p → Placed pending q → at new p ≡ at new q → SameStates ins starts bytes old p q) → ((k s : ℕ) → standing reps k ≡ Some s → s < length old) → ((c : ℕ) → c < count → standing reps c ≡ None → NonePlaced new pending c) → Round ins starts bytes old new pending reps count count
+  start_round flags names fine inside unnamed = record {
     waits = λ q h d. same q h;
     fine = λ p q h g d e x. (sym (same p h) ∙ x ∙ same q g, fine p q h g d e x);
     coarse = λ p q h g d e x S. same p h ∙ x ∙ sym (same q g);
     made = λ k b l. absurd (omega arith);
+    inside = inside;
     long = long;
     known = λ q h. rw (← same q h) (below q h);
     below = below;
@@ -91,10 +92,10 @@ module _ {ins starts bytes old new pending reps : List ℕ} {count : ℕ} (long 
 
   -- where all states are pending
   pub pending_round : {list : List ℕ} → AllPending pending reps list (length old) → Round ins starts bytes old new pending reps count count
-  pending_round A = start_round A.flags A.names (λ p q h g d e x. absurd (A.waiting p h d)) (λ c h l q k e d. A.waiting q (omega arith) d)
+  pending_round A = start_round A.flags A.names (λ p q h g d e x. absurd (A.waiting p h d)) (λ k s e. let y = A.unnamed k in absurd (cc)) (λ c h l q k e d. A.waiting q (omega arith) d)
 
 -- ---- the next round
-module _ {ins starts bytes old new pending reps moved : List ℕ} {base count m : ℕ} (C : Classed ins starts bytes old) (R : Rounded ins starts bytes old new pending reps moved base count m) where
+module _ {ins starts bytes old new : List ℕ} {pending : List Bool} {reps : List (Option ℕ)} {moved : List ℕ} {base count m : ℕ} (C : Classed ins starts bytes old) (R : Rounded ins starts bytes old new pending reps moved base count m) where
   -- the new classes part no equivalent states
   new_respects : {old' : List ℕ} → Respecting ins starts bytes (length old) old → ((q : ℕ) → q < length old → at new q ≡ at old' q) → Respecting ins starts bytes (length old) old'
   new_respects {old'} A same = record {
@@ -115,12 +116,12 @@ module _ {ins starts bytes old new pending reps moved : List ℕ} {base count m 
       kept q h = ⊎_elim (λ w. w) (λ w. absurd (omega arith)) (R.listed.all q h)
 
   -- a state stands for each class
-  named : (c : ℕ) → c < count → at reps c < length old
-  named c h = by_cases (dec_lt c base)
-      (λ b. by_cases (dec_lt (at reps c) (length old)) (λ z. z) (λ z. let w = R.round.every c h in absurd (R.round.unnamed c b (omega arith) w.0 w.1.there w.1.class (R.placed w.0 (omega (arith, w.1.there, R.round.long))))))
-      (λ b. omega (arith, (R.round.made c (omega arith) h).0.there, R.round.long))
+  named : (c : ℕ) → c < count → standing reps c ≡ None → ⊥
+  named c h e = by_cases (dec_lt c base)
+      (λ b. let w = R.round.every c h in R.round.unnamed c b e w.0 w.1.there w.1.class (R.placed w.0 (omega (arith, w.1.there, R.round.long))))
+      (λ b. let w = (R.round.made c (omega arith) h).1.0 in absurd (cc))
 
-  module _ {callers old' pending' reps' list' : List ℕ} {len : ℕ} (T : Callers ins starts bytes (length old) callers) (N : Continues callers old new reps old' pending' reps' list' len) (long : length old' ≡ length old) where
+  module _ {callers : List Row} {old' : List ℕ} {pending' : List Bool} {reps' : List (Option ℕ)} {list' : List ℕ} {len : ℕ} (T : Callers ins starts bytes (length old) callers) (N : Continues callers old new reps old' pending' reps' list' len) (long : length old' ≡ length old) where
     same' : (q : ℕ) → q < length old' → at new q ≡ at old' q
     same' q h = N.same q (omega arith)
 
@@ -140,41 +141,59 @@ module _ {ins starts bytes old new pending reps moved : List ℕ} {base count m 
     next_round = ⊎_elim
         (λ w. start_round long' same' below' R.round.every N.flags N.names
         (λ p q h g d e x. let i : p < length old = omega arith in let j : q < length old = omega arith in states_kept C old' i (undisturbed w.0 p i d) (body_kept C old' j (undisturbed w.0 q j e)) (R.round.fine p q i j (R.placed p i) (R.placed q j) x).1)
-        (λ c h l. absurd (omega (arith, named c h, ap (λ r. at r c) w.1))))
+        (λ k s e. omega (arith, R.round.inside k s (sym (ap (λ r. standing r k) w.1) ∙ e)))
+        (λ c h l. absurd (named c h (sym (ap (λ r. standing r c) w.1) ∙ l))))
         (λ A. pending_round long' same' below' R.round.every {list = list'} (rw long A))
         N.either
 
 -- ---- all rounds
 -- a round was done, with as many states as at first
-pub record RefineLoop (ins starts bytes old₀ callers old new pending reps list moved : List ℕ) (count m : ℕ) : Type 0 where
-  pub room : length callers ≡ 16640
+pub record RefineLoop (ins starts bytes old₀ : List ℕ) (callers : List Row) (old new : List ℕ) (pending : List Bool) (reps : List (Option ℕ)) (list moved : List ℕ) (count m : ℕ) : Type 0 where
   pub calls : Callers ins starts bytes (length old₀) callers
   pub long : length old ≡ length old₀
   pub refined : Refined ins starts bytes old new pending reps list moved count m
+
+-- 0 of 0, and 1 of other numbers
+unfoldable pub sign : ℕ → ℕ
+sign ℕ.zero = 0
+sign (suc x) = 1
+
+one_sign : (x : ℕ) → sign x ≤ 1
+unfolding sign
+one_sign ℕ.zero = omega arith
+one_sign (suc x) = omega arith
+
+no_sign : (x : ℕ) → x ≡ 0 → sign x ≡ 0
+unfolding sign
+no_sign x e = rw e
+
+some_sign : (x : ℕ) → 0 < x → sign x ≡ 1
+unfolding sign
+some_sign ℕ.zero h = absurd (omega arith)
+some_sign (suc x) h = refl
 
 -- how many classes there can still be, and one round that moves no state
 pub left : ℕ → ℕ → ℕ → ℕ
 left n count m = n - count + sign m
 
-module _ {ins starts bytes old new pending reps list moved : List ℕ} {count m : ℕ} (P : Refined ins starts bytes old new pending reps list moved count m) where
+module _ {ins starts bytes old new : List ℕ} {pending : List Bool} {reps : List (Option ℕ)} {list moved : List ℕ} {count m : ℕ} (P : Refined ins starts bytes old new pending reps list moved count m) where
   pub refined_stable : m ≡ 0 → Stable ins starts bytes (length old) old
   refined_stable z = none_moved P.classed P.rounded z P.respects
 
-  module _ {callers old' pending' reps' list' : List ℕ} {len : ℕ} (T : Callers ins starts bytes (length old) callers) (N : Continues callers old new reps old' pending' reps' list' len) (long : length old' ≡ length old) where
+  module _ {callers : List Row} {old' : List ℕ} {pending' : List Bool} {reps' : List (Option ℕ)} {list' : List ℕ} {len : ℕ} (T : Callers ins starts bytes (length old) callers) (N : Continues callers old new reps old' pending' reps' list' len) (long : length old' ≡ length old) where
     next_classed : Classed ins starts bytes old'
     next_classed = record { outs = P.classed.outs; layout = rw long P.classed.layout }
 
     -- what the next round asks
-    pub next_asks : Classed ins starts bytes old' × Round ins starts bytes old' new pending' reps' count count × Listed pending' list' (length old') len × (length moved ≡ 128) × ((q : ℕ) → q < length old' → at new q ≡ at old' q)
+    pub next_asks : Classed ins starts bytes old' × Round ins starts bytes old' new pending' reps' count count × Listed pending' list' (length old') len × ((q : ℕ) → q < length old' → at new q ≡ at old' q)
     next_asks = (
       next_classed,
       next_round P.classed P.rounded T N long,
       rw long N.listed,
-      P.rounded.listed.room,
       λ q h. N.same q (omega arith),
     )
 
-    module _ {new' pending'' reps'' moved' : List ℕ} {count' m' : ℕ} (R : Rounded ins starts bytes old' new' pending'' reps'' moved' count count' m') where
+    module _ {new' : List ℕ} {pending'' : List Bool} {reps'' : List (Option ℕ)} {moved' : List ℕ} {count' m' : ℕ} (R : Rounded ins starts bytes old' new' pending'' reps'' moved' count count' m') where
       pub next_refined : Refined ins starts bytes old' new' pending'' reps'' list' moved' count' m'
       next_refined = record {
         base = count;
@@ -191,28 +210,9 @@ module _ {ins starts bytes old new pending reps list moved : List ℕ} {count m 
           (λ z. omega (arith, R.grew z, round_few R.round, long, one_sign m', some_sign m h))
           (λ z. omega (arith, R.round.at_least, no_sign m' (omega arith), some_sign m h))
 
-module _ {ins starts bytes old new pending reps list : List ℕ} {count : ℕ} (S : Startable ins starts bytes old new count) (A : AllPending pending reps list (length old)) where
-  -- what the first round asks
-  pub first_asks : Classed ins starts bytes old × Round ins starts bytes old new pending reps count count × Listed pending list (length old) (length old)
-  first_asks = (
-    S.classed,
-    pending_round S.long S.same (λ q h. rw (S.same q h) (S.below q h)) S.every A,
-    A.listed,
-  )
-
-  pub first_refined : {new' pending' reps' moved : List ℕ} {count' m : ℕ} → Rounded ins starts bytes old new' pending' reps' moved count count' m → Refined ins starts bytes old new' pending' reps' list moved count' m
-  first_refined R = record { base = count; classed = S.classed; respects = S.respects; rounded = R; room = A.listed.room }
-
 -- ---- from the bytes to the end
 copied : (from area area' : List ℕ) → length from ≡ length area → area' ≡ sets area 0 from → area' ≡ from
 copied from area area' l e = sym (take_all (length from) area' (omega (arith, ap length e, length-sets area 0 from))) ∙ written_take from area area' (length from) refl (omega arith) e
-
--- where no state is moved, the classes are as they were
-pub refines_none : {ins starts bytes old new pending reps list moved : List ℕ} {count m : ℕ} → Refined ins starts bytes old new pending reps list moved count m → m ≡ 0 → Refines ins starts bytes old old new false
-refines_none P z = record { stable = refined_stable P z; kept = λ e. (refl, λ q h. ⊎_elim (λ w. w) (λ w. absurd (omega arith)) (P.rounded.listed.all q h)) }
-
-pub refines_some : {ins starts bytes old old' new' : List ℕ} → Stable ins starts bytes (length old) old' → Refines ins starts bytes old old' new' true
-refines_some S = record { stable = S; kept = λ e. conflict (cc) }
 
 -- the bytes of the right-hand sides, numbered, are classes to start from
 pub numbered_start : {ins starts bytes old₀ old new least old' : List ℕ} {count : ℕ} → Classed ins starts bytes old₀ → length old ≡ length old₀ → Patterned ins starts bytes (length old₀) old → Numbers old new least count → length new ≡ length old₀ → old' ≡ sets old 0 new → Startable ins starts bytes old' new count

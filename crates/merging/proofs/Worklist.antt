@@ -1,61 +1,56 @@
 -- The next round: the callers of the states whose class has changed are pending and listed.
 -- Assumes nothing.
-use Prim.Native.Nat.{ℕ, suc, ◌+◌, ◌*◌, ◌≤◌, ◌<◌}
+use Prim.Native.Nat.{ℕ, suc, ◌+◌, ◌≤◌, ◌<◌}
 use native.Mathlib.Decide.{ℕ_discrete}
 use native.Mathlib.Omega.{arith}
+use mathlib.Core.Bool.{Bool, true, false}
 use mathlib.Core.List.{List}
-use mathlib.Core.Logic.{◌⊎◌, inl, inr, by_cases, ⊎_elim}
+use mathlib.Core.Logic.{◌⊎◌, by_cases}
 use mathlib.Core.Path.{◌≡◌, refl, sym, ap, ◌∙◌}
-use lib.ListN.{length, set, length-set}
+use lib.ListN.{length, get_or, replicate, set, length-set}
 use lib.Seq.{get_or-set_same, get_or-set_other}
+use Rattle.std.specs.Prelude.{Option, None}
+use Rattle.theory.proofs.Terms.{conflict}
 use Rattle.classes.specs.Inner.Classes.{at}
-use Rattle.merging.specs.Inner.Refining.{Placed, Moved, Flagged, sign, pending_count, Queue, FlagsCallers, FlagsMoved, AllPending}
+use Rattle.merging.specs.declared.refining.Row.{Row}
+use Rattle.merging.specs.Inner.Refining.{Placed, standing, Moved, Flagged, flag, pending_count, Queue, AllPending}
 
 -- ---- how many states are pending
-pub one_sign : (x : ℕ) → sign x ≤ 1
-unfolding sign
-one_sign ℕ.zero = omega arith
-one_sign (suc x) = omega arith
+one_flag : (b : Bool) → flag b ≤ 1
+unfolding flag
+one_flag false = omega arith
+one_flag true = omega arith
 
-pub no_sign : (x : ℕ) → x ≡ 0 → sign x ≡ 0
-unfolding sign
-no_sign x e = rw e
-
-pub some_sign : (x : ℕ) → 0 < x → sign x ≡ 1
-unfolding sign
-some_sign ℕ.zero h = absurd (omega arith)
-some_sign (suc x) h = refl
-
-pending_le : (pending : List ℕ) (n : ℕ) → pending_count pending n ≤ n
+pending_le : (pending : List Bool) (n : ℕ) → pending_count pending n ≤ n
 unfolding pending_count
 pending_le pending ℕ.zero = omega arith
-pending_le pending (suc n) = omega (arith, pending_le pending n, one_sign (at pending n))
+pending_le pending (suc n) = omega (arith, pending_le pending n, one_flag (get_or pending n false))
 
-module _ (pending : List ℕ) {q : ℕ} (d : Placed pending q) where
+module _ (pending : List Bool) {q : ℕ} (d : Placed pending q) where
   pending_lt : (n : ℕ) → q < n → pending_count pending n < n
-  unfolding pending_count
+  unfolding pending_count flag
   pending_lt ℕ.zero h = absurd (omega arith)
-  pending_lt (suc n) h = by_cases (ℕ_discrete q n) (λ z. omega (arith, pending_le pending n, no_sign (at pending n) (rw z at d))) (λ z. omega (arith, pending_lt n (omega arith), one_sign (at pending n)))
+  pending_lt (suc n) h = by_cases (ℕ_discrete q n) (λ z. omega (arith, pending_le pending n, ap flag (rw z at d))) (λ z. omega (arith, pending_lt n (omega arith), one_flag (get_or pending n false)))
 
   -- one more
-  pending_before : (n : ℕ) → n ≤ q → pending_count (set pending q 1) n ≡ pending_count pending n
+  pending_before : (n : ℕ) → n ≤ q → pending_count (set pending q true) n ≡ pending_count pending n
   unfolding pending_count
   pending_before ℕ.zero h = refl
-  pending_before (suc n) h = omega (arith, pending_before n (omega arith), ap sign (get_or-set_other pending q n 1 0 (λ z. omega arith)))
+  pending_before (suc n) h = omega (arith, pending_before n (omega arith), ap flag (get_or-set_other pending q n true false (λ z. omega arith)))
 
-  pending_more : (n : ℕ) → q < n → q < length pending → pending_count (set pending q 1) n ≡ suc (pending_count pending n)
-  unfolding pending_count sign
+  pending_more : (n : ℕ) → q < n → q < length pending → pending_count (set pending q true) n ≡ suc (pending_count pending n)
+  unfolding pending_count flag
   pending_more ℕ.zero h l = absurd (omega arith)
   pending_more (suc n) h l = by_cases (ℕ_discrete n q)
-      (λ z. omega (arith, pending_before n (omega arith), ap sign (ap (at (set pending q 1)) z ∙ get_or-set_same pending q 1 0 l), no_sign (at pending n) (ap (at pending) z ∙ d)))
-      (λ z. omega (arith, pending_more n (omega arith) l, ap sign (get_or-set_other pending q n 1 0 z)))
+      (λ z. omega (arith, pending_before n (omega arith), ap flag (ap (λ k. get_or (set pending q true) k false) z ∙ get_or-set_same pending q true false l), ap flag (ap (λ k. get_or pending k false) z ∙ d)))
+      (λ z. omega (arith, pending_more n (omega arith) l, ap flag (get_or-set_other pending q n true false z)))
 
 -- ---- one more pending state
-module _ {pending list : List ℕ} {n len q : ℕ} (Q : Queue pending list n len) (flags : length pending ≡ 128) (few : n ≤ 128) (h : q < n) (d : Placed pending q) where
+module _ {pending : List Bool} {list : List ℕ} {n len q : ℕ} (Q : Queue pending list n len) (flags : length pending ≡ 128) (few : n ≤ 128) (h : q < n) (d : Placed pending q) where
   pub queue_room : len < 128
   queue_room = omega (arith, Q.counted, pending_lt pending d n h)
 
-  queue_more : Queue (set pending q 1) (set list len q) n (len + 1)
+  queue_more : Queue (set pending q true) (set list len q) n (len + 1)
   queue_more =
       let here : at (set list len q) len ≡ q = get_or-set_same list len q 0 (omega (arith, queue_room, Q.listed.room)) in
       let there : (j : ℕ) → j < len → at (set list len q) j ≡ at list j = λ j l. get_or-set_other list len j q 0 (λ z. omega arith) in
@@ -64,82 +59,64 @@ module _ {pending list : List ℕ} {n len q : ℕ} (Q : Queue pending list n len
           room = length-set list len q ∙ Q.listed.room;
           few = omega (arith, queue_room);
           states = λ j l. by_cases (ℕ_discrete j len) (λ z. rw (z, here) h) (λ z. rw (there j (omega arith)) (Q.listed.states j (omega arith)));
-          all = λ p l f. by_cases (ℕ_discrete p q) (λ z. (len, (omega arith, here ∙ sym z))) (λ z. let w = Q.listed.all p l (λ e. f (get_or-set_other pending q p 1 0 z ∙ e)) in (w.0, (omega arith, there w.0 w.1.0 ∙ w.1.1)));
+          all = λ p l f. by_cases (ℕ_discrete p q) (λ z. (len, (omega arith, here ∙ sym z))) (λ z. let w = Q.listed.all p l (λ e. f (get_or-set_other pending q p true false z ∙ e)) in (w.0, (omega arith, there w.0 w.1.0 ∙ w.1.1)));
         };
         counted = omega (arith, Q.counted, pending_more pending d n h (omega arith));
       }
 
-  still_pending : (p : ℕ) → Placed (set pending q 1) p → Placed pending p
-  still_pending p e = by_cases (ℕ_discrete p q) (λ z. rw z d) (λ z. sym (get_or-set_other pending q p 1 0 z) ∙ e)
+  still_pending : (p : ℕ) → Placed (set pending q true) p → Placed pending p
+  still_pending p e = by_cases (ℕ_discrete p q) (λ z. rw z d) (λ z. sym (get_or-set_other pending q p true false z) ∙ e)
 
-  now_pending : Placed (set pending q 1) q → ⊥
-  now_pending e = omega (arith, get_or-set_same pending q 1 0 (omega arith), e)
+  now_pending : Placed (set pending q true) q → ⊥
+  now_pending e = let y = get_or-set_same pending q true false (omega arith) in conflict (cc)
 
 -- ---- the callers of a state
 -- those before state q are pending
-pub record FlagLoop (callers : List ℕ) (r n : ℕ) (pending₀ : List ℕ) (to : ℕ) (pending list : List ℕ) (len q : ℕ) : Type 0 where
-  pub within : to ≤ n
-  pub reaches : (p : ℕ) → p < n → p < at callers (130 * r + 129) → p < to
+pub record FlagLoop (callers : List Row) (r n : ℕ) (pending₀ pending : List Bool) (list : List ℕ) (len q : ℕ) : Type 0 where
   pub flags : length pending ≡ 128
   pub queue : Queue pending list n len
   pub still : (p : ℕ) → Placed pending p → Placed pending₀ p
-  pub passed : (p : ℕ) → p < q → 128 ≤ p + at callers (130 * r + 128) → 0 < at callers (130 * r + p) → Placed pending p → ⊥
+  pub passed : (p : ℕ) → p < q → Flagged callers r p → Placed pending p → ⊥
 
-pub flag_start : {callers : List ℕ} {r n : ℕ} {pending list : List ℕ} {len to q : ℕ} → to ≤ n → ((p : ℕ) → p < n → p < at callers (130 * r + 129) → p < to) → length pending ≡ 128 → Queue pending list n len → ((p : ℕ) → 128 ≤ p + at callers (130 * r + 128) → q ≤ p) → FlagLoop callers r n pending to pending list len q
-flag_start w t f Q e = record { within = w; reaches = t; flags = f; queue = Q; still = λ p d. d; passed = λ p l m. absurd (omega (arith, e p m)) }
-
-module _ {callers : List ℕ} {r n : ℕ} {pending₀ : List ℕ} {to : ℕ} {pending list : List ℕ} {len q : ℕ} (L : FlagLoop callers r n pending₀ to pending list len q) where
-  flag_next : {pending' list' : List ℕ} {len' : ℕ} → length pending' ≡ 128 → Queue pending' list' n len' → ((p : ℕ) → Placed pending' p → Placed pending p) → (0 < at callers (130 * r + q) → Placed pending' q → ⊥) → FlagLoop callers r n pending₀ to pending' list' len' (q + 1)
+module _ {callers : List Row} {r n : ℕ} {pending₀ pending : List Bool} {list : List ℕ} {len q : ℕ} (L : FlagLoop callers r n pending₀ pending list len q) where
+  flag_next : {pending' : List Bool} {list' : List ℕ} {len' : ℕ} → length pending' ≡ 128 → Queue pending' list' n len' → ((p : ℕ) → Placed pending' p → Placed pending p) → (Flagged callers r q → Placed pending' q → ⊥) → FlagLoop callers r n pending₀ pending' list' len' (q + 1)
   flag_next {pending'} f Q s h = record {
-    within = L.within;
-    reaches = L.reaches;
     flags = f;
     queue = Q;
     still = λ p d. L.still p (s p d);
-    passed = λ p l m. by_cases (ℕ_discrete p q) (λ z k d. h (rw z at k) (rw z at d)) (λ z k d. L.passed p (omega arith) m k (s p d));
+    passed = λ p l. by_cases (ℕ_discrete p q) (λ z F d. h (rw z at F) (rw z at d)) (λ z F d. L.passed p (omega arith) F (s p d));
   }
 
   -- no caller, or it is pending already
-  pub flag_same : (0 < at callers (130 * r + q) → Placed pending q → ⊥) → FlagLoop callers r n pending₀ to pending list len (q + 1)
+  pub flag_same : (Flagged callers r q → Placed pending q → ⊥) → FlagLoop callers r n pending₀ pending list len (q + 1)
   flag_same h = flag_next L.flags L.queue (λ p d. d) h
 
-  module _ (few : n ≤ 128) (h : q < to) (d : Placed pending q) where
-    less : q < n
-    less = omega (arith, L.within)
-
+  module _ (few : n ≤ 128) (less : q < n) (d : Placed pending q) where
     pub flag_room : len < 128
     flag_room = queue_room L.queue L.flags few less d
 
-    pub flag_new : FlagLoop callers r n pending₀ to (set pending q 1) (set list len q) (len + 1) (q + 1)
-    flag_new = flag_next (length-set pending q 1 ∙ L.flags) (queue_more L.queue L.flags few less d) (still_pending L.queue L.flags few less d) (λ k e. now_pending L.queue L.flags few less d e)
-
-  pub flag_end : to ≤ q → FlagsCallers callers r n pending₀ pending list len
-  flag_end h = record { flags = L.flags; queue = L.queue; still = L.still; flagged = λ p l F d. L.passed p (omega (arith, L.reaches p l F.high)) F.low F.flag d }
+    pub flag_new : FlagLoop callers r n pending₀ (set pending q true) (set list len q) (len + 1) (q + 1)
+    flag_new = flag_next (length-set pending q true ∙ L.flags) (queue_more L.queue L.flags few less d) (still_pending L.queue L.flags few less d) (λ F e. now_pending L.queue L.flags few less d e)
 
 -- ---- all states
--- those before state q are pending and listed, and no state stands for a class before q
-pub record AllLoop (pending reps list : List ℕ) (q : ℕ) : Type 0 where
+-- those before state q are pending and listed
+pub record AllLoop (pending : List Bool) (list : List ℕ) (len q : ℕ) : Type 0 where
+  pub counted : len ≡ q
   pub flags : length pending ≡ 128
-  pub names : length reps ≡ 128
   pub room : length list ≡ 128
   pub waiting : (p : ℕ) → p < q → Placed pending p → ⊥
-  pub unnamed : (c : ℕ) → c < q → 128 ≤ at reps c
   pub listed : (j : ℕ) → j < q → at list j ≡ j
 
-pub all_next : {pending reps list : List ℕ} {q : ℕ} → AllLoop pending reps list q → q < 128 → AllLoop (set pending q 1) (set reps q 255) (set list q q) (q + 1)
-all_next {pending} {reps} {list} {q} L h = record {
-  flags = length-set pending q 1 ∙ L.flags;
-  names = length-set reps q 255 ∙ L.names;
-  room = length-set list q q ∙ L.room;
-  waiting = λ p l. by_cases (ℕ_discrete p q) (λ z e. omega (arith, get_or-set_same pending q 1 0 (omega (arith, L.flags)), ap (at (set pending q 1)) z, e)) (λ z e. L.waiting p (omega arith) (sym (get_or-set_other pending q p 1 0 z) ∙ e));
-  unnamed = λ c l. by_cases (ℕ_discrete c q) (λ z. rw (z, get_or-set_same reps q 255 0 (omega (arith, L.names))) (omega arith)) (λ z. rw (get_or-set_other reps q c 255 0 z) (L.unnamed c (omega arith)));
-  listed = λ j l. by_cases (ℕ_discrete j q) (λ z. rw z (get_or-set_same list q q 0 (omega (arith, L.room)))) (λ z. get_or-set_other list q j q 0 z ∙ L.listed j (omega arith));
-}
+-- no state stands for a class in a row of Nones
+pub no_standing : (n c : ℕ) → standing (replicate n None) c ≡ None
+no_standing ℕ.zero c = refl
+no_standing (suc n) ℕ.zero = refl
+no_standing (suc n) (suc c) = no_standing n c
 
-pub all_end : {pending reps list : List ℕ} {n q : ℕ} → AllLoop pending reps list q → n ≤ 128 → n ≤ q → AllPending pending reps list n
-all_end {list = list} L few h = record {
+pub all_end : {pending : List Bool} {reps : List (Option ℕ)} {list : List ℕ} {n len q : ℕ} → AllLoop pending list len q → length reps ≡ 128 → ((c : ℕ) → standing reps c ≡ None) → n ≤ 128 → n ≤ q → AllPending pending reps list n
+all_end {list = list} L names unnamed few h = record {
   flags = L.flags;
-  names = L.names;
+  names = names;
   listed = record {
     room = L.room;
     few = few;
@@ -147,46 +124,18 @@ all_end {list = list} L few h = record {
     all = λ q l f. (q, (l, L.listed q (omega arith)));
   };
   waiting = λ q l. L.waiting q (omega arith);
-  unnamed = λ c l. omega (arith, L.unnamed c (omega arith));
+  unnamed = unnamed;
 }
 
 -- ---- the callers of the moved states
 -- the moved states before number j have their new classes, and their callers are pending
-pub record MovedLoop (callers old₀ new moved : List ℕ) (m : ℕ) (old pending list : List ℕ) (len j : ℕ) : Type 0 where
+pub record MovedLoop (callers : List Row) (old₀ new moved : List ℕ) (m : ℕ) (old : List ℕ) (pending : List Bool) (list : List ℕ) (len j : ℕ) : Type 0 where
   pub long : length old ≡ length old₀
   pub flags : length pending ≡ 128
   pub queue : Queue pending list (length old₀) len
   pub left : (q : ℕ) → q < length old₀ → (at new q ≡ at old q) ⊎ ((i : ℕ) × ((j ≤ i) × (i < m) × (at moved i ≡ q)))
   pub passed : (i : ℕ) → i < j → (q : ℕ) → q < length old₀ → Flagged callers (at moved i) q → Placed pending q → ⊥
 
-pub moved_start : {callers old new moved pending list : List ℕ} {m : ℕ} → Moved old new moved m → ((q : ℕ) → q < length old → Placed pending q) → length pending ≡ 128 → length list ≡ 128 → MovedLoop callers old new moved m old pending list 0 0
-moved_start M z f l = record {
-  long = refl;
-  flags = f;
-  queue = record { listed = record { room = l; few = omega arith; states = λ j h. absurd (omega arith); all = λ q h d. absurd (d (z q h)) }; counted = omega arith };
-  left = λ q h. ⊎_elim inl (λ w. inr (w.0, (omega arith, w.1.0, w.1.1))) (M.all q h);
-  passed = λ i h. absurd (omega arith);
-}
-
-module _ {callers old₀ new moved : List ℕ} {m : ℕ} {old pending list : List ℕ} {len j p : ℕ} (L : MovedLoop callers old₀ new moved m old pending list len j) (M : Moved old₀ new moved m) (h : j < m) (e : p ≡ at moved j) where
+module _ {callers : List Row} {old₀ new moved : List ℕ} {m : ℕ} {old : List ℕ} {pending : List Bool} {list : List ℕ} {len j p : ℕ} (L : MovedLoop callers old₀ new moved m old pending list len j) (M : Moved old₀ new moved m) (h : j < m) (e : p ≡ at moved j) where
   pub moved_state : p < length old₀
   moved_state = rw e (M.states j h)
-
-  pub moved_next : {n : ℕ} {pending' list' : List ℕ} {len' : ℕ} → n ≡ length old₀ → FlagsCallers callers p n pending pending' list' len' → MovedLoop callers old₀ new moved m (set old p (at new p)) pending' list' len' (j + 1)
-  moved_next z F = record {
-    long = length-set old p (at new p) ∙ L.long;
-    flags = F.flags;
-    queue = rw z at F.queue;
-    left = λ q l. by_cases (ℕ_discrete q p)
-        (λ x. inl (rw x (sym (get_or-set_same old p (at new p) 0 (omega (arith, L.long, moved_state))))))
-        (λ x. ⊎_elim (λ w. inl (w ∙ sym (get_or-set_other old p q (at new p) 0 x))) (λ w. let y : w.0 ≡ j → ⊥ = λ y. x (sym w.1.2 ∙ ap (at moved) y ∙ sym e) in inr (w.0, (omega arith, w.1.1, w.1.2))) (L.left q l));
-    passed = λ i l. by_cases (ℕ_discrete i j) (λ x q k G d. F.flagged q (omega arith) (rw (x, ← e) at G) d) (λ x q k G d. L.passed i (omega arith) q k G (F.still q d));
-  }
-
-pub moved_end : {callers old₀ new moved : List ℕ} {m : ℕ} {old pending list : List ℕ} {len j : ℕ} → MovedLoop callers old₀ new moved m old pending list len j → Moved old₀ new moved m → m ≤ j → FlagsMoved callers old₀ new old pending list len
-moved_end L M h = record {
-  flags = L.flags;
-  same = λ q l. ⊎_elim (λ w. w) (λ w. absurd (omega arith)) (L.left q l);
-  listed = L.queue.listed;
-  flagged = λ r q k l f F d. ⊎_elim (λ w. f w) (λ w. L.passed w.0 (omega arith) q l (rw w.1.1 F) d) (M.all r k);
-}

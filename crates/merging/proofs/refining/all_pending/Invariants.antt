@@ -1,10 +1,6 @@
 -- `all_pending` meets its contract. The invariant is `AllLoop`. Assumes nothing.
 use Rattle.merging.proofs.Worklist.{AllLoop}
-use Prim.Native.Nat.{◌-◌}
 use Rattle.merging.proofs.refining.all_pending.Given as goal
 
 abbrev pub invariant-loop-q : goal.invariant-loop-q
-invariant-loop-q l = AllLoop l.pending l.reps l.list l.q
-
-abbrev pub decreases-loop-q : goal.decreases-loop-q
-decreases-loop-q l = l.n - l.q
+invariant-loop-q l = AllLoop l.placing.pending l.list.bytes l.list.len l.q

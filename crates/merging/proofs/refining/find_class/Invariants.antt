@@ -1,10 +1,7 @@
--- `find_class` meets its contract. The invariant: the state is not of the classes passed. Assumes nothing.
-use Rattle.merging.proofs.Rounds.{Misses}
-use Prim.Native.Nat.{ℕ, ◌-◌, ◌≤◌, ◌<◌}
+-- `find_class` meets its contract. The invariant: the classes passed do not take the state. Assumes nothing.
+use Prim.Native.Nat.{ℕ, ◌≤◌, ◌<◌}
+use Rattle.merging.specs.Inner.Refining.{Takes}
 use Rattle.merging.proofs.refining.find_class.Given as goal
 
 abbrev pub invariant-loop-k : goal.invariant-loop-k
-invariant-loop-k l = (l.base ≤ l.k) × (l.k ≤ l.count) × ((j : ℕ) → j < l.k → l.base ≤ j → Misses l.ins l.starts l.marks l.old l.reps l.p j)
-
-abbrev pub decreases-loop-k : goal.decreases-loop-k
-decreases-loop-k l = l.count - l.k
+invariant-loop-k l = (j : ℕ) → l.base ≤ j → j < l.k → Takes l.bodies.ins.now l.bodies.starts.now l.bodies.marks.now l.old l.reps l.p j → ⊥

@@ -1,10 +1,6 @@
 -- `flag_callers` meets its contract. The invariant: the callers passed are pending. Assumes nothing.
 use Rattle.merging.proofs.Worklist.{FlagLoop}
-use Prim.Native.Nat.{◌-◌}
 use Rattle.merging.proofs.refining.flag_callers.Given as goal
 
 abbrev pub invariant-loop-q : goal.invariant-loop-q
-invariant-loop-q l = FlagLoop l.callers l.r l.n l.initial.pending l.to l.pending l.list l.count l.q
-
-abbrev pub decreases-loop-q : goal.decreases-loop-q
-decreases-loop-q l = l.to - l.q
+invariant-loop-q l = FlagLoop l.callers l.r l.n l.initial.pending l.pending l.list.bytes l.list.len l.q

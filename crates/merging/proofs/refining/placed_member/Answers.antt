@@ -1,16 +1,16 @@
--- `placed_member` meets its contract: the states from `start` on, and then those before. Assumes nothing.
+-- `placed_member` meets its contract. The states from `start` on, and then those before. Assumes nothing.
+use Rattle.merging.proofs.Rounds.{none_if}
 use mathlib.Core.Logic.{by_cases}
+use mathlib.Core.Path.{sym, ◌∙◌}
 use native.Mathlib.Decide.{dec_lt}
 use native.Mathlib.Omega.{arith}
 use Rattle.merging.proofs.refining.placed_member.Goals as goal
 
-pub returns-then-r-start : goal.returns-then-r-start
-returns-then-r-start c = record { found = λ h. c.find_placed-r.ensures.found c.if-r-start.true; none = λ l s. absurd (omega arith) }
-
 pub returns : goal.returns
 returns c =
-    let a = c.args in
+    let b = c.find_placed-behind in
+    let f = c.find_placed.ensures in
     record {
-      found = λ h. absurd (omega arith);
-      none = λ l s q h e z. by_cases (dec_lt q a.start) (λ b. c.find_placed-r.ensures.none q (omega arith) (omega arith) e z) (λ b. c.find_placed-q.ensures.none q (omega arith) (omega arith) e z);
+      found = λ q e. let w = f.found q e in (omega (arith, w.0, c.requires.1), w.1, w.2);
+      none = λ e q h x z. by_cases (dec_lt q c.args.start) (λ l. f.none e q (omega arith) l x z) (λ l. b.ensures.none (none_if b.result (sym c.is_some.ensures ∙ c.if-is_some.false)) q (omega arith) h x z);
     }

@@ -3,8 +3,8 @@ use Rattle.merging.proofs.Stable.{RefineLoop, left}
 use lib.ListN.{length}
 use Rattle.merging.proofs.refining.refine_more.Given as goal
 
-abbrev pub invariant-loop-k : goal.invariant-loop-k
-invariant-loop-k l = RefineLoop l.ins l.starts l.marks l.initial.old l.callers l.old l.new l.pending l.reps l.list l.moved l.base l.k
+abbrev pub invariant-loop-moved : goal.invariant-loop-moved
+invariant-loop-moved l = RefineLoop l.bodies.ins.now l.bodies.starts.now l.bodies.marks.now l.initial.old l.callers l.old l.new l.placing.pending l.placing.reps l.list.bytes l.moved.bytes l.base l.moved.len
 
-abbrev pub decreases-loop-k : goal.decreases-loop-k
-decreases-loop-k l = left (length l.initial.old) l.base l.k
+abbrev pub decreases-loop-moved : goal.decreases-loop-moved
+decreases-loop-moved l = left (length l.initial.old) l.base l.moved.len

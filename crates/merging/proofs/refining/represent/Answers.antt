@@ -1,21 +1,39 @@
 -- `represent` meets its contract. Assumes nothing.
-use Rattle.merging.proofs.Rounds.{made_represents, placed_represents}
-use Rattle.classes.specs.Inner.Classes.{at}
+use Rattle.merging.proofs.Rounds.{Looked, looked_from, looked_nowhere, member_or, placed_represents, made_represents}
+use Rattle.merging.specs.Inner.Refining.{Member, standing}
+use Rattle.std.specs.Prelude.{Some, false}
 use lib.ListN.{set}
-use mathlib.Core.Path.{◌≡◌, sym, ap, ◌∙◌}
+use mathlib.Core.Path.{◌≡◌, refl, sym, ap, ◌∙◌}
 use native.Mathlib.Omega.{arith}
 use Rattle.merging.proofs.refining.represent.Goals as goal
-use Rattle.merging.proofs.refining.represent.Goals.{then-q-n, else-q-n}
+use Rattle.merging.proofs.refining.represent.Goals.{in-Some, in-None, in-Some-placed, in-None-placed}
 
-pub overflow_cast-reps : goal.overflow_cast-reps
-overflow_cast-reps c = elim c.if-q-n.branch [ then-q-n w ↦ omega (arith, w.find_member-q.ensures.there, w.q-is) | else-q-n w ↦ omega arith ]
+pub bounds-placing-q : goal.bounds-placing-q
+bounds-placing-q c = omega (arith, c.unwrap_or-q.ensures, (member_or c.find_member.result c.find_member.ensures c.requires.0).there, c.requires.1)
+
+pub overflow_cast-placing : goal.overflow_cast-placing
+overflow_cast-placing c =
+    let a = c.args in
+    let C : Looked a.classes.now a.placing.now.pending a.placing.now.reps a.c c.match-placing-from.placed = elim c.match-placing-from.branch [
+      | in-Some w ↦ rw w.placed-is (looked_from w.placed_member-placed.ensures)
+      | in-None w ↦ rw w.placed-is (looked_nowhere a.placing.now.reps a.c (ap (standing a.placing.now.reps) (sym c.from.ensures) ∙ w.in-None.is))
+    ] in
+    elim c.match-placed.branch [
+      | in-Some-placed w ↦ omega (arith, (C.found _ w.in-Some-placed.is).0, w.q-is, c.requires.1)
+      | in-None-placed w ↦ omega (arith, w.unwrap_or-q.ensures, (member_or w.find_member.result w.find_member.ensures c.requires.0).there, w.q-is, c.requires.1)
+    ]
 
 pub returns : goal.returns
 returns c =
-    let C = c.placed_member-q.ensures in
     let a = c.args in
-    let e : set a.reps.now c.wide-3.result c.if-q-n.q ≡ set a.reps.now a.c c.if-q-n.q = ap (λ k. set a.reps.now k c.if-q-n.q) c.wide-3.ensures in
-    elim c.if-q-n.branch [
-      | then-q-n w ↦ made_represents C e w.if-q-n.true (c.wide-2.ensures ∙ ap (at a.reps.now) c.wide.ensures) (rw w.q-is w.find_member-q.ensures) (w.pending-is ∙ ap (λ q. set a.pending.now q 0) (sym w.q-is))
-      | else-q-n w ↦ placed_represents C e w.if-q-n.false w.pending-is w.q-is
+    let C : Looked a.classes.now a.placing.now.pending a.placing.now.reps a.c c.match-placing-from.placed = elim c.match-placing-from.branch [
+      | in-Some w ↦ rw w.placed-is (looked_from w.placed_member-placed.ensures)
+      | in-None w ↦ rw w.placed-is (looked_nowhere a.placing.now.reps a.c (ap (standing a.placing.now.reps) (sym c.from.ensures) ∙ w.in-None.is))
+    ] in
+    let e : set a.placing.now.reps c.from-2.result (Some c.match-placed.q) ≡ set a.placing.now.reps a.c (Some c.match-placed.q) = ap (λ k. set a.placing.now.reps k (Some c.match-placed.q)) c.from-2.ensures in
+    elim c.match-placed.branch [
+      | in-Some-placed w ↦ rw w.placing-is (placed_represents C e w.in-Some-placed.is refl w.q-is)
+      | in-None-placed w ↦
+          let m : Member a.classes.now a.c c.match-placed.q = rw (w.q-is, w.unwrap_or-q.ensures) (member_or w.find_member.result w.find_member.ensures c.requires.0) in
+          rw w.placing-is (made_represents C e w.in-None-placed.is m (ap (λ q. set a.placing.now.pending q false) (sym w.q-is)))
     ]
