@@ -83,18 +83,10 @@ module _ {held used : ℕ} {rs : List Record} (F : Follow held used rs) where
   pub body_end : (i : ℕ) → i ≤ held → (record_at rs i).start + (record_at rs i).size ≤ used
   body_end i h = omega (arith, F.starts i h, F.sum, total_next rs i, total_mono rs (suc i) (suc held) (omega arith))
 
-  first_start : (record_at rs 0).start ≡ 0
-  unfolding total
-  first_start = F.starts 0 (omega arith)
-
 -- ---- the records one by one
-module _ {rs : List Record} {i at used : ℕ} (P : Passed rs i at) (h : i < length rs) (Q : Passed rs (length rs) used) where
-  -- the next body starts there, and ends within what is used
-  pub next_start : (record_at rs i).start ≡ at
-  next_start = Q.starts i h ∙ sym P.sum
-
-  pub next_size : at + (record_at rs i).size ≤ used
-  next_size = omega (arith, P.sum, Q.sum, total_next rs i, total_mono rs (suc i) (length rs) (omega arith))
+-- the next body ends within what is used
+pub next_size : {rs : List Record} {i at used : ℕ} → Passed rs i at → i < length rs → Passed rs (length rs) used → at + (record_at rs i).size ≤ used
+next_size {rs} {i} P h Q = omega (arith, P.sum, Q.sum, total_next rs i, total_mono rs (suc i) (length rs) (omega arith))
 
 -- the first n records of more
 module _ (rs : List Record) (n : ℕ) (h : n ≤ length rs) where

@@ -48,7 +48,7 @@ fn sound(h: Head, records: &[Record]) -> bool
     requires { 33 ≤ length records.now }
     ensures { Decides (Sound h records.now) result }
 {
-    if h.answered == 18446744073709551615 {
+    if h.answered == u64::MAX {
         return false;
     }
     if records[0].count != 0 {

@@ -69,11 +69,9 @@ fn count_answer(h: Head) -> Head
     requires { answers_of h < too_many }
     ensures { result ≡ counted_head h }
 {
-    let answered = h.answered + 1;
     Head {
-        held: h.held,
-        used: h.used,
-        answered,
+        answered: h.answered + 1,
+        ..h
     }
 }
 
@@ -83,18 +81,19 @@ fn append(h: Head, area: &mut [u8], bytes: &[u8]) -> Entry
     ensures { (result ≡ added_entry h bytes.now) × (area.new ≡ sets area.old h.used bytes.now) }
 {
     copy_at(bytes, area, h.used);
+    let size = bytes.len();
     let next = h.held + 1;
     let head = Head {
         held: next,
-        used: h.used + bytes.len(),
-        answered: h.answered,
+        used: h.used + size,
+        ..h
     };
     Entry {
         head: count_answer(head),
         number: next,
         new: Record {
             start: h.used,
-            size: bytes.len(),
+            size,
             count: 1,
         },
     }
@@ -109,9 +108,8 @@ fn count(h: Head, n: usize, r: Record) -> Entry
         head: count_answer(h),
         number: n,
         new: Record {
-            start: r.start,
-            size: r.size,
             count: r.count + 1,
+            ..r
         },
     }
 }

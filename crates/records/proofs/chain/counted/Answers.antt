@@ -1,5 +1,4 @@
 -- `counted` meets its contract: a record adds its count. Assumes nothing.
-use Rattle.std.proofs.Common.{◌∙◌}
 use Rattle.records.proofs.Chains.{counts_none, counts_more}
 use Rattle.records.proofs.chain.counted.Goals as goal
 
@@ -7,4 +6,4 @@ pub loop-record-init : goal.loop-record-init
 loop-record-init c = counts_none c.args.records.now
 
 pub loop-record-preserved : goal.loop-record-preserved
-loop-record-preserved c = c.saturating_add-sum.ensures ∙ counts_more _ _ c.loop-record.invariant
+loop-record-preserved c = let e = counts_more c.args.records.now c.loop-record.record-index c.loop-record.invariant in cc

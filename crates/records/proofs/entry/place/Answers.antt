@@ -1,14 +1,17 @@
 -- `place` meets its contract: question, claim and commit. Assumes nothing.
-use Rattle.std.proofs.Common.{sym}
+use Rattle.std.proofs.Common.{Err, sym, subst}
 use Rattle.std.proofs.lemmas.Result.{err_from_is_err_and}
+use Rattle.records.specs.Inner.Steps.{Numbers}
 use Rattle.records.proofs.Entering.{no_place, refused_by, other_claim, countable, places_known, places_new}
 use Rattle.records.proofs.entry.place.Goals as goal
 
 pub returns-in_err-would : goal.returns-in_err-would
 returns-in_err-would c =
     let p = err_from_is_err_and c.from_residual.result c.from_residual.ensures.1 in
+    let a = c.args in
     let q = c.in_err-would.field-0.0 in
-    λ s K. rw (p.1, p.2) (refused_by c.args.submission.claim q (no_place K q (c.in_err-would.ensures c.args.records.now c.requires.1)))
+    let N : Numbers a.h a.records.now a.area.now a.bytes.now (Err q) = subst (λ r. Numbers a.h a.records.now a.area.now a.bytes.now r) c.in_err-would.was (c.number_for.ensures a.records.now c.requires.1) in
+    λ s K. rw (p.1, p.2) (refused_by a.submission.claim q (no_place K q N))
 
 pub returns-in_err-number : goal.returns-in_err-number
 returns-in_err-number c =
