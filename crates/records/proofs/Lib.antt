@@ -1,5 +1,3 @@
--- Chains: bodies that follow one another. Surveys: what the records tell. Entering, Writing: the answers of an entry and of making.
+-- Chains: bodies that follow one another. Entering: the answers of an entry.
 pub mod Chains
-pub mod Surveys
 pub mod Entering
-pub mod Writing

@@ -1,5 +1,5 @@
 -- What the entry points of a registry answer. In each, h, rs and area are the head, the records and the area as lent, and h', rs' and area' as left.
-use Rattle.std.specs.Prelude.{Result, ℕ, ◌+◌, ◌≤◌, ◌<◌, List, [], ◌∷◌, ◌++◌, ◌⊎◌, ◌≡◌, length, set, drop, replicate}
+use Rattle.std.specs.Prelude.{None, Option, Some, Result, ℕ, ◌+◌, ◌≤◌, ◌<◌, List, [], ◌∷◌, ◌++◌, ◌⊎◌, ◌≡◌, length, set, drop, replicate}
 use Rattle.trees.specs.declared.refusal.Refusal.{Refusal}
 use Rattle.records.specs.declared.book.Foretold.{Foretold}
 use Rattle.trees.specs.Refusal.{outcome_of, Checks, done, check, Judged}
@@ -9,8 +9,6 @@ use Rattle.formats.specs.Sheet.{longest, file, sheet_check}
 use Rattle.earliest.specs.Answers.{form_check}
 use Rattle.canonical.specs.Answers.{NormalFile}
 use Rattle.records.specs.Book.{no_record, stock_record, body_record, counted_record, new_head, counted_head, grown_head, record_at, body, Chained}
-use Rattle.records.specs.declared.book.Claim.{Claim}
-use Rattle.records.specs.declared.book.Claim.TheVariants as claiming
 use Rattle.records.specs.declared.book.Head.{Head}
 use Rattle.records.specs.declared.book.Record.{Record}
 use Rattle.records.specs.declared.book.Submission.{Submission}
@@ -130,9 +128,9 @@ Commits s m h rs area h' rs' area' r =
     (outcome_of r)
 
 -- an entry where any number is claimed, a commit where one is
-abbrev pub RegistersBy : Claim → List ℕ → Head → List Record → List ℕ → Head → List Record → List ℕ → Result ℕ Refusal → Type 0
-RegistersBy claiming.Any s h rs area h' rs' area' r = Enters s h rs area h' rs' area' r
-RegistersBy (claiming.Number m) s h rs area h' rs' area' r = Commits s m h rs area h' rs' area' r
+abbrev pub RegistersBy : Option ℕ → List ℕ → Head → List Record → List ℕ → Head → List Record → List ℕ → Result ℕ Refusal → Type 0
+RegistersBy None s h rs area h' rs' area' r = Enters s h rs area h' rs' area' r
+RegistersBy (Some m) s h rs area h' rs' area' r = Commits s m h rs area h' rs' area' r
 
 abbrev pub Registers : List ℕ → Submission → Head → List Record → List ℕ → Head → List Record → List ℕ → Result ℕ Refusal → Type 0
 Registers s u h rs area h' rs' area' r = RegistersBy u.claim s h rs area h' rs' area' r

@@ -1,118 +1,67 @@
-// Whether head, records and area are a registry: record after record, and then what the records told.
-ghost use Rattle.std.specs.Prelude.{ℕ, ◌+◌, ◌≤◌, min, List, ◌≡◌, length};
+// Whether head, records and area are a registry.
+ghost use Rattle.std.specs.Prelude.{ℕ, ◌≤◌, ◌<◌, min, ◌≡◌, length};
 ghost use Rattle.trees.specs.Refusal.{Decides};
-ghost use Rattle.records.specs.Book.{no_record, record_at, too_many, Sound, Chained};
-ghost use Rattle.records.specs.Inner.Surveys.{Surveyed, Told, kept_at};
-ghost use Rattle.records.specs.declared.book.Head.{Head as Heads};
-ghost use Rattle.records.specs.declared.book.Record.{Record as Records};
+ghost use Rattle.records.specs.Book.{no_record, record_at, tally, too_many, Sound, Chained};
+ghost use Rattle.records.specs.Inner.Steps.{Passed};
 
-use crate::book::{Head, Record, Survey};
+use crate::book::{Head, Record};
+use crate::search::body_of;
 use trees::alphabet::alphabets_right;
 
-// Before the first record.
-pub fn begin() -> Survey
-    ensures { (h : Heads) (number : ℕ) (rs : List Records) → Surveyed h number rs 0 result }
+// Whether each body starts where the one before ends, the first at byte 0, and the last ends at byte `used`.
+fn follow(records: &[Record], used: usize) -> bool
+    ensures { Decides (Passed records.now (length records.now) used) result }
 {
-    let none = Record {
-        start: 0,
-        size: 0,
-        count: 0,
-    };
-    Survey {
-        right: true,
-        end: 0,
-        counted: 0,
-        first: none,
-        wanted: none,
+    let mut end = 0;
+    for record in records {
+        if record.start != end {
+            return false;
+        }
+        if record.size > used - end {
+            return false;
+        }
+        end += record.size;
     }
+    end == used
 }
 
-// The record r where i is this number, else the one kept before.
-fn keep_at(kept: Record, i: usize, number: usize, r: Record) -> Record
-    ensures { result ≡ kept_at kept i number r }
+// Whether these records are unused.
+fn unused(records: &[Record]) -> bool
+    ensures { Decides ((i : ℕ) → i < length records.now → record_at records.now i ≡ no_record) result }
 {
-    if i == number { r } else { kept }
+    records.iter().all(|record| *record == Record::UNUSED)
 }
 
-// Whether a record is unused.
-fn is_unused(r: Record) -> bool
-    ensures { Decides (r ≡ no_record) result }
+// What the records count together, and 18,446,744,073,709,551,615 for as many and more.
+fn counted(records: &[Record]) -> u64
+    ensures { result ≡ min (tally records.now (length records.now)) too_many }
 {
-    if r.start != 0 {
+    let mut sum: u64 = 0;
+    for record in records {
+        sum = sum.saturating_add(record.count);
+    }
+    sum
+}
+
+// Whether the counts are sound.
+fn sound(h: Head, records: &[Record]) -> bool
+    requires { 33 ≤ length records.now }
+    ensures { Decides (Sound h records.now) result }
+{
+    if h.answered == u64::MAX {
         return false;
     }
-    if r.size != 0 {
+    if records[0].count != 0 {
         return false;
     }
-    if r.count != 0 {
-        return false;
-    }
-    true
+    counted(&records[..33]) == h.answered
 }
 
-// The sum, and 18,446,744,073,709,551,615 where it is as much or more.
-fn plus(a: u64, b: u64) -> u64
-    ensures { result ≡ min (a + b) too_many }
+// Whether the head, the records and the area are a registry.
+pub(crate) fn chained(h: Head, records: &[Record], area: &[u8]) -> bool
+    ensures { Decides (Chained h records.now area.now) result }
 {
-    if b > 18446744073709551615 - a {
-        return 18446744073709551615;
-    }
-    a + b
-}
-
-// Record i is r: a body that is held starts where the one before ends, and the records behind are unused.
-pub fn look(s: Survey, i: usize, h: Head, number: usize, r: Record) -> Survey
-    requires { s.end ≤ h.used }
-    ensures { (rs : List Records) → r ≡ record_at rs i → Surveyed h number rs i s → Surveyed h number rs (i + 1) result }
-{
-    let end = s.end;
-    let first = keep_at(s.first, i, 0, r);
-    let wanted = keep_at(s.wanted, i, number, r);
-    let counted = plus(s.counted, r.count);
-    let mut t = Survey {
-        right: false,
-        end: end,
-        counted: counted,
-        first: first,
-        wanted: wanted,
-    };
-    if !s.right {
-        return t;
-    }
-    if i > h.held {
-        t.right = is_unused(r);
-        return t;
-    }
-    if r.start != end {
-        return t;
-    }
-    if r.size > h.used - end {
-        return t;
-    }
-    t.right = true;
-    t.end = end + r.size;
-    t
-}
-
-// Whether the counts are sound, of a head and records that told s.
-fn sound(h: Head, s: Survey) -> bool
-    ensures { (k : ℕ) (rs : List Records) → Surveyed h k rs 33 s → Decides (Sound h rs) result }
-{
-    if h.answered == 18446744073709551615 {
-        return false;
-    }
-    if s.first.count != 0 {
-        return false;
-    }
-    s.counted == h.answered
-}
-
-// Whether the head, the n records that told s and the area are a registry.
-pub(crate) fn chained(h: Head, n: usize, s: Survey, area: &[u8]) -> bool
-    requires { (k : ℕ) × Told h k n s }
-    ensures { (k : ℕ) (rs : List Records) → length rs ≡ n → Surveyed h k rs (min n 33) s → Decides (Chained h rs area.now) result }
-{
-    if n < 33 {
+    if records.len() < 33 {
         return false;
     }
     if h.held > 32 {
@@ -121,15 +70,14 @@ pub(crate) fn chained(h: Head, n: usize, s: Survey, area: &[u8]) -> bool
     if h.used > area.len() {
         return false;
     }
-    if !sound(h, s) {
+    if !follow(&records[..h.held + 1], h.used) {
         return false;
     }
-    if !s.right {
+    if !unused(&records[h.held + 1..33]) {
         return false;
     }
-    if s.end != h.used {
+    if !sound(h, records) {
         return false;
     }
-    let end = s.first.size;
-    alphabets_right(&area[0..end])
+    alphabets_right(body_of(records[0], area))
 }

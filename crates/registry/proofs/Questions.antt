@@ -20,7 +20,7 @@ use Rattle.trees.proofs.Judging.{refuse, pass, accept, accepted_holds, refused_f
 use Rattle.records.specs.Answers.{Gets, Gives, entry_check, Enters, Would, Questions, Commits}
 use Rattle.records.specs.declared.book.Head.{Head}
 use Rattle.records.specs.declared.book.Record.{Record}
-use Rattle.records.proofs.Entering.{clean_unique, gets_unique}
+use Rattle.records.proofs.Entering.{clean_unique, gets_unique, unanswered}
 use Rattle.registry.specs.Calls.{Book, answer_of, EntersFile, Entries}
 use Rattle.registry.specs.Questions.{Call, entry, commit, question, foretold, CommitsFile, Calling, Calls, enters_file, accepteds, Idle, Commitment, CallsOrderly}
 use Rattle.registry.proofs.Keeping.{answered_by}
@@ -96,7 +96,7 @@ module _ {s : List ℕ} {h : Head} {rs : List Record} {area : List ℕ} {h' : He
 
     -- and is refused as the entry is
     pub entry_unanswered : (q : Refusal) → Enters s h rs area h' rs' area' (Err q) → Questions s h rs area before before (Err q)
-    entry_unanswered q J = pass long (refused_early (entry_check s h rs area done) done refl J)
+    entry_unanswered q J = unanswered q long J
 
 -- ---- a list of calls is one of entries
 commit_entry : {b b' : Book} {s : List ℕ} {claim : ℕ} (n : ℕ) (r : Result ℕ Refusal) → Commits s claim b.head b.records b.area b'.head b'.records b'.area r → answer_of r ≡ some n → EntersFile b s (some n) b'

@@ -24,7 +24,8 @@ use Rattle.records.specs.Answers.{CleanFile, Lowest, NotHeld, Room, HasPlace, Kn
 use Rattle.records.specs.Book.{answers_of, too_many, new_head, counted_head, grown_head, no_record, stock_record, body_record, counted_record, record_at, body, tally, Follow, Unused, Lies, Sound, Chained}
 use Rattle.records.specs.declared.book.Head.{Head}
 use Rattle.records.specs.declared.book.Record.{Record}
-use Rattle.records.proofs.Chains.{Passed, passed_none, passed_more, passed_same, all_passed, follow_passed, follow_places}
+use Rattle.records.specs.Inner.Steps.{Passed}
+use Rattle.records.proofs.Chains.{passed_none, passed_more, passed_same, all_passed, follow_passed, follow_places}
 use Rattle.records.proofs.Entering.{clean_unique, lowest_unique}
 use Rattle.registry.specs.Calls.{Book, MadeWith, EntersFile, Entries, answer_of, Stays}
 use Rattle.registry.proofs.Keeping.{Accepted, answered_by, body_of, unchanged_stays, accepted_stays, known_other, known_places, known_stays, added_other, added_record, added_stays, put_there, gives_counts, tally_one}

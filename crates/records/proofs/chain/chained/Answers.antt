@@ -1,42 +1,32 @@
--- `chained` meets its contract: each test that fails rules a registry out, and the tests together make one. Assumes nothing.
-use Prim.Native.Nat.{◌≤◌}
-use native.Mathlib.Omega.{arith}
-use mathlib.Core.Path.{ap}
-use borrow.Author.Tests.{not-true, not-false}
+-- `chained` meets its contract: a test that fails rules a registry out, and the tests together make one. Assumes nothing.
+use Rattle.std.proofs.Common.{arith}
 use Rattle.trees.proofs.Deciding.{decides_no, decides_same, refuted, held}
-use Rattle.records.proofs.Chains.{body_end, stock_part}
-use Rattle.records.proofs.Surveys.{all_told, first_is, told_follow, told_unused, not_wrong, chained_sum}
+use Rattle.records.proofs.Chains.{body_end, follow_first, first_follow, unused_behind, behind_unused}
 use Rattle.records.proofs.chain.chained.Goals as goal
 
-pub returns-then-n-lt33 : goal.returns-then-n-lt33
-returns-then-n-lt33 c = λ k rs l S. decides_no (λ C. omega (arith, C.lies.many, c.if-n-lt33.true))
+pub returns-then-not-follow : goal.returns-then-not-follow
+returns-then-not-follow c = decides_no (λ C. refuted c.follow.ensures c.if-not-follow.true-raw (first_follow c.args.records.now C.lies.few C.lies.many C.lies.follow))
 
-pub returns-then-h-gt32 : goal.returns-then-h-gt32
-returns-then-h-gt32 c = λ k rs l S. decides_no (λ C. omega (arith, C.lies.few, c.if-h-gt32.true))
+pub returns-then-not-unused : goal.returns-then-not-unused
+returns-then-not-unused c = decides_no (λ C. refuted c.unused.ensures c.if-not-unused.true-raw (behind_unused c.args.records.now C.lies.few C.lies.many C.lies.unused))
 
-pub returns-then-h-area : goal.returns-then-h-area
-returns-then-h-area c = λ k rs l S. decides_no (λ C. omega (arith, C.lies.inside, c.if-h-area.true))
-
-pub returns-then-not-sound : goal.returns-then-not-sound
-returns-then-not-sound c = λ k rs l S. decides_no (λ C. refuted (c.sound.ensures k rs (all_told S (omega (arith, l, C.lies.many)))) c.if-not-sound.true-raw C.counts)
-
-pub returns-then-not-s : goal.returns-then-not-s
-returns-then-not-s c = λ k rs l S. decides_no (λ C. not_wrong S l C (not-true _ c.if-not-s.true))
-
-pub returns-then-s-h : goal.returns-then-s-h
-returns-then-s-h c = λ k rs l S. decides_no (λ C. c.if-s-h.true (chained_sum S l C))
-
-pub slice_bounds-alphabets_right-end : goal.slice_bounds-alphabets_right-end
-slice_bounds-alphabets_right-end c = let T = c.requires.1 in let n : 33 ≤ c.args.n = omega (arith, c.if-n-lt33.false) in let F = told_follow T.told n c.if-h-gt32.false (not-false _ c.if-not-s.false) c.if-s-h.false in omega (arith, body_end F 0 (omega arith), ap (λ w. w.size) (first_is T.told n), c.if-h-area.false)
+pub body_of-requires : goal.body_of-requires
+body_of-requires c = omega (arith, body_end (follow_first c.args.records.now (omega arith) (omega arith) (held c.follow.ensures c.if-not-follow.false-raw)) 0 (omega arith))
 
 pub returns : goal.returns
-returns c = λ k rs l S.
-    let n : 33 ≤ c.args.n = omega (arith, c.if-n-lt33.false) in
-    let few = c.if-h-gt32.false in
-    let right = not-false _ c.if-not-s.false in
-    let F = told_follow S n few right c.if-s-h.false in
-    let e = stock_part c.args.area.now F (first_is S n) in
+returns c =
+    let rs = c.args.records.now in
     decides_same
-    (λ A. record { lies = record { many = omega (arith, l); few = few; follow = F; inside = c.if-h-area.false; unused = told_unused S n few right; stock = rw e at A }; counts = held (c.sound.ensures k rs (all_told S n)) c.if-not-sound.false-raw })
-    (λ C. rw e C.lies.stock)
+    (λ A. record {
+      lies = record {
+        many = omega arith;
+        few = omega arith;
+        follow = follow_first rs (omega arith) (omega arith) (held c.follow.ensures c.if-not-follow.false-raw);
+        inside = omega arith;
+        unused = unused_behind rs (omega arith) (omega arith) (held c.unused.ensures c.if-not-unused.false-raw);
+        stock = rw c.body_of.ensures at A;
+      };
+      counts = held c.sound.ensures c.if-not-sound.false-raw;
+    })
+    (λ C. rw c.body_of.ensures C.lies.stock)
     c.alphabets_right.ensures

@@ -1,16 +1,12 @@
--- `sound` meets its contract: each test that fails rules sound counts out, and the tests together make them. Assumes nothing.
-use native.Mathlib.Omega.{arith}
-use mathlib.Core.Path.{ap}
+-- `sound` meets its contract: the tests together make the counts sound. Assumes nothing.
+use Rattle.std.proofs.Common.{◌≡◌, ◌∙◌, min, ap, arith}
 use borrow.Author.Tests.{eqb-true, eq-eqb}
-use Rattle.trees.proofs.Deciding.{decides_no}
-use Rattle.records.proofs.Surveys.{counts_told, counts_tell}
+use Rattle.records.specs.Book.{tally, too_many}
+use Rattle.records.proofs.Chains.{first_tally, counts_told, counts_tell}
 use Rattle.records.proofs.chain.sound.Goals as goal
 
-pub returns-then-h-eq18446744073709551615 : goal.returns-then-h-eq18446744073709551615
-returns-then-h-eq18446744073709551615 c = λ k rs T. decides_no (λ S. omega (arith, S.countable, c.if-h-eq18446744073709551615.true))
-
-pub returns-then-s-ne0 : goal.returns-then-s-ne0
-returns-then-s-ne0 c = λ k rs T. decides_no (λ S. omega (arith, ap (λ w. w.count) (T.first (omega arith)), S.stock, c.if-s-ne0.true))
-
 pub returns : goal.returns
-returns c = λ k rs T. record { sound = λ e. counts_tell T (omega arith) c.if-s-ne0.false (eqb-true _ _ e); complete = λ S. eq-eqb _ _ (counts_told T S) }
+returns c =
+    let rs = c.args.records.now in
+    let e : c.counted.result ≡ min (tally rs 33) too_many = c.counted.ensures ∙ ap (λ n. min n too_many) (first_tally rs 33 c.requires) in
+    record { sound = λ q. counts_tell e (omega arith) (omega arith) (eqb-true _ _ q); complete = λ S. eq-eqb _ _ (counts_told e S) }

@@ -1,12 +1,12 @@
--- `reply` meets its contract: question, and the clean file handed over. Assumes nothing.
-use mathlib.Core.Path.{refl}
-use Rattle.records.proofs.Entering.{asked_ready, delivered}
+-- `reply` meets its contract: the number, or the refusal. Assumes nothing.
+use Rattle.std.proofs.lemmas.Result.{err_from_is_err_and}
+use Rattle.records.proofs.Entering.{no_place, answers, unanswered}
 use Rattle.records.proofs.entry.reply.Goals as goal
 
-pub decide-would-requires : goal.decide-would-requires
-decide-would-requires c = asked_ready c.requires.0.asks
+pub returns-in_err-number : goal.returns-in_err-number
+returns-in_err-number c =
+    let p = err_from_is_err_and c.from_residual.result c.from_residual.ensures.1 in
+    λ s rs K F. rw (p.1, p.2) (unanswered c.in_err-number.field-0.0 c.requires.2 (no_place K c.in_err-number.field-0.0 (c.in_err-number.ensures rs F)))
 
 pub returns : goal.returns
-returns c =
-    let x = c.args in
-    λ s rs A F. delivered s x.h rs x.area.now x.bytes.now x.f.its x.out.now c.deliver.new.out c.decide-would.result c.deliver.result (c.decide-would.ensures s rs x.area.now x.bytes.now refl refl A F) c.deliver.ensures
+returns c = λ s rs K F. answers K c.requires.2 (c.in_ok-number.ensures rs F) c.copy_at.ensures

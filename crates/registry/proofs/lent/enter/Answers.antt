@@ -1,14 +1,12 @@
--- `enter` meets its contract: the bodies that are searched are those of a registry, and what `place` says is said of the records that `add` leaves. Assumes nothing.
-use Rattle.std.proofs.Common.{refl}
-use Rattle.records.specs.Inner.Steps.{Asks}
-use Rattle.records.proofs.Entering.{asked_placed}
+-- `enter` meets its contract: a refusal before the search is one of the entry or commit, and the bodies that are searched are those of a registry. Assumes nothing.
+use Rattle.std.proofs.lemmas.Result.{err_from_is_err_and}
+use Rattle.records.proofs.Entering.{chained_placed, refused_by}
 use Rattle.registry.proofs.lent.enter.Goals as goal
 
-pub find-f-requires : goal.find-f-requires
-find-f-requires c = asked_placed (c.ask-a.ensures.1 c.args.records.now refl c.survey-s.ensures)
+pub returns-in_err-size : goal.returns-in_err-size
+returns-in_err-size c =
+    let p = err_from_is_err_and c.from_residual.result c.from_residual.ensures.1 in
+    rw (p.1, p.2) (refused_by c.args.submission.claim c.in_err-size.field-0.0 c.in_err-size.ensures)
 
-pub returns : goal.returns
-returns c =
-    let a = c.args in
-    let asked : Asks a.sheet.now a.head.now a.records.now a.area.now c.beginning-bytes.result.now c.ask-a.result = rw c.beginning-bytes.ensures (c.ask-a.ensures.1 a.records.now refl c.survey-s.ensures) in
-    rw c.add.ensures (c.place-e.ensures a.sheet.now a.records.now asked c.find-f.ensures).enters
+pub find-found-requires : goal.find-found-requires
+find-found-requires c = chained_placed c.in_ok-size.ensures.1.chained

@@ -1,10 +1,7 @@
--- The invariant of `find`: what is found is what the bodies before i give. Assumes nothing.
-use Rattle.std.proofs.Common.{◌≤◌, ◌-◌, ◌+◌}
-use Rattle.records.specs.Inner.Steps.{Finds}
+-- The invariant of `find`: no body before is these bytes. Assumes nothing.
+use Rattle.std.proofs.Common.{◌≡◌, ℕ, ◌≤◌, ◌<◌}
+use Rattle.records.specs.Book.{body}
 use Rattle.registry.proofs.lent.find.Given as goal
 
-abbrev pub invariant-loop-i : goal.invariant-loop-i
-invariant-loop-i l = (1 ≤ l.i) × (l.i ≤ l.held + 1) × Finds (l.i - 1) l.rs l.area l.bytes l.f
-
-abbrev pub decreases-loop-i : goal.decreases-loop-i
-decreases-loop-i l = l.held + 1 - l.i
+abbrev pub invariant-loop-number : goal.invariant-loop-number
+invariant-loop-number l = (m : ℕ) → 1 ≤ m → m < l.number → body l.records l.area m ≡ l.bytes → ⊥

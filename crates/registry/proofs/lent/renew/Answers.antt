@@ -1,20 +1,11 @@
--- `renew` meets its contract: a turn writes one record more. Assumes nothing.
-use Rattle.std.proofs.Common.{◌≡◌, refl, arith, add-one}
-use Rattle.std.proofs.Math.ListN.{set}
-use mathlib.Core.Path.{ap₂}
-use Rattle.records.specs.Inner.Writes.{written}
+-- `renew` meets its contract. Assumes nothing.
+use Rattle.std.proofs.Common.{◌≡◌, ◌∙◌, refl, ap, length, take, replicate}
+use Rattle.std.proofs.Math.Seq.{length-take-le}
+use Rattle.records.specs.Book.{no_record}
 use Rattle.registry.proofs.lent.renew.Goals as goal
-
-pub loop-i-init : goal.loop-i-init
-unfolding written
-loop-i-init c = (omega arith, refl)
-
-pub loop-i-preserved : goal.loop-i-preserved
-unfolding written
-loop-i-preserved c =
-    (omega arith, rw add-one (ap₂ (λ l r. set l c.loop-i.i r) c.loop-i.invariant.1 c.fresh.ensures))
 
 pub returns : goal.returns
 returns c =
-    let e : c.loop-i.i ≡ c.args.n = omega arith in
-    rw e at c.loop-i.invariant.1
+    let n : length (take 33 c.args.records.now) ≡ 33 = length-take-le 33 c.args.records.now c.requires in
+    let e : c.fill.new.self ≡ replicate 33 no_record = c.fill.ensures.after (λ y h. h) ∙ ap (λ n. replicate n no_record) n in
+    rw e refl
