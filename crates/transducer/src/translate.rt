@@ -1,6 +1,5 @@
 // Translation (01: sewing): what the transducer of a file gives on an input tree.
-ghost use Rattle.std.specs.Prelude.{◌≡◌, ◌+◌, ◌/◌, ◌%◌, ◌^◌, ◌≤◌, ◌<◌, min, max, length, get_or, set, take, drop};
-ghost use Rattle.std.proofs.lemmas.List.Edits.{sets};
+ghost use Rattle.std.specs.Prelude.{◌≡◌, ◌+◌, ◌/◌, ◌%◌, ◌^◌, ◌≤◌, ◌<◌, min, max, length, get_or, set};
 ghost use Rattle.formats.specs.Inner.Layout.{body_number};
 ghost use Rattle.transducer.specs.Answers.{Translates};
 ghost use Rattle.transducer.specs.Inner.Machine.{Machine, TranslatesBy};
