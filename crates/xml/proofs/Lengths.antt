@@ -59,9 +59,6 @@ pub node_small : (r : ℕ) → node_size r ≤ 9
 node_small zero = omega arith
 node_small (suc r) = omega arith
 
-pub none_added : (outs s : List ℕ) → Added outs s 0 0
-none_added outs s = record { inside = omega arith; sized = omega arith; small = omega arith }
-
 module _ {outs s : List ℕ} {size i : ℕ} (P : Added outs s size i) where
   pub one_added : {k r z : ℕ} → i < length s → k ≡ get_or s i 0 → r ≡ get_or outs k 0 → z ≡ node_size r → Added outs s (size + z) (i + 1)
   one_added {k} {r} h e f g = record {
