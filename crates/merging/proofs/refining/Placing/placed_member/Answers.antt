@@ -1,10 +1,10 @@
--- `placed_member` meets its contract. The states from `start` on, and then those before. Assumes nothing.
+-- `Placing::placed_member` meets its contract. The states from `start` on, and then those before. Assumes nothing.
 use Rattle.merging.proofs.Rounds.{none_if}
 use mathlib.Core.Logic.{by_cases}
 use mathlib.Core.Path.{sym, ◌∙◌}
 use native.Mathlib.Decide.{dec_lt}
 use native.Mathlib.Omega.{arith}
-use Rattle.merging.proofs.refining.placed_member.Goals as goal
+use Rattle.merging.proofs.refining.Placing.placed_member.Goals as goal
 
 pub returns : goal.returns
 returns c =
