@@ -87,7 +87,14 @@ fn follow(
 }
 
 // Follows the address through the output of the transducer whose n, counts and marks these are.
-fn symbol_by(stock: &[u8], n: usize, counts: &[u8], marks: &[u8], s: &[u8], address: &[u8]) -> Result<Option<usize>, Refusal>
+fn symbol_by(
+    stock: &[u8],
+    n: usize,
+    counts: &[u8],
+    marks: &[u8],
+    s: &[u8],
+    address: &[u8],
+) -> Result<Option<usize>, Refusal>
     requires { Machine stock.now n counts.now marks.now }
     ensures { FindsBy stock.now n counts.now marks.now s.now address.now result }
 {
@@ -110,7 +117,12 @@ fn symbol_by(stock: &[u8], n: usize, counts: &[u8], marks: &[u8], s: &[u8], addr
 }
 
 // The symbol at `address` in what the transducer of the file `sheet` gives on the tree of the file `design`.
-pub fn symbol_at(stock: &[u8], sheet: &[u8], design: &[u8], address: &[u8]) -> Result<Option<usize>, Refusal>
+pub fn symbol_at(
+    stock: &[u8],
+    sheet: &[u8],
+    design: &[u8],
+    address: &[u8],
+) -> Result<Option<usize>, Refusal>
     ensures { FindsSymbol stock.now sheet.now design.now address.now result }
 {
     let n = read_transducer(stock, sheet)?;

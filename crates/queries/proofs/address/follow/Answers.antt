@@ -12,12 +12,6 @@ use Rattle.queries.proofs.address.follow.Goals as goal
 mark_there : {ins outs : List ℕ} {n : ℕ} {starts bytes s v : List ℕ} {j to r below k : ℕ} → Following ins outs n starts bytes s v j to r below k → 2 * j + 1 < length bytes
 mark_there {outs = outs} {n} {bytes = bytes} {j = j} {to} {r} F = omega (arith, in_part outs n r bytes j to F.inside F.there, F.inside)
 
-pub bounds-starts-0 : goal.bounds-starts-0
-bounds-starts-0 c = omega (arith, c.requires.bounds.long)
-
-pub bounds-starts-1 : goal.bounds-starts-1
-bounds-starts-1 c = omega (arith, c.requires.bounds.long)
-
 pub loop-j-init : goal.loop-j-init
 loop-j-init c = rw (c.from-j.ensures, c.from-to.ensures) (begin_follow c.requires c.args.v.now)
 
@@ -95,12 +89,6 @@ overflow_add-j-else-i-gt0 c = omega (arith, mark_there c.loop-j.invariant, c.wel
 
 pub skip_marks-j-requires : goal.skip_marks-j-requires
 skip_marks-j-requires c = (c.loop-j.invariant.inside, omega (arith, follow_enough c.requires c.args.v.now c.loop-j.invariant c.from-i.ensures c.from-x.ensures (omega arith), c.from.ensures, c.if-c-from.false, c.if-c-eq0.false))
-
-pub overflow_add-k : goal.overflow_add-k
-overflow_add-k c = omega (arith, c.if-k-v.false, c.well_formed)
-
-pub loop-j-smaller : goal.loop-j-smaller
-loop-j-smaller c = omega (arith, c.if-k-v.false)
 
 pub loop-j-preserved : goal.loop-j-preserved
 loop-j-preserved c = follow_child c.requires c.args.v.now c.loop-j.invariant c.from-i.ensures c.from-x.ensures (omega arith) c.if-k-v.false c.from-c.ensures (omega (arith, c.if-c-eq0.false)) (omega (arith, c.from.ensures, c.if-c-from.false)) c.skip_marks-j.ensures
