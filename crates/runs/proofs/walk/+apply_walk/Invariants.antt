@@ -12,6 +12,3 @@ decreases-walk l = 65 * (64 - l.below) + (l.to - l.from)
 
 abbrev pub invariant-walk-loop-j : goal.invariant-walk-loop-j
 invariant-walk-loop-j l = (l.from ≤ l.j) × (l.j ≤ l.to) × Filling (walked l.stock l.starts l.marks l.s l.below l.from l.to) l.at 64 l.initial.letters (walked l.stock l.starts l.marks l.s l.below l.j l.to) l.w l.letters
-
-abbrev pub decreases-walk-loop-j : goal.decreases-walk-loop-j
-decreases-walk-loop-j l = l.to - l.j

@@ -12,13 +12,13 @@ pub children-requires : goal.children-requires
 children-requires c = λ e. omega (arith, next_known c.loop-k.invariant c.loop-k-test.true refl refl e, ap length c.input_ranks-ranks.ensures)
 
 pub skip-requires : goal.skip-requires
-skip-requires c = child_inside c.loop-k.invariant c.loop-k-test.true (rw c.input_ranks-ranks.ensures at (c.wide-n.ensures ∙ c.children.ensures))
+skip-requires c = child_inside c.loop-k.invariant c.loop-k-test.true (rw c.input_ranks-ranks.ensures at (c.from-n.ensures ∙ c.children.ensures))
 
 pub overflow_cast-ends : goal.overflow_cast-ends
-overflow_cast-ends c = omega (arith, end_fits c.loop-k.invariant c.loop-k-test.true (rw c.input_ranks-ranks.ensures at (c.wide-n.ensures ∙ c.children.ensures)) c.skip.ensures)
+overflow_cast-ends c = omega (arith, end_fits c.loop-k.invariant c.loop-k-test.true (rw c.input_ranks-ranks.ensures at (c.from-n.ensures ∙ c.children.ensures)) c.skip.ensures)
 
 pub loop-k-preserved : goal.loop-k-preserved
-loop-k-preserved c = one_noted c.loop-k.invariant c.loop-k-test.true (rw c.input_ranks-ranks.ensures at (c.wide-n.ensures ∙ c.children.ensures)) c.skip.ensures
+loop-k-preserved c = one_noted c.loop-k.invariant c.loop-k-test.true (rw c.input_ranks-ranks.ensures at (c.from-n.ensures ∙ c.children.ensures)) c.skip.ensures
 
 pub returns : goal.returns
 returns c = let z : c.loop-k.k ≡ 0 = omega (arith, c.loop-k-test.false) in all_noted (rw z at c.loop-k.invariant)
