@@ -1,7 +1,7 @@
 -- A right-hand side whose letters were written to an area of 64 letters: all of them stand there and can be added as a body, or there are more, which is over the limits of a file.
 -- Assumes nothing.
 use Rattle.std.specs.Prelude.{None, Option, Some}
-use Prim.Native.Nat.{ℕ, ◌+◌, ◌-◌, ◌*◌, ◌≤◌, ◌<◌}
+use Prim.Native.Nat.{ℕ, ◌+◌, ◌*◌, ◌≤◌, ◌<◌}
 use native.Mathlib.Omega.{arith}
 use mathlib.Core.List.{List}
 use mathlib.Core.Logic.{inl}
@@ -25,8 +25,8 @@ use Rattle.join.proofs.Numbers.{by_numbers}
 
 module _ {w before after : List ℕ} {r : ℕ} (W : Wrote w 0 64 before after r) where
   -- the letters stand at the start of the area
-  pub all_letters : length before ≡ 64 → r ≤ 64 → take (r - 0) after ≡ w
-  all_letters l h = written_take w before after (r - 0) (omega (arith, W.end)) (omega (arith, W.end)) (W.wrote (omega (arith, W.end)))
+  pub all_letters : length before ≡ 64 → r ≤ 64 → take r after ≡ w
+  all_letters l h = written_take w before after r (omega (arith, W.end)) (omega (arith, W.end)) (W.wrote (omega (arith, W.end)))
 
   pub letters_inside : length before ≡ 64 → r ≤ 64 → r ≤ length after
   letters_inside l h = omega (arith, W.end, ap length (W.wrote (omega (arith, W.end))), length-sets before 0 w)
