@@ -1,10 +1,9 @@
 // The joined transducer: the pairs of states that are met, in the order of first meeting, and their right-hand sides.
 ghost use Rattle.std.specs.Prelude.{◌+◌, ◌≤◌, ◌<◌, ◌≡◌, length, get_or};
 ghost use Rattle.trees.specs.Alphabets.{inputs};
-ghost use Rattle.transducer.specs.Inner.Written.{Wrote};
 ghost use Rattle.discovery.specs.Inner.Letters.{spelt};
-ghost use Rattle.discovery.specs.Inner.Queue.{Queue};
-ghost use Rattle.join.specs.Inner.Discovering.{product_of, TablesOf, IsPairOf, EmptyIn, FoundIn, AddsBodyIn, AddsIn, AddsAllIn, DiscoversIn};
+ghost use Rattle.discovery.specs.Inner.Queue.{Queue, Sayable};
+ghost use Rattle.join.specs.Inner.Discovering.{product_of, TablesOf, IsPairOf, WritesLetters, EmptyIn, FoundIn, AddsBodyIn, AddsIn, AddsAllIn, DiscoversIn};
 
 use discovery::queue::add_body;
 use runs::walk::{PAIR, apply, body_of, note_ends, walk};
@@ -22,10 +21,10 @@ pub(crate) struct Product<'a> {
 }
 
 impl Product<'_> {
-    // Writes the right-hand side of pair c for symbol a: how many letters it has, or 65 where there are more than 64.
-    fn rhs(&self, c: usize, a: usize, letters: &mut [u32; 64]) -> usize
+    // Writes the right-hand side of pair c for symbol a: how many letters it has, unless there are more than 64.
+    fn rhs(&self, c: usize, a: usize, letters: &mut [u32; 64]) -> Option<usize>
         requires { IsPairOf self.now c × (a < length (inputs self.now.first.now)) × (length letters.old ≡ 64) }
-        ensures { Wrote (spelt ((product_of self.now).rhs c a)) 0 64 letters.old letters.new result }
+        ensures { WritesLetters (spelt ((product_of self.now).rhs c a)) letters.old letters.new result }
     {
         let b = body_of(self.first, c / PAIR, a);
         let from = 2 * usize::from(self.starts1[b]);
@@ -33,7 +32,7 @@ impl Product<'_> {
         let s = &self.marks1[from..to];
         let mut ends = [0u16; 64];
         note_ends(self.second, s, &mut ends);
-        apply(
+        let len = apply(
             self.second,
             self.starts2,
             self.marks2,
@@ -43,13 +42,14 @@ impl Product<'_> {
             0,
             letters,
             0,
-        )
+        );
+        (len <= 64).then_some(len)
     }
 
     // Writes the joined initial term likewise.
-    fn initial(&self, letters: &mut [u32; 64]) -> usize
+    fn initial(&self, letters: &mut [u32; 64]) -> Option<usize>
         requires { TablesOf self.now × (length letters.old ≡ 64) }
-        ensures { Wrote (spelt (product_of self.now).initial) 0 64 letters.old letters.new result }
+        ensures { WritesLetters (spelt (product_of self.now).initial) letters.old letters.new result }
     {
         let from = 2 * usize::from(self.starts1[0]);
         let to = 2 * usize::from(self.starts1[1]);
@@ -58,7 +58,7 @@ impl Product<'_> {
         note_ends(self.second, s, &mut ends);
         let start = usize::from(self.starts2[0]);
         let end = usize::from(self.starts2[1]);
-        walk(
+        let len = walk(
             self.second,
             self.starts2,
             self.marks2,
@@ -69,7 +69,8 @@ impl Product<'_> {
             0,
             letters,
             0,
-        )
+        );
+        (len <= 64).then_some(len)
     }
 }
 
@@ -84,6 +85,22 @@ pub(crate) struct Discovery {
 }
 
 impl Discovery {
+    // Adds the letters as body b, unless that is over the limits, and says how many pairs were met: so do all that follow.
+    fn add(&mut self, letters: &[u32], b: usize, met: usize) -> Option<usize>
+        requires { Queue self.old.list self.old.place met × (met ≤ 128) × Sayable (length self.old.place) letters.now × (b + 1 < length self.old.starts) × (get_or self.old.starts b 0 ≤ 8192) × (length self.old.out ≡ 16384) }
+        ensures { AddsBodyIn letters.now b self.old met self.new result }
+    {
+        add_body(
+            letters,
+            b,
+            &mut self.starts,
+            &mut self.out,
+            &mut self.list,
+            &mut self.place,
+            met,
+        )
+    }
+
     // Adds the right-hand side of pair c for symbol a as body b, unless that is over the limits.
     fn add_rhs(
         &mut self,
@@ -97,19 +114,8 @@ impl Discovery {
         ensures { AddsBodyIn (spelt ((product_of product.now).rhs c a)) b self.old met self.new result }
     {
         let mut letters = [0u32; 64];
-        let len = product.rhs(c, a, &mut letters);
-        if len > 64 {
-            return None;
-        }
-        add_body(
-            &letters[..len],
-            b,
-            &mut self.starts,
-            &mut self.out,
-            &mut self.list,
-            &mut self.place,
-            met,
-        )
+        let len = product.rhs(c, a, &mut letters)?;
+        self.add(&letters[..len], b, met)
     }
 
     // Adds the joined initial term.
@@ -118,19 +124,8 @@ impl Discovery {
         ensures { AddsIn product.now 0 self.new result }
     {
         let mut letters = [0u32; 64];
-        let len = product.initial(&mut letters);
-        if len > 64 {
-            return None;
-        }
-        add_body(
-            &letters[..len],
-            0,
-            &mut self.starts,
-            &mut self.out,
-            &mut self.list,
-            &mut self.place,
-            0,
-        )
+        let len = product.initial(&mut letters)?;
+        self.add(&letters[..len], 0, 0)
     }
 
     // Adds the right-hand sides of the pair number p.

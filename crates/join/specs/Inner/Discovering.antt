@@ -1,5 +1,6 @@
 -- What is said of two transducers that are joined and of what is discovered, each as one value.
-use Rattle.std.specs.Prelude.{Option, ℕ, List}
+use Rattle.std.specs.Prelude.{Option, Some, None, ℕ, ◌<◌, ◌≤◌, ◌≡◌, List, length}
+use Rattle.std.proofs.lemmas.List.Edits.{sets}
 use Rattle.theory.specs.Transducer.{Transducer}
 use Rattle.trees.specs.Alphabets.{inputs, outputs}
 use Rattle.discovery.specs.Inner.Bodies.{AddsBody}
@@ -17,6 +18,11 @@ TablesOf m = Tables m.first.now m.second.now m.starts1.now m.marks1.now m.starts
 
 abbrev pub IsPairOf : Product → ℕ → Type 0
 IsPairOf m c = IsPair m.first.now m.second.now m.starts1.now m.marks1.now m.starts2.now m.marks2.now c
+
+-- the letters w are written to an area: how many they are, unless they are more than 64
+pub record WritesLetters (w before after : List ℕ) (r : Option ℕ) : Type 0 where
+  pub over : r ≡ None → 64 < length w
+  pub written : (n : ℕ) → r ≡ Some n → (n ≡ length w) × (n ≤ 64) × (after ≡ sets before 0 w)
 
 -- what is discovered of it: nothing, a body more, the right-hand sides of the first p pairs, those of all
 abbrev pub EmptyIn : Discovery → Type 0

@@ -7,21 +7,21 @@ use lib.Seq.{length-take-le}
 use Rattle.join.proofs.Adding.{all_letters, letters_inside, cut_adds, adds_as, initial_said, initial_adds}
 use Rattle.join.proofs.discover.Discovery.add_initial.Goals as goal
 
-pub returns-then-len-gt64 : goal.returns-then-len-gt64
-returns-then-len-gt64 c =
+pub returns-in_err-len : goal.returns-in_err-len
+returns-in_err-len c =
     let b = c.requires in
-    initial_adds b.0 b.1 (cut_adds c.initial-len.ensures (omega (arith, c.if-len-gt64.true)))
+    rw c.from_residual.ensures (initial_adds b.0 b.1 (cut_adds c.initial.ensures c.in_err-len.was))
 
-pub slice_bounds-add_body-end : goal.slice_bounds-add_body-end
-slice_bounds-add_body-end c = sym (length-take-le _ _ (letters_inside c.initial-len.ensures (length-replicate {A = ℕ} 64 0) (omega (arith, c.if-len-gt64.false))))
+pub slice_bounds-add-end : goal.slice_bounds-add-end
+slice_bounds-add-end c = sym (length-take-le _ _ (letters_inside c.initial.ensures c.in_ok-len.was (length-replicate {A = ℕ} 64 0)))
 
-pub add_body-requires : goal.add_body-requires
-add_body-requires c =
+pub add-requires : goal.add-requires
+add-requires c =
     let b = c.requires in
     let M = b.1 in
-    (M.queue, omega arith, initial_said b.0 M.wide (all_letters c.initial-len.ensures (length-replicate {A = ℕ} 64 0) (omega (arith, c.if-len-gt64.false))), omega (arith, M.long), omega (arith, M.start), M.room)
+    (M.queue, omega arith, initial_said b.0 M.wide (all_letters c.initial.ensures c.in_ok-len.was (length-replicate {A = ℕ} 64 0)), omega (arith, M.long), omega (arith, M.start), M.room)
 
 pub returns : goal.returns
 returns c =
     let b = c.requires in
-    initial_adds b.0 b.1 (adds_as (all_letters c.initial-len.ensures (length-replicate {A = ℕ} 64 0) (omega (arith, c.if-len-gt64.false))) c.add_body.ensures)
+    initial_adds b.0 b.1 (adds_as (all_letters c.initial.ensures c.in_ok-len.was (length-replicate {A = ℕ} 64 0)) c.add.ensures)
