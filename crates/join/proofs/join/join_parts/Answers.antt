@@ -1,26 +1,13 @@
 -- `join_parts` meets its contract: the starts of the bodies of both transducers, and what is discovered by them. Assumes nothing.
 use Prim.Native.Nat.{ℕ}
-use native.Mathlib.Omega.{arith}
 use mathlib.Core.Path.{◌∙◌}
 use lib.ListN.{length-replicate}
 use Rattle.transducer.proofs.Translating.{starts_fit}
 use Rattle.join.proofs.Entering.{tables_read, parts_joined}
 use Rattle.join.proofs.join.join_parts.Goals as goal
 
-pub overflow_mul-bodies1 : goal.overflow_mul-bodies1
-overflow_mul-bodies1 c = omega (arith, (starts_fit c.requires.0.first c.input_ranks.ensures).1)
-
-pub overflow_add-bodies1 : goal.overflow_add-bodies1
-overflow_add-bodies1 c = omega (arith, (starts_fit c.requires.0.first c.input_ranks.ensures).1)
-
 pub fill_starts-requires : goal.fill_starts-requires
 fill_starts-requires c = starts_fit c.requires.0.first c.input_ranks.ensures
-
-pub overflow_mul-bodies2 : goal.overflow_mul-bodies2
-overflow_mul-bodies2 c = omega (arith, (starts_fit c.requires.0.second c.input_ranks-2.ensures).1)
-
-pub overflow_add-bodies2 : goal.overflow_add-bodies2
-overflow_add-bodies2 c = omega (arith, (starts_fit c.requires.0.second c.input_ranks-2.ensures).1)
 
 pub fill_starts-requires-2 : goal.fill_starts-requires-2
 fill_starts-requires-2 c = starts_fit c.requires.0.second c.input_ranks-2.ensures

@@ -1,19 +1,14 @@
 -- `add_initial` meets its contract: the letters of the initial term are written, and added as the first body unless there are more than 64. Assumes nothing.
 use Prim.Native.Nat.{ℕ}
 use native.Mathlib.Omega.{arith}
-use mathlib.Core.Path.{sym}
 use lib.ListN.{length-replicate}
-use lib.Seq.{length-take-le}
-use Rattle.join.proofs.Adding.{all_letters, letters_inside, cut_adds, adds_as, initial_said, initial_adds}
+use Rattle.join.proofs.Adding.{all_letters, cut_adds, adds_as, initial_said, initial_adds}
 use Rattle.join.proofs.discover.Discovery.add_initial.Goals as goal
 
 pub returns-in_err-len : goal.returns-in_err-len
 returns-in_err-len c =
     let b = c.requires in
     rw c.from_residual.ensures (initial_adds b.0 b.1 (cut_adds c.initial.ensures c.in_err-len.was))
-
-pub slice_bounds-add-end : goal.slice_bounds-add-end
-slice_bounds-add-end c = sym (length-take-le _ _ (letters_inside c.initial.ensures c.in_ok-len.was (length-replicate {A = ℕ} 64 0)))
 
 pub add-requires : goal.add-requires
 add-requires c =

@@ -1,16 +1,8 @@
 -- `add_rhs` meets its contract: the letters are written, and added unless there are more than 64. Assumes nothing.
 use Prim.Native.Nat.{ℕ}
-use mathlib.Core.Path.{sym}
 use lib.ListN.{length-replicate}
-use lib.Seq.{length-take-le}
-use Rattle.join.proofs.Adding.{all_letters, letters_inside, cut_adds, adds_as, rhs_said}
+use Rattle.join.proofs.Adding.{all_letters, adds_as, rhs_said}
 use Rattle.join.proofs.discover.Discovery.add_rhs.Goals as goal
-
-pub returns-in_err-len : goal.returns-in_err-len
-returns-in_err-len c = rw c.from_residual.ensures (cut_adds c.rhs.ensures c.in_err-len.was)
-
-pub slice_bounds-add-end : goal.slice_bounds-add-end
-slice_bounds-add-end c = sym (length-take-le _ _ (letters_inside c.rhs.ensures c.in_ok-len.was (length-replicate {A = ℕ} 64 0)))
 
 pub add-requires : goal.add-requires
 add-requires c =

@@ -2,23 +2,11 @@
 use native.Mathlib.Omega.{arith}
 use mathlib.Core.Path.{ap}
 use lib.ListN.{length}
-use Rattle.join.proofs.Adding.{pair_begun, rhs_room, rhs_ready, rhs_next, rhs_over, pair_done}
+use Rattle.join.proofs.Adding.{pair_begun, rhs_ready, rhs_next, rhs_over, pair_done}
 use Rattle.join.proofs.discover.Discovery.add_state.Goals as goal
-
-pub input_ranks-symbols-requires : goal.input_ranks-symbols-requires
-input_ranks-symbols-requires c = c.requires.0.alphabets
 
 pub loop-a-init : goal.loop-a-init
 loop-a-init c = pair_begun c.requires.0 c.requires.1 c.requires.2 c.from-c.ensures
-
-pub overflow_mul-p : goal.overflow_mul-p
-overflow_mul-p c = omega (arith, rhs_room c.requires.0 c.loop-a.invariant (ap length c.input_ranks-symbols.ensures) c.loop-a-test.true)
-
-pub overflow_add-p : goal.overflow_add-p
-overflow_add-p c = omega (arith, rhs_room c.requires.0 c.loop-a.invariant (ap length c.input_ranks-symbols.ensures) c.loop-a-test.true)
-
-pub overflow_add-p-in-loop-a : goal.overflow_add-p-in-loop-a
-overflow_add-p-in-loop-a c = omega (arith, rhs_room c.requires.0 c.loop-a.invariant (ap length c.input_ranks-symbols.ensures) c.loop-a-test.true)
 
 pub add_rhs-requires : goal.add_rhs-requires
 add_rhs-requires c = rhs_ready c.requires.0 c.loop-a.invariant (ap length c.input_ranks-symbols.ensures) c.loop-a-test.true

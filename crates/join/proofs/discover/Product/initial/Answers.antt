@@ -3,23 +3,8 @@ use native.Mathlib.Omega.{arith}
 use mathlib.Core.Path.{refl}
 use Rattle.transducer.proofs.Filling.{wrote_as}
 use Rattle.join.proofs.Adding.{letters_told}
-use Rattle.join.proofs.Joined.{initial_start, initial_ordered, initial_inside, initial_body, initial_walk, initial_letters}
+use Rattle.join.proofs.Joined.{initial_body, initial_walk, initial_letters}
 use Rattle.join.proofs.discover.Product.initial.Goals as goal
-
-pub overflow_mul-from : goal.overflow_mul-from
-overflow_mul-from c = omega (arith, initial_start c.requires.0 c.from-from.ensures)
-
-pub overflow_mul-to : goal.overflow_mul-to
-overflow_mul-to c = omega (arith, initial_inside c.requires.0 c.from-from.ensures c.from-to.ensures)
-
-pub slice_bounds-s-count : goal.slice_bounds-s-count
-slice_bounds-s-count c = omega (arith, initial_ordered c.requires.0 c.from-from.ensures c.from-to.ensures)
-
-pub slice_bounds-s-start : goal.slice_bounds-s-start
-slice_bounds-s-start c = omega (arith, initial_ordered c.requires.0 c.from-from.ensures c.from-to.ensures)
-
-pub slice_bounds-s-end : goal.slice_bounds-s-end
-slice_bounds-s-end c = omega (arith, initial_inside c.requires.0 c.from-from.ensures c.from-to.ensures)
 
 pub note_ends-requires : goal.note_ends-requires
 note_ends-requires c = (c.requires.0.alphabets', initial_body c.requires.0 c.from-from.ensures c.from-to.ensures, refl)

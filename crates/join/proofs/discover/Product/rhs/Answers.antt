@@ -3,38 +3,8 @@ use native.Mathlib.Omega.{arith}
 use mathlib.Core.Path.{refl}
 use Rattle.transducer.proofs.Filling.{wrote_as}
 use Rattle.join.proofs.Adding.{letters_told}
-use Rattle.join.proofs.Joined.{rhs_fits, rhs_start, rhs_ordered, rhs_inside, rhs_body, rhs_ready, rhs_letters}
+use Rattle.join.proofs.Joined.{rhs_body, rhs_ready, rhs_letters}
 use Rattle.join.proofs.discover.Product.rhs.Goals as goal
-
-pub offset_bounds-self-b : goal.offset_bounds-self-b
-offset_bounds-self-b c = omega (arith, rhs_fits c.requires.0.tables c.requires.0.pair c.requires.1 c.body_of-b.ensures)
-
-pub bounds-self-b : goal.bounds-self-b
-bounds-self-b c = omega (arith, rhs_fits c.requires.0.tables c.requires.0.pair c.requires.1 c.body_of-b.ensures)
-
-pub overflow_mul-from : goal.overflow_mul-from
-overflow_mul-from c = omega (arith, rhs_start c.requires.0.tables c.requires.0.pair c.requires.1 c.body_of-b.ensures c.from-from.ensures)
-
-pub overflow_add-b : goal.overflow_add-b
-overflow_add-b c = omega (arith, rhs_fits c.requires.0.tables c.requires.0.pair c.requires.1 c.body_of-b.ensures)
-
-pub offset_bounds-self-b-2 : goal.offset_bounds-self-b-2
-offset_bounds-self-b-2 c = omega (arith, rhs_fits c.requires.0.tables c.requires.0.pair c.requires.1 c.body_of-b.ensures)
-
-pub bounds-self-b-2 : goal.bounds-self-b-2
-bounds-self-b-2 c = omega (arith, rhs_fits c.requires.0.tables c.requires.0.pair c.requires.1 c.body_of-b.ensures)
-
-pub overflow_mul-to : goal.overflow_mul-to
-overflow_mul-to c = omega (arith, rhs_inside c.requires.0.tables c.requires.0.pair c.requires.1 c.body_of-b.ensures c.from-from.ensures c.from-to.ensures)
-
-pub slice_bounds-s-count : goal.slice_bounds-s-count
-slice_bounds-s-count c = omega (arith, rhs_ordered c.requires.0.tables c.requires.0.pair c.requires.1 c.body_of-b.ensures c.from-from.ensures c.from-to.ensures)
-
-pub slice_bounds-s-start : goal.slice_bounds-s-start
-slice_bounds-s-start c = omega (arith, rhs_ordered c.requires.0.tables c.requires.0.pair c.requires.1 c.body_of-b.ensures c.from-from.ensures c.from-to.ensures)
-
-pub slice_bounds-s-end : goal.slice_bounds-s-end
-slice_bounds-s-end c = omega (arith, rhs_inside c.requires.0.tables c.requires.0.pair c.requires.1 c.body_of-b.ensures c.from-from.ensures c.from-to.ensures)
 
 pub note_ends-requires : goal.note_ends-requires
 note_ends-requires c = (c.requires.0.tables.alphabets', rhs_body c.requires.0.tables c.requires.0.pair c.requires.1 c.body_of-b.ensures c.from-from.ensures c.from-to.ensures, refl)
