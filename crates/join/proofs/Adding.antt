@@ -12,7 +12,6 @@ use Rattle.theory.proofs.Terms.{conflict}
 use mathlib.Core.Logic.{inl}
 use mathlib.Core.Path.{◌≡◌, refl, ap, ◌∙◌}
 use lib.ListN.{length, get_or, take}
-use lib.Seq.{length-sets}
 use Rattle.trees.specs.Alphabets.{inputs, outputs}
 use Rattle.formats.specs.Inner.Layout.{body_number}
 use Rattle.formats.proofs.Laws.{written_take}
@@ -42,9 +41,6 @@ module _ {w before after : List ℕ} {r : Option ℕ} (W : WritesLetters w befor
     -- the letters stand at the start of the area
     pub all_letters : take n after ≡ w
     all_letters = let (a, b, c) = W.written n e in written_take w before after n a (omega arith) c
-
-    pub letters_inside : n ≤ length after
-    letters_inside = let (a, b, c) = W.written n e in omega (arith, ap length c, length-sets before 0 w)
 
   -- or there are more than 64
   pub cut_adds : {b met : ℕ} {starts out list place starts' out' list' place' : List ℕ} → r ≡ None → AddsBody w b starts out list place met starts' out' list' place' None

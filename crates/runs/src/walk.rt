@@ -45,6 +45,7 @@ fn put(letters: &mut [u32; 64], at: usize, x: usize)
 
 // Writes what state p gives on the term at mark number k of the body `s`, from `at` on, and says where that ends, or 65 where there
 // are more than 64 letters: then no more is written.
+// Stay: the parameters and the answer 65, which are in the contracts that `join` and its proofs cite.
 #[cycle(apply_walk)]
 pub fn apply(
     stock: &[u8],
