@@ -1,13 +1,17 @@
 -- A right-hand side whose letters were written to an area of 64 letters: all of them stand there and can be added as a body, or there are more, which is over the limits of a file.
 -- Assumes nothing.
 use Rattle.std.specs.Prelude.{None, Option, Some}
-use Prim.Native.Nat.{ℕ, ◌+◌, ◌-◌, ◌*◌, ◌≤◌, ◌<◌}
+use Prim.Native.Nat.{ℕ, ◌+◌, ◌*◌, ◌≤◌, ◌<◌}
 use native.Mathlib.Omega.{arith}
+use mathlib.Core.Bool.{Bool, true, false}
 use mathlib.Core.List.{List}
+use lib.Dec.{leb}
+use borrow.Author.Tests.{leb-true, leb-false}
+use Rattle.std.specs.Bool.{then_some}
+use Rattle.theory.proofs.Terms.{conflict}
 use mathlib.Core.Logic.{inl}
 use mathlib.Core.Path.{◌≡◌, refl, ap, ◌∙◌}
 use lib.ListN.{length, get_or, take}
-use lib.Seq.{length-sets}
 use Rattle.trees.specs.Alphabets.{inputs, outputs}
 use Rattle.formats.specs.Inner.Layout.{body_number}
 use Rattle.formats.proofs.Laws.{written_take}
@@ -20,20 +24,27 @@ use Rattle.discovery.proofs.Queues.{adds_over}
 use Rattle.discovery.proofs.Loops.{adds_none, adds_some, adds_initial}
 use Rattle.discovery.proofs.Stages.{Stage, initial_sayable, rhs_sayable, stage_none, stage_state, stage_room, stage_next, stage_all}
 use Rattle.discovery.proofs.TooLarge.{stage_over}
+use Rattle.join.specs.Inner.Discovering.{WritesLetters}
 use Rattle.join.specs.Inner.Pairs.{product, IsPair, Tables}
 use Rattle.join.proofs.Numbers.{by_numbers}
 
-module _ {w before after : List ℕ} {r : ℕ} (W : Wrote w 0 64 before after r) where
-  -- the letters stand at the start of the area
-  pub all_letters : length before ≡ 64 → r ≤ 64 → take (r - 0) after ≡ w
-  all_letters l h = written_take w before after (r - 0) (omega (arith, W.end)) (omega (arith, W.end)) (W.wrote (omega (arith, W.end)))
+-- of what was written in an area of 64 letters, whether that is all
+pub letters_told : {w before after : List ℕ} {r : ℕ} → Wrote w 0 64 before after r → length before ≡ 64 → (b : Bool) → leb r 64 ≡ b → WritesLetters w before after (then_some b r)
+letters_told {r = r} W l true e = record {
+  over = λ q. conflict (cc);
+  written = λ n q. let z = leb-true _ _ e in let y : r ≡ n = cc in (omega (arith, W.end), omega arith, W.wrote (omega (arith, W.end)));
+}
+letters_told W l false e = record { over = λ q. omega (arith, W.end, leb-false _ _ e); written = λ n q. conflict (cc) }
 
-  pub letters_inside : length before ≡ 64 → r ≤ 64 → r ≤ length after
-  letters_inside l h = omega (arith, W.end, ap length (W.wrote (omega (arith, W.end))), length-sets before 0 w)
+module _ {w before after : List ℕ} {r : Option ℕ} (W : WritesLetters w before after r) where
+  module _ {n : ℕ} (e : r ≡ Some n) (l : length before ≡ 64) where
+    -- the letters stand at the start of the area
+    pub all_letters : take n after ≡ w
+    all_letters = let (a, b, c) = W.written n e in written_take w before after n a (omega arith) c
 
   -- or there are more than 64
-  pub cut_adds : {b met : ℕ} {starts out list place : List ℕ} → 64 < r → AddsBody w b starts out list place met starts out list place None
-  cut_adds h = adds_over (inl (omega (arith, W.end)))
+  pub cut_adds : {b met : ℕ} {starts out list place starts' out' list' place' : List ℕ} → r ≡ None → AddsBody w b starts out list place met starts' out' list' place' None
+  cut_adds e = adds_over (inl (W.over e))
 
 -- what was added is the letters that stand there
 pub adds_as : {w s : List ℕ} {b met : ℕ} {starts out list place starts' out' list' place' : List ℕ} {r : Option ℕ} → s ≡ w → AddsBody s b starts out list place met starts' out' list' place' r → AddsBody w b starts out list place met starts' out' list' place' r

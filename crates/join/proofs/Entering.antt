@@ -3,11 +3,14 @@
 use Rattle.std.specs.Prelude.{Err, Ok, Option, Result, Some}
 use Rattle.forms.specs.declared.write.Form.{Form}
 use Prim.Native.Nat.{ℕ, ◌≤◌}
-use mathlib.Core.Bool.{Bool}
 use mathlib.Core.List.{List}
 use mathlib.Core.Logic.{inl, inr}
-use mathlib.Core.Path.{◌≡◌, refl}
-use lib.ListN.{length, take}
+use native.Mathlib.Omega.{arith}
+use mathlib.Core.Path.{◌≡◌, refl, ◌∙◌}
+use lib.ListN.{length, take, replicate, length-replicate}
+use Rattle.std.specs.Str.{bytes_eq}
+use Rattle.std.proofs.lemmas.List.{get_or-replicate}
+use Rattle.std.proofs.lemmas.Slice.Eq.{bytes_eq-Decides}
 use Rattle.trees.specs.Alphabets.{Alphabets, inputs, outputs}
 use Rattle.trees.specs.Refusal.{Decides, Outcome, Checks, done, check, Holds, IsJudged, Judged}
 use Rattle.trees.specs.declared.refusal.Refusal.{Refusal}
@@ -16,7 +19,8 @@ use Rattle.formats.specs.Answers.{ReadsFile}
 use Rattle.formats.specs.Inner.Layout.{body_count, Starts}
 use Rattle.formats.specs.Sheet.{longest, sheet_check}
 use Rattle.transducer.proofs.Opening.{Opened, opened_machine, not_opened}
-use Rattle.discovery.specs.Inner.Discovering.{Discovers}
+use Rattle.discovery.specs.Inner.Discovering.{Empty, Discovers}
+use Rattle.discovery.proofs.Queues.{queue_none}
 use Rattle.forms.specs.Inner.Writing.{FoundWritable, WritesFound}
 use Rattle.join.specs.Answers.{join_check}
 use Rattle.join.specs.Inner.Pairs.{product, Tables}
@@ -66,5 +70,18 @@ unfolding Holds
 second_refused stock stock' s s' before J e A' J' e' = let w = (accepted_holds (rw e at J)).0 in pass w.1.0 (pass w.1.1.0 (passed A' (not_opened stock' s' (join_check stock stock' s s' done) refl J' e')))
 
 -- two lists of ranks are the same exactly if those that were read are
-pub same_ranks : {outs ins outs' ins' : List ℕ} {b : Bool} → outs ≡ outs' → ins ≡ ins' → Decides (outs ≡ ins) b → Decides (outs' ≡ ins') b
-same_ranks o i D = rw (o, i) at D
+pub same_ranks : {outs ins outs' ins' : List ℕ} → outs ≡ outs' → ins ≡ ins' → Decides (outs' ≡ ins') (bytes_eq outs ins)
+same_ranks {outs} {ins} o i =
+    let D = bytes_eq-Decides outs ins in
+    let e : Decides (outs ≡ ins) (bytes_eq outs ins) = record { sound = D.0; complete = D.1 } in
+    rw (← o, ← i) e
+
+-- where nothing was written nothing is discovered
+pub nothing_found : (n m k w : ℕ) → n ≡ 2050 → m ≡ 16384 → k ≡ 192 → Empty w (replicate n 0) (replicate m 0) (replicate k 0) (replicate w 0)
+nothing_found n m k w e f g = record {
+  queue = queue_none k w g;
+  wide = length-replicate {A = ℕ} w 0;
+  long = omega (arith, length-replicate {A = ℕ} n 0);
+  room = length-replicate {A = ℕ} m 0 ∙ f;
+  start = get_or-replicate n 0 0 0 (omega arith);
+}
