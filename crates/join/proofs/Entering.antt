@@ -5,11 +5,9 @@ use Rattle.forms.specs.declared.write.Form.{Form}
 use Prim.Native.Nat.{ℕ, ◌≤◌}
 use mathlib.Core.List.{List}
 use mathlib.Core.Logic.{inl, inr}
-use native.Mathlib.Omega.{arith}
-use mathlib.Core.Path.{◌≡◌, refl, ◌∙◌}
-use lib.ListN.{length, take, replicate, length-replicate}
+use mathlib.Core.Path.{◌≡◌, refl}
+use lib.ListN.{length, take}
 use Rattle.std.specs.Str.{bytes_eq}
-use Rattle.std.proofs.lemmas.List.{get_or-replicate}
 use Rattle.std.proofs.lemmas.Slice.Eq.{bytes_eq-Decides}
 use Rattle.trees.specs.Alphabets.{Alphabets, inputs, outputs}
 use Rattle.trees.specs.Refusal.{Decides, Outcome, Checks, done, check, Holds, IsJudged, Judged}
@@ -19,8 +17,7 @@ use Rattle.formats.specs.Answers.{ReadsFile}
 use Rattle.formats.specs.Inner.Layout.{body_count, Starts}
 use Rattle.formats.specs.Sheet.{longest, sheet_check}
 use Rattle.transducer.proofs.Opening.{Opened, opened_machine, not_opened}
-use Rattle.discovery.specs.Inner.Discovering.{Empty, Discovers}
-use Rattle.discovery.proofs.Queues.{queue_none}
+use Rattle.discovery.specs.Inner.Discovering.{Discovers}
 use Rattle.forms.specs.Inner.Writing.{FoundWritable, WritesFound}
 use Rattle.join.specs.Answers.{join_check}
 use Rattle.join.specs.Inner.Pairs.{product, Tables}
@@ -75,13 +72,3 @@ same_ranks {outs} {ins} o i =
     let D = bytes_eq-Decides outs ins in
     let e : Decides (outs ≡ ins) (bytes_eq outs ins) = record { sound = D.0; complete = D.1 } in
     rw (← o, ← i) e
-
--- where nothing was written nothing is discovered
-pub nothing_found : (n m k w : ℕ) → n ≡ 2050 → m ≡ 16384 → k ≡ 192 → Empty w (replicate n 0) (replicate m 0) (replicate k 0) (replicate w 0)
-nothing_found n m k w e f g = record {
-  queue = queue_none k w g;
-  wide = length-replicate {A = ℕ} w 0;
-  long = omega (arith, length-replicate {A = ℕ} n 0);
-  room = length-replicate {A = ℕ} m 0 ∙ f;
-  start = get_or-replicate n 0 0 0 (omega arith);
-}

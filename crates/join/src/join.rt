@@ -3,12 +3,12 @@ ghost use Rattle.std.specs.Prelude.{◌≤◌, ◌≡◌, length};
 ghost use Rattle.trees.specs.Alphabets.{Alphabets, inputs, outputs};
 ghost use Rattle.formats.specs.Sheet.{longest};
 ghost use Rattle.join.specs.Answers.{Joins};
-ghost use Rattle.join.specs.Inner.Discovering.{EmptyIn};
 ghost use Rattle.join.specs.Inner.Parts.{JoinsSheets};
-ghost use Rattle.join.specs.Inner.Sheets.{JoinableOf, JoinsPartsIn, JoinsFileOf};
+ghost use Rattle.join.specs.Inner.Sheets.{JoinableOf, JoinsPartsOf, JoinsFileOf};
 
-use crate::discover::{Discovery, Product};
+use crate::discover::Product;
 use crate::stock::join_stocks;
+use discovery::discover::discover;
 use formats::bodies::fill_starts;
 use formats::file::{counts_end, read_transducer};
 use forms::write::{Form, write_found};
@@ -24,10 +24,10 @@ struct Sheet<'a> {
     marks: &'a [u8],
 }
 
-// The second transducer after the first, where nothing was discovered yet.
-fn join_parts(first: &Sheet, second: &Sheet, found: &mut Discovery) -> Option<usize>
-    requires { JoinableOf first.now second.now × EmptyIn found.old }
-    ensures { JoinsPartsIn first.now second.now found.new result }
+// The second transducer after the first: `starts` says where its bodies start in `out`.
+fn join_parts(first: &Sheet, second: &Sheet, starts: &mut [u16], out: &mut [u8]) -> Option<usize>
+    requires { JoinableOf first.now second.now × (2050 ≤ length starts.old) × (length out.old ≡ 16384) }
+    ensures { JoinsPartsOf first.now second.now starts.new out.new result }
 {
     let mut starts1 = [0u16; 2050];
     let mut starts2 = [0u16; 2050];
@@ -35,14 +35,15 @@ fn join_parts(first: &Sheet, second: &Sheet, found: &mut Discovery) -> Option<us
     let bodies2 = 1 + second.states * input_ranks(second.stock).len();
     fill_starts(first.counts, bodies1, &mut starts1);
     fill_starts(second.counts, bodies2, &mut starts2);
-    found.discover(&Product {
+    let product = Product {
         first: first.stock,
         second: second.stock,
         starts1: &starts1,
         marks1: first.marks,
         starts2: &starts2,
         marks2: second.marks,
-    })
+    };
+    discover(&product, starts, out)
 }
 
 // The file of the second transducer after the first.
@@ -52,20 +53,10 @@ fn join_file(first: &Sheet, second: &Sheet, area: &mut [u8]) -> Result<Form, Ref
 {
     let mut stock = [0u8; 82];
     let size = join_stocks(first.stock, second.stock, &mut stock);
-    let mut found = Discovery {
-        starts: [0; 2050],
-        out: [0; 16384],
-        list: [0; 192],
-        place: [0; 16384],
-    };
-    let states = join_parts(first, second, &mut found).ok_or(Refusal::JoinOverLimits)?;
-    write_found(
-        &stock[..size],
-        Some(states),
-        &found.starts,
-        &found.out,
-        area,
-    )
+    let mut starts = [0u16; 2050];
+    let mut out = [0u8; 16384];
+    let states = join_parts(first, second, &mut starts, &mut out).ok_or(Refusal::JoinOverLimits)?;
+    write_found(&stock[..size], Some(states), &starts, &out, area)
 }
 
 // Joins the transducers of two files whose alphabets are right and fit.

@@ -3,6 +3,8 @@ use Prim.Native.Nat.{ℕ}
 use mathlib.Core.Path.{◌∙◌}
 use lib.ListN.{length-replicate}
 use Rattle.transducer.proofs.Translating.{starts_fit}
+use native.Mathlib.Omega.{arith}
+use Rattle.join.proofs.Numbers.{pair_numbers}
 use Rattle.join.proofs.Entering.{tables_read, parts_joined}
 use Rattle.join.proofs.join.join_parts.Goals as goal
 
@@ -17,7 +19,8 @@ discover-requires c =
     let b = c.requires in
     let f = c.fill_starts in
     let g = c.fill_starts-2 in
-    (tables_read b.0 c.input_ranks.ensures c.input_ranks-2.ensures f.new.starts g.new.starts f.ensures.starts g.ensures.starts (f.auto.starts ∙ length-replicate {A = ℕ} 2050 0) (g.auto.starts ∙ length-replicate {A = ℕ} 2050 0), b.1)
+    let T = tables_read b.0 c.input_ranks.ensures c.input_ranks-2.ensures f.new.starts g.new.starts f.ensures.starts g.ensures.starts (f.auto.starts ∙ length-replicate {A = ℕ} 2050 0) (g.auto.starts ∙ length-replicate {A = ℕ} 2050 0) in
+    (T, record { numbers = pair_numbers T; leaf = T.alphabets.leaf }, omega arith, b.1, b.2)
 
 pub returns : goal.returns
 returns c =
