@@ -2,8 +2,6 @@
 ghost use Rattle.std.specs.Prelude.{◌+◌, ◌*◌, ◌≤◌, ◌<◌, ◌≡◌, length};
 ghost use Rattle.witness.specs.Inner.Other.{step_distance, DistanceTableAt, FindsDistance, Settable, SetsDistance, Sweepable, SweepsDistances, Fillable, FillsDistances, Steppable, FindsStep, PutsStep, PathAsked, DecreasingPath};
 
-use trees::bytes::{number, wide};
-
 // How far the right-hand side of q for a is from a root symbol other than b: 1 if it has one, one more than the state called if it is a call alone, else 0.
 fn step_distance(
     ins: &[u8],
@@ -17,15 +15,15 @@ fn step_distance(
     requires { DistanceTableAt ins.now starts.now marks.now dist.now q × (a < length ins.now) }
     ensures { (result ≡ step_distance ins.now starts.now marks.now dist.now b q a) × (result ≤ 256) }
 {
-    let at = 2 * number(starts[1 + q * ins.len() + a]);
-    let x = wide(marks[at + 1]);
+    let at = 2 * usize::from(starts[1 + q * ins.len() + a]);
+    let x = usize::from(marks[at + 1]);
     if marks[at] == 0 {
         if x == b {
             return 0;
         }
         return 1;
     }
-    let d = wide(dist[x]);
+    let d = usize::from(dist[x]);
     if d == 0 {
         return 0;
     }
@@ -37,13 +35,11 @@ fn find_distance(ins: &[u8], starts: &[u16], marks: &[u8], dist: &[u8], q: usize
     requires { DistanceTableAt ins.now starts.now marks.now dist.now q }
     ensures { FindsDistance ins.now starts.now marks.now dist.now q b result }
 {
-    let mut a = 0;
-    while a < ins.len() {
+    for a in 0..ins.len() {
         let d = step_distance(ins, starts, marks, dist, q, a, b);
         if d > 0 {
             return d;
         }
-        a += 1;
     }
     0
 }
@@ -84,12 +80,10 @@ fn sweep_distances(
     ensures { SweepsDistances ins.now starts.now marks.now n b dist.old dist.new result }
 {
     let mut any = false;
-    let mut q = 0;
-    while q < n {
+    for q in 0..n {
         if set_distance(ins, starts, marks, dist, q, b) {
             any = true;
         }
-        q += 1;
     }
     any
 }
@@ -117,8 +111,9 @@ fn find_step(ins: &[u8], starts: &[u16], marks: &[u8], dist: &[u8], q: usize, b:
     requires { Steppable ins.now starts.now marks.now dist.now q b }
     ensures { FindsStep ins.now starts.now marks.now dist.now q b result }
 {
-    let d = wide(dist[q]);
+    let d = usize::from(dist[q]);
     let mut a = 0;
+    // Stays `while`: one symbol is as far, so no end is tested.
     while step_distance(ins, starts, marks, dist, q, a, b) != d {
         a += 1;
     }
@@ -140,15 +135,15 @@ fn put_step(
     ensures { PutsStep ins.now starts.now marks.now dist.now q b steps.old k steps.new result }
 {
     let a = find_step(ins, starts, marks, dist, q, b);
-    let at = 2 * number(starts[1 + q * ins.len() + a]);
+    let at = 2 * usize::from(starts[1 + q * ins.len() + a]);
     steps[2 * k] = a as u8;
     steps[2 * k + 1] = marks[at];
-    wide(marks[at + 1])
+    usize::from(marks[at + 1])
 }
 
 // How many steps a path has, and the root symbol at its end.
-#[derive(Drop)]
-pub struct PathEnd {
+#[derive(Clone, Copy, Debug, PartialEq, Eq)]
+pub(crate) struct PathEnd {
     pub count: usize,
     pub symbol: usize,
 }
@@ -166,16 +161,12 @@ pub(crate) fn write_path(
     requires { PathAsked ins.now starts.now marks.now dist.now q b steps.old }
     ensures { DecreasingPath ins.now starts.now marks.now dist.now q b steps.new result.count result.symbol }
 {
-    let count = wide(dist[q]);
+    let count = usize::from(dist[q]);
+    let last = count - 1;
     let mut p = q;
-    let mut k = 0;
-    while k + 1 < count {
+    for k in 0..last {
         p = put_step(ins, starts, marks, dist, p, b, steps, k);
-        k += 1;
     }
-    let symbol = put_step(ins, starts, marks, dist, p, b, steps, k);
-    PathEnd {
-        count: count,
-        symbol: symbol,
-    }
+    let symbol = put_step(ins, starts, marks, dist, p, b, steps, last);
+    PathEnd { count, symbol }
 }

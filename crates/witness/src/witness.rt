@@ -10,11 +10,11 @@ use crate::shown::{add_step, write_address, write_steps};
 use formats::file::copy_at;
 use forms::leaf::leaf_symbol;
 use pairs::pairs::{CHILD, LEFT, MARK, PARENT, RIGHT, SYMBOL, pair_byte};
-use trees::bytes::{Span, number, wide};
+use trees::bytes::Span;
 
 // Below a clash: the child that matters, 0 if none does, the number of steps of its tree, and the root symbols of the two outputs.
-#[derive(Drop)]
-pub struct Bottom {
+#[derive(Clone, Copy, Debug, PartialEq, Eq)]
+struct Bottom {
     pub child: usize,
     pub count: usize,
     pub left: usize,
@@ -23,26 +23,23 @@ pub struct Bottom {
 
 // Where the tree of a clash stands in its buffer, and the root symbols of the two outputs.
 #[derive(Drop)]
-pub struct Rooted {
-    pub from: usize,
-    pub to: usize,
+struct Rooted {
+    pub span: Span,
     pub left: usize,
     pub right: usize,
 }
 
 // Where the tree stands in its buffer, and where the address begins.
 #[derive(Drop)]
-pub struct Placed {
-    pub from: usize,
-    pub to: usize,
+struct Placed {
+    pub span: Span,
     pub at: usize,
 }
 
 // The same, and the two symbols at the address.
 #[derive(Drop)]
-pub struct Traced {
-    pub from: usize,
-    pub to: usize,
+struct Traced {
+    pub span: Span,
     pub at: usize,
     pub left: usize,
     pub right: usize,
@@ -94,8 +91,8 @@ fn root_on_leaf(ins: &[u8], starts: &[u16], marks: &[u8], e: usize, c: usize, x:
     if c == 0 {
         return x;
     }
-    let at = 2 * number(starts[1 + x * ins.len() + e]);
-    wide(marks[at + 1])
+    let at = 2 * usize::from(starts[1 + x * ins.len() + e]);
+    usize::from(marks[at + 1])
 }
 
 // What lies below two marks that clash: a path from the call, or from the first of two calls.
@@ -144,7 +141,7 @@ fn find_bottom(
     }
 }
 
-// The tree that parent q reads, if the one of the bytes lo to hi is child number i of its symbol a.
+// The tree that parent q reads, if the one of the bytes of `span` is child number i of its symbol a.
 fn step_up(
     ins: &[u8],
     e: usize,
@@ -152,16 +149,15 @@ fn step_up(
     a: usize,
     i: usize,
     buffer: &mut [u8],
-    lo: usize,
-    hi: usize,
+    span: Span,
 ) -> Span
-    requires { Upable ins.now e q a i buffer.old lo hi }
-    ensures { Upped ins.now e q a i buffer.old lo hi buffer.new result.from result.to }
+    requires { Upable ins.now e q a i buffer.old span.from span.to }
+    ensures { Upped ins.now e q a i buffer.old span.from span.to buffer.new result.from result.to }
 {
     if q > 0 {
-        return add_step(ins, e, a, i, buffer, lo, hi);
+        return add_step(ins, e, a, i, buffer, span);
     }
-    Span { from: lo, to: hi }
+    span
 }
 
 // Writes the tree on which parent q, for symbol a, shows that mark number i of the first and mark number j of the second clash.
@@ -181,21 +177,20 @@ fn root_tree(
     buffer: &mut [u8],
 ) -> Rooted
     requires { RootAsked ins.now starts1.now marks1.now n1 starts2.now marks2.now n2 e i j q a buffer.old }
-    ensures { RootFound ins.now starts1.now marks1.now starts2.now marks2.now e i j q a buffer.new result.from result.to result.left result.right }
+    ensures { RootFound ins.now starts1.now marks1.now starts2.now marks2.now e i j q a buffer.new result.span.from result.span.to result.left result.right }
 {
     let mut steps = [0u8; 256];
-    let c1 = wide(marks1[2 * i]);
-    let x1 = wide(marks1[2 * i + 1]);
-    let c2 = wide(marks2[2 * j]);
-    let x2 = wide(marks2[2 * j + 1]);
+    let c1 = usize::from(marks1[2 * i]);
+    let x1 = usize::from(marks1[2 * i + 1]);
+    let c2 = usize::from(marks2[2 * j]);
+    let x2 = usize::from(marks2[2 * j + 1]);
     let f = find_bottom(
         ins, starts1, marks1, n1, starts2, marks2, n2, e, c1, x1, c2, x2, &mut steps,
     );
-    let s = write_steps(ins, e, &steps, f.count, buffer);
-    let t = step_up(ins, e, q, a, f.child, buffer, s.from, s.to);
+    let tree = write_steps(ins, e, &steps, f.count, buffer);
+    let span = step_up(ins, e, q, a, f.child, buffer, tree);
     Rooted {
-        from: t.from,
-        to: t.to,
+        span,
         left: f.left,
         right: f.right,
     }
@@ -211,26 +206,21 @@ fn step_back(
     e: usize,
     p: usize,
     buffer: &mut [u8],
-    lo: usize,
-    hi: usize,
+    span: Span,
     place: &mut [u8],
     at: usize,
 ) -> Placed
-    requires { Leading ins.now outs.now starts1.now marks1.now pairs.now e (p + 1) × Roomy (p + 1) buffer.old lo hi place.old at }
-    ensures { StepsBack ins.now outs.now starts1.now marks1.now pairs.now e p buffer.old lo hi place.old at buffer.new result.from result.to place.new result.at }
+    requires { Leading ins.now outs.now starts1.now marks1.now pairs.now e (p + 1) × Roomy (p + 1) buffer.old span.from span.to place.old at }
+    ensures { StepsBack ins.now outs.now starts1.now marks1.now pairs.now e p buffer.old span.from span.to place.old at buffer.new result.span.from result.span.to place.new result.at }
 {
     let q = pair_byte(pairs, p, PARENT);
     let a = pair_byte(pairs, p, SYMBOL);
     let m = pair_byte(pairs, p, MARK);
     let i = pair_byte(pairs, p, CHILD);
-    let from = number(starts1[body_of(ins, pairs, q, a, LEFT)]);
-    let w = write_address(outs, marks1, from, m, place, at);
-    let s = step_up(ins, e, q, a, i, buffer, lo, hi);
-    Placed {
-        from: s.from,
-        to: s.to,
-        at: w,
-    }
+    let from = usize::from(starts1[body_of(ins, pairs, q, a, LEFT)]);
+    let at = write_address(outs, marks1, from, m, place, at);
+    let span = step_up(ins, e, q, a, i, buffer, span);
+    Placed { span, at }
 }
 
 // The way back from parent q to the initial terms.
@@ -243,20 +233,18 @@ fn trace_back(
     e: usize,
     q: usize,
     buffer: &mut [u8],
-    lo: usize,
-    hi: usize,
+    span: Span,
     place: &mut [u8],
     at: usize,
 ) -> Placed
-    requires { Leading ins.now outs.now starts1.now marks1.now pairs.now e q × Roomy q buffer.old lo hi place.old at }
-    ensures { TracesBack ins.now outs.now starts1.now marks1.now pairs.now e q buffer.old lo hi place.old at buffer.new result.from result.to place.new result.at }
+    requires { Leading ins.now outs.now starts1.now marks1.now pairs.now e q × Roomy q buffer.old span.from span.to place.old at }
+    ensures { TracesBack ins.now outs.now starts1.now marks1.now pairs.now e q buffer.old span.from span.to place.old at buffer.new result.span.from result.span.to place.new result.at }
 {
-    let mut from = lo;
-    let mut to = hi;
-    let mut w = at;
+    let mut placed = Placed { span, at };
     let mut r = q;
+    // Stays `while`: r goes from a pair to its parent.
     while r > 0 {
-        let s = step_back(
+        placed = step_back(
             ins,
             outs,
             starts1,
@@ -265,21 +253,13 @@ fn trace_back(
             e,
             r - 1,
             buffer,
-            from,
-            to,
+            placed.span,
             place,
-            w,
+            placed.at,
         );
-        from = s.from;
-        to = s.to;
-        w = s.at;
         r = pair_byte(pairs, r - 1, PARENT);
     }
-    Placed {
-        from: from,
-        to: to,
-        at: w,
-    }
+    placed
 }
 
 // What shows that the bodies of parent q for symbol a clash at mark m, as the list of pairs leads there: the tree in `buffer`, the address at the end of `place`.
@@ -301,10 +281,10 @@ fn trace(
     place: &mut [u8],
 ) -> Traced
     requires { Comparable ins.now outs.now starts1.now marks1.now n1 starts2.now marks2.now n2 × Clashes (sides ins.now starts1.now marks1.now starts2.now marks2.now) n1 n2 pairs.now q a m × Tracing ins.now e buffer.old place.old }
-    ensures { Traces ins.now outs.now (machine ins.now outs.now starts1.now marks1.now n1) (machine ins.now outs.now starts2.now marks2.now n2) buffer.new result.from result.to place.new result.at result.left result.right }
+    ensures { Traces ins.now outs.now (machine ins.now outs.now starts1.now marks1.now n1) (machine ins.now outs.now starts2.now marks2.now n2) buffer.new result.span.from result.span.to place.new result.at result.left result.right }
 {
-    let i = number(starts1[body_of(ins, pairs, q, a, LEFT)]);
-    let j = number(starts2[body_of(ins, pairs, q, a, RIGHT)]);
+    let i = usize::from(starts1[body_of(ins, pairs, q, a, LEFT)]);
+    let j = usize::from(starts2[body_of(ins, pairs, q, a, RIGHT)]);
     let f = root_tree(
         ins,
         starts1,
@@ -322,11 +302,10 @@ fn trace(
     );
     let w = write_address(outs, marks1, i, m, place, 16128);
     let s = trace_back(
-        ins, outs, starts1, marks1, pairs, e, q, buffer, f.from, f.to, place, w,
+        ins, outs, starts1, marks1, pairs, e, q, buffer, f.span, place, w,
     );
     Traced {
-        from: s.from,
-        to: s.to,
+        span: s.span,
         at: s.at,
         left: f.left,
         right: f.right,
@@ -373,8 +352,8 @@ pub fn show(
         &mut buffer,
         &mut place,
     );
-    let from = s.from;
-    let to = s.to;
+    let from = s.span.from;
+    let to = s.span.to;
     let at = s.at;
     copy_at(&buffer[from..to], tree, 0);
     copy_at(&place[at..16128], address, 0);

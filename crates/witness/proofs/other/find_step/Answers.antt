@@ -19,16 +19,16 @@ pub loop-a-init : goal.loop-a-init
 loop-a-init c = record { ahead = λ s h e. omega arith }
 
 pub step_distance-requires : goal.step_distance-requires
-step_distance-requires c = (c.requires.at, there c.requires c.loop-a.invariant c.wide-d.ensures)
+step_distance-requires c = (c.requires.at, there c.requires c.loop-a.invariant c.from-d.ensures)
 
 pub overflow_add-a : goal.overflow_add-a
-overflow_add-a c = omega (arith, there c.requires c.loop-a.invariant c.wide-d.ensures)
+overflow_add-a c = omega (arith, there c.requires c.loop-a.invariant c.from-d.ensures)
 
 pub loop-a-smaller : goal.loop-a-smaller
-loop-a-smaller c = omega (arith, there c.requires c.loop-a.invariant c.wide-d.ensures)
+loop-a-smaller c = omega (arith, there c.requires c.loop-a.invariant c.from-d.ensures)
 
 pub loop-a-preserved : goal.loop-a-preserved
 loop-a-preserved c = ahead_next c.loop-a.invariant c.step_distance.ensures.0 c.loop-a-test.true
 
 pub returns : goal.returns
-returns c = record { there = there c.requires c.loop-a.invariant c.wide-d.ensures; distance = sym c.step_distance.ensures.0 ∙ c.loop-a-test.false ∙ c.wide-d.ensures }
+returns c = record { there = there c.requires c.loop-a.invariant c.from-d.ensures; distance = sym c.step_distance.ensures.0 ∙ c.loop-a-test.false ∙ c.from-d.ensures }

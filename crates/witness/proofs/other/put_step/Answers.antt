@@ -19,16 +19,16 @@ pub bounds-starts-q : goal.bounds-starts-q
 bounds-starts-q c = omega (arith, number_there c.requires.0.at c.find_step-a.ensures.there)
 
 pub overflow_mul-at : goal.overflow_mul-at
-overflow_mul-at c = omega (arith, mark_there c.requires.0.at c.find_step-a.ensures.there c.number-at.ensures)
+overflow_mul-at c = omega (arith, mark_there c.requires.0.at c.find_step-a.ensures.there c.from-at.ensures)
 
 pub bounds-marks-at : goal.bounds-marks-at
-bounds-marks-at c = omega (arith, mark_there c.requires.0.at c.find_step-a.ensures.there c.number-at.ensures)
+bounds-marks-at c = omega (arith, mark_there c.requires.0.at c.find_step-a.ensures.there c.from-at.ensures)
 
 pub overflow_add-at : goal.overflow_add-at
-overflow_add-at c = omega (arith, mark_there c.requires.0.at c.find_step-a.ensures.there c.number-at.ensures)
+overflow_add-at c = omega (arith, mark_there c.requires.0.at c.find_step-a.ensures.there c.from-at.ensures)
 
 pub bounds-marks-at-2 : goal.bounds-marks-at-2
-bounds-marks-at-2 c = omega (arith, mark_there c.requires.0.at c.find_step-a.ensures.there c.number-at.ensures)
+bounds-marks-at-2 c = omega (arith, mark_there c.requires.0.at c.find_step-a.ensures.there c.from-at.ensures)
 
 pub returns : goal.returns
-returns c = step_put c.requires.0.at c.find_step-a.ensures.there c.number-at.ensures c.args.b c.wide.ensures c.args.steps.now c.args.k c.find_step-a.ensures
+returns c = step_put c.requires.0.at c.find_step-a.ensures.there c.from-at.ensures c.args.b c.from.ensures c.args.steps.now c.args.k c.find_step-a.ensures

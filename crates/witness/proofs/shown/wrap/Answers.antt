@@ -15,24 +15,24 @@ pub fill-requires : goal.fill-requires
 fill-requires c =
     let a = c.args in
     let P = c.requires in
-    omega (arith, length-set a.buffer.now (a.lo - a.i) a.a, P.from_one, P.child, P.left, P.ordered, P.right, P.symbols.ranks.low a.a P.symbols.there)
+    omega (arith, length-set a.buffer.now (a.span.from - a.i) a.a, P.from_one, P.child, P.left, P.ordered, P.right, P.symbols.ranks.low a.a P.symbols.there)
 
 pub fill-requires-2 : goal.fill-requires-2
 fill-requires-2 c =
     let a = c.args in
     let P = c.requires in
-    omega (arith, length-set a.buffer.now (a.lo - a.i) a.a, c.fill.auto.buffer, P.right, c.wide.ensures, P.symbols.ranks.low a.a P.symbols.there)
+    omega (arith, length-set a.buffer.now (a.span.from - a.i) a.a, c.fill.auto.buffer, P.right, c.from.ensures, P.symbols.ranks.low a.a P.symbols.there)
 
 pub overflow_add-result : goal.overflow_add-result
 overflow_add-result c =
     let a = c.args in
     let P = c.requires in
-    omega (arith, P.right, c.wide.ensures, P.symbols.ranks.low a.a P.symbols.there)
+    omega (arith, P.right, c.from.ensures, P.symbols.ranks.low a.a P.symbols.there)
 
 pub shape_of-buffer : goal.shape_of-buffer
 shape_of-buffer c =
     let a = c.args in
-    c.fill-2.auto.buffer ∙ c.fill.auto.buffer ∙ length-set a.buffer.now (a.lo - a.i) a.a
+    c.fill-2.auto.buffer ∙ c.fill.auto.buffer ∙ length-set a.buffer.now (a.span.from - a.i) a.a
 
 pub returns : goal.returns
-returns c = wrapped c.requires (ap (λ k. k - c.args.i) c.wide.ensures) refl c.fill.ensures c.fill-2.ensures refl
+returns c = wrapped c.requires (ap (λ k. k - c.args.i) c.from.ensures) refl c.fill.ensures c.fill-2.ensures refl

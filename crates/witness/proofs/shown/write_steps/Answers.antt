@@ -29,10 +29,10 @@ pub bounds-steps-k-in-loop-k : goal.bounds-steps-k-in-loop-k
 bounds-steps-k-in-loop-k c = omega (arith, c.requires.long, c.loop-k.invariant.inside)
 
 pub add_step-span-requires : goal.add_step-span-requires
-add_step-span-requires c = steps_loop_asks c.requires c.loop-k.invariant c.loop-k-test.true c.wide-a.ensures c.wide-i.ensures
+add_step-span-requires c = steps_loop_asks c.requires c.loop-k.invariant c.loop-k-test.true c.from-a.ensures c.from-i.ensures
 
 pub loop-k-preserved : goal.loop-k-preserved
-loop-k-preserved c = steps_loop_next c.requires c.loop-k.invariant c.loop-k-test.true c.wide-a.ensures c.wide-i.ensures c.add_step-span.auto.buffer c.add_step-span.ensures
+loop-k-preserved c = steps_loop_next c.requires c.loop-k.invariant c.loop-k-test.true c.from-a.ensures c.from-i.ensures c.add_step-span.auto.buffer c.add_step-span.ensures
 
 pub shape_of-buffer : goal.shape_of-buffer
 shape_of-buffer c = c.loop-k.invariant.room ∙ sym c.requires.room

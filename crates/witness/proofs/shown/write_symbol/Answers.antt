@@ -9,13 +9,13 @@ pub fill-requires : goal.fill-requires
 fill-requires c =
     let a = c.args in
     let P = c.requires in
-    omega (arith, length-set a.buffer.now a.at a.a, P.room, P.symbols.ranks.low a.a P.symbols.there, c.wide-rank.ensures)
+    omega (arith, length-set a.buffer.now a.at a.a, P.room, P.symbols.ranks.low a.a P.symbols.there, c.from-rank.ensures)
 
 pub overflow_add-result-2 : goal.overflow_add-result-2
 overflow_add-result-2 c =
     let a = c.args in
     let P = c.requires in
-    omega (arith, P.room, P.symbols.ranks.low a.a P.symbols.there, c.wide-rank.ensures)
+    omega (arith, P.room, P.symbols.ranks.low a.a P.symbols.there, c.from-rank.ensures)
 
 pub shape_of-buffer : goal.shape_of-buffer
 shape_of-buffer c =
@@ -23,4 +23,4 @@ shape_of-buffer c =
     c.fill.auto.buffer ∙ length-set a.buffer.now a.at a.a
 
 pub returns : goal.returns
-returns c = symbol_written c.requires c.wide-rank.ensures c.fill.ensures refl
+returns c = symbol_written c.requires c.from-rank.ensures c.fill.ensures refl

@@ -19,13 +19,13 @@ pub bounds-starts-x : goal.bounds-starts-x
 bounds-starts-x c = omega (arith, leaf_body_number c.requires (omega (arith, c.if-c-eq0.false)))
 
 pub overflow_mul-at : goal.overflow_mul-at
-overflow_mul-at c = omega (arith, leaf_mark_inside c.requires (omega (arith, c.if-c-eq0.false)) c.number-at.ensures)
+overflow_mul-at c = omega (arith, leaf_mark_inside c.requires (omega (arith, c.if-c-eq0.false)) c.from-at.ensures)
 
 pub overflow_add-at : goal.overflow_add-at
-overflow_add-at c = omega (arith, leaf_mark_inside c.requires (omega (arith, c.if-c-eq0.false)) c.number-at.ensures)
+overflow_add-at c = omega (arith, leaf_mark_inside c.requires (omega (arith, c.if-c-eq0.false)) c.from-at.ensures)
 
 pub bounds-marks-at : goal.bounds-marks-at
-bounds-marks-at c = leaf_mark_inside c.requires (omega (arith, c.if-c-eq0.false)) c.number-at.ensures
+bounds-marks-at c = leaf_mark_inside c.requires (omega (arith, c.if-c-eq0.false)) c.from-at.ensures
 
 pub returns : goal.returns
-returns c = leaf_root c.requires (omega (arith, c.if-c-eq0.false)) c.number-at.ensures c.wide.ensures
+returns c = leaf_root c.requires (omega (arith, c.if-c-eq0.false)) c.from-at.ensures c.from.ensures

@@ -24,11 +24,11 @@ offset_bounds-starts1-body_of c = omega (arith, back_start c.args.p c.requires.0
 pub bounds-starts1-body_of : goal.bounds-starts1-body_of
 bounds-starts1-body_of c = back_start c.args.p c.requires.0 c.pair_byte-q.ensures c.pair_byte-a.ensures c.body_of.ensures
 
-pub write_address-w-requires : goal.write_address-w-requires
-write_address-w-requires c = back_address_asked c.args.p c.requires.0 c.requires.1 c.pair_byte-q.ensures c.pair_byte-a.ensures c.pair_byte-m.ensures c.body_of.ensures c.number-from.ensures
+pub write_address-at-requires : goal.write_address-at-requires
+write_address-at-requires c = back_address_asked c.args.p c.requires.0 c.requires.1 c.pair_byte-q.ensures c.pair_byte-a.ensures c.pair_byte-m.ensures c.body_of.ensures c.from-from.ensures
 
-pub step_up-s-requires : goal.step_up-s-requires
-step_up-s-requires c = back_upable c.args.p c.requires.0 c.requires.1 c.pair_byte-q.ensures c.pair_byte-a.ensures c.pair_byte-i.ensures
+pub step_up-span-requires : goal.step_up-span-requires
+step_up-span-requires c = back_upable c.args.p c.requires.0 c.requires.1 c.pair_byte-q.ensures c.pair_byte-a.ensures c.pair_byte-i.ensures
 
 pub returns : goal.returns
-returns c = back_done c.args.p c.requires.0 c.requires.1 c.pair_byte-q.ensures c.pair_byte-a.ensures c.pair_byte-m.ensures c.pair_byte-i.ensures c.body_of.ensures c.number-from.ensures c.write_address-w.ensures c.write_address-w.auto.place c.step_up-s.ensures c.step_up-s.auto.buffer
+returns c = back_done c.args.p c.requires.0 c.requires.1 c.pair_byte-q.ensures c.pair_byte-a.ensures c.pair_byte-m.ensures c.pair_byte-i.ensures c.body_of.ensures c.from-from.ensures c.write_address-at.ensures c.write_address-at.auto.place c.step_up-span.ensures c.step_up-span.auto.buffer

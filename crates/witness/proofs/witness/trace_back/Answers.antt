@@ -7,8 +7,8 @@ use Rattle.witness.proofs.witness.trace_back.Goals as goal
 pub loop-r-init : goal.loop-r-init
 loop-r-init c = way_start c.requires.0 c.requires.1
 
-pub step_back-s-requires : goal.step_back-s-requires
-step_back-s-requires c = way_asks c.requires.0 c.requires.1 c.loop-r.invariant (c.loop-r.r - 1) (omega (arith, c.loop-r-test.true))
+pub step_back-placed-requires : goal.step_back-placed-requires
+step_back-placed-requires c = way_asks c.requires.0 c.requires.1 c.loop-r.invariant (c.loop-r.r - 1) (omega (arith, c.loop-r-test.true))
 
 pub overflow_sub-r-in-loop-r : goal.overflow_sub-r-in-loop-r
 overflow_sub-r-in-loop-r c = omega (arith, c.loop-r-test.true)
@@ -20,7 +20,7 @@ pub loop-r-smaller : goal.loop-r-smaller
 loop-r-smaller c = omega (arith, way_less c.requires.0 c.requires.1 c.loop-r.invariant (c.loop-r.r - 1) (omega (arith, c.loop-r-test.true)) c.pair_byte-r.ensures)
 
 pub loop-r-preserved : goal.loop-r-preserved
-loop-r-preserved c = way_next c.requires.0 c.requires.1 c.loop-r.invariant (c.loop-r.r - 1) (omega (arith, c.loop-r-test.true)) c.pair_byte-r.ensures c.step_back-s.auto.buffer c.step_back-s.auto.place c.step_back-s.ensures
+loop-r-preserved c = way_next c.requires.0 c.requires.1 c.loop-r.invariant (c.loop-r.r - 1) (omega (arith, c.loop-r-test.true)) c.pair_byte-r.ensures c.step_back-placed.auto.buffer c.step_back-placed.auto.place c.step_back-placed.ensures
 
 pub shape_of-buffer : goal.shape_of-buffer
 shape_of-buffer c = c.loop-r.invariant.same_buffer
