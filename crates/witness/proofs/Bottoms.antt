@@ -35,7 +35,9 @@ use Rattle.forms.specs.Inner.Tables.{machine, Layout}
 use Rattle.forms.proofs.Files.{machine_wf}
 use Rattle.witness.specs.Inner.Bottoms.{Bodied, RootOnLeafAsked, PathFromFound, RootOnLeaf, BottomFound, no_path, second_path, first_path}
 use Rattle.witness.specs.Inner.Other.{first_mark}
-use Rattle.pairs.specs.Inner.Pairs.{pair_byte, body_of}
+use Rattle.pairs.specs.declared.pairs.Pair.{Pair}
+use Rattle.pairs.specs.declared.pairs.Side.{Side}
+use Rattle.pairs.specs.Inner.Pairs.{pair_state, body_of}
 use Rattle.witness.specs.Inner.Shown.{steps_tree}
 use Rattle.witness.proofs.Firsts.{First, first_symbol, first_call, first_mark_lem, mark_fits}
 use Rattle.pairs.proofs.Stepping.{Begin, Root, root_call}
@@ -226,16 +228,16 @@ module _ {ins starts bytes : List ℕ} {e c x : ℕ} (F : RootOnLeafAsked ins st
   }
 
 -- ---- the number of a body
-module _ (ins P : List ℕ) (side a : ℕ) where
+module _ (ins : List ℕ) (P : List Pair) (side : Side) (a : ℕ) where
   pub body_top : (q : ℕ) → q ≡ 0 → 0 ≡ body_of ins P side q a
   unfolding body_of
   body_top ℕ.zero e = refl
   body_top (suc p) e = absurd (omega arith)
 
-  pub body_pair : (q : ℕ) → q ≢ 0 → {x : ℕ} → x ≡ pair_byte P side (q - 1) → body_number ins x a ≡ body_of ins P side q a
+  pub body_pair : (q : ℕ) → q ≢ 0 → {x : ℕ} → x ≡ pair_state P side (q - 1) → body_number ins x a ≡ body_of ins P side q a
   unfolding body_of
   body_pair ℕ.zero o f = absurd (o refl)
-  body_pair (suc p) o f = let z : suc p - 1 ≡ p = omega arith in ap (λ x. body_number ins x a) (f ∙ ap (λ k. pair_byte P side k) z)
+  body_pair (suc p) o f = let z : suc p - 1 ≡ p = omega arith in ap (λ x. body_number ins x a) (f ∙ ap (λ k. pair_state P side k) z)
 
   -- it is small
   pub body_small : {q x s : ℕ} → Bodied ins q a s → q ≢ 0 → x ≡ s → body_number ins x a ≤ 2064

@@ -2,14 +2,14 @@
 ghost use Rattle.std.specs.Prelude.{◌+◌, ◌-◌, ◌≤◌, ◌<◌, ◌≡◌, length};
 ghost use Rattle.forms.specs.Inner.Tables.{machine};
 ghost use Rattle.witness.specs.Inner.Bottoms.{Bodied, PathFromAsked, PathFromFound, RootOnLeafAsked, RootOnLeaf, BottomAsked, BottomFound, Upable, Upped, RootAsked, RootFound, Leading, Roomy, StepsBack, TracesBack, Tracing, Traces};
-ghost use Rattle.pairs.specs.Inner.Pairs.{sides, pair_byte, body_of, Clashes};
+ghost use Rattle.pairs.specs.Inner.Pairs.{sides, pair_state, body_of, Clashes};
 ghost use Rattle.witness.specs.Inner.Forms.{Comparable, Shows};
 
 use crate::other::{PathEnd, fill_distances, write_path};
 use crate::shown::{add_step, write_address, write_steps};
 use formats::file::copy_at;
 use forms::leaf::leaf_symbol;
-use pairs::pairs::{CHILD, LEFT, MARK, PARENT, RIGHT, SYMBOL, pair_byte};
+use pairs::pairs::{Pair, Side};
 use trees::bytes::Span;
 
 // Below a clash: the child that matters, 0 if none does, the number of steps of its tree, and the root symbols of the two outputs.
@@ -55,14 +55,15 @@ pub struct Shown {
 }
 
 // The number of the body of parent q for symbol a, on one side.
-fn body_of(ins: &[u8], pairs: &[u8; 1536], q: usize, a: usize, side: usize) -> usize
-    requires { Bodied ins.now q a (pair_byte pairs.now side (q - 1)) × (side < 6) }
+fn body_of(ins: &[u8], pairs: &[Pair; 256], q: usize, a: usize, side: Side) -> usize
+    requires { Bodied ins.now q a (pair_state pairs.now side (q - 1)) }
     ensures { result ≡ body_of ins.now pairs.now side q a }
 {
     if q == 0 {
         return 0;
     }
-    1 + pair_byte(pairs, q - 1, side) * ins.len() + a
+    let x = usize::from(pairs[q - 1].state(side));
+    1 + x * ins.len() + a
 }
 
 // The steps from state q down to a root symbol other than b.
@@ -202,7 +203,7 @@ fn step_back(
     outs: &[u8],
     starts1: &[u16],
     marks1: &[u8],
-    pairs: &[u8; 1536],
+    pairs: &[Pair; 256],
     e: usize,
     p: usize,
     buffer: &mut [u8],
@@ -213,11 +214,12 @@ fn step_back(
     requires { Leading ins.now outs.now starts1.now marks1.now pairs.now e (p + 1) × Roomy (p + 1) buffer.old span.from span.to place.old at }
     ensures { StepsBack ins.now outs.now starts1.now marks1.now pairs.now e p buffer.old span.from span.to place.old at buffer.new result.span.from result.span.to place.new result.at }
 {
-    let q = pair_byte(pairs, p, PARENT);
-    let a = pair_byte(pairs, p, SYMBOL);
-    let m = pair_byte(pairs, p, MARK);
-    let i = pair_byte(pairs, p, CHILD);
-    let from = usize::from(starts1[body_of(ins, pairs, q, a, LEFT)]);
+    let pair = pairs[p];
+    let q = usize::from(pair.parent);
+    let a = usize::from(pair.symbol);
+    let m = usize::from(pair.mark);
+    let i = usize::from(pair.child);
+    let from = usize::from(starts1[body_of(ins, pairs, q, a, Side::Left)]);
     let at = write_address(outs, marks1, from, m, place, at);
     let span = step_up(ins, e, q, a, i, buffer, span);
     Placed { span, at }
@@ -229,7 +231,7 @@ fn trace_back(
     outs: &[u8],
     starts1: &[u16],
     marks1: &[u8],
-    pairs: &[u8; 1536],
+    pairs: &[Pair; 256],
     e: usize,
     q: usize,
     buffer: &mut [u8],
@@ -257,7 +259,7 @@ fn trace_back(
             place,
             placed.at,
         );
-        r = pair_byte(pairs, r - 1, PARENT);
+        r = usize::from(pairs[r - 1].parent);
     }
     placed
 }
@@ -272,7 +274,7 @@ fn trace(
     starts2: &[u16],
     marks2: &[u8],
     n2: usize,
-    pairs: &[u8; 1536],
+    pairs: &[Pair; 256],
     e: usize,
     q: usize,
     a: usize,
@@ -283,8 +285,8 @@ fn trace(
     requires { Comparable ins.now outs.now starts1.now marks1.now n1 starts2.now marks2.now n2 × Clashes (sides ins.now starts1.now marks1.now starts2.now marks2.now) n1 n2 pairs.now q a m × Tracing ins.now e buffer.old place.old }
     ensures { Traces ins.now outs.now (machine ins.now outs.now starts1.now marks1.now n1) (machine ins.now outs.now starts2.now marks2.now n2) buffer.new result.span.from result.span.to place.new result.at result.left result.right }
 {
-    let i = usize::from(starts1[body_of(ins, pairs, q, a, LEFT)]);
-    let j = usize::from(starts2[body_of(ins, pairs, q, a, RIGHT)]);
+    let i = usize::from(starts1[body_of(ins, pairs, q, a, Side::Left)]);
+    let j = usize::from(starts2[body_of(ins, pairs, q, a, Side::Right)]);
     let f = root_tree(
         ins,
         starts1,
@@ -322,7 +324,7 @@ pub fn show(
     starts2: &[u16],
     marks2: &[u8],
     n2: usize,
-    pairs: &[u8; 1536],
+    pairs: &[Pair; 256],
     q: usize,
     a: usize,
     m: usize,

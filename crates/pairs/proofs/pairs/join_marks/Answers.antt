@@ -11,7 +11,7 @@ loop-k-init c = joins_none c.requires.0.merging
 pub join_states-r-requires : goal.join_states-r-requires
 join_states-r-requires c =
     let t = call_there c.loop-k.invariant c.requires.0 c.loop-k-test.true c.if-c-gt0.true in
-    (c.loop-k.invariant.merging, t.0, t.1, c.requires.1, c.requires.2, omega (arith, c.requires.0.few, c.loop-k-test.true))
+    (c.loop-k.invariant.merging, t.0, t.1)
 
 pub loop-k-preserved : goal.loop-k-preserved
 loop-k-preserved c =

@@ -3,20 +3,8 @@ use native.Mathlib.Omega.{arith}
 use Rattle.pairs.proofs.Searching.{pair_start, pair_bodies, pair_walkable, pair_next, pair_end}
 use Rattle.pairs.proofs.pairs.walk_symbols.Goals as goal
 
-pub overflow_mul-p : goal.overflow_mul-p
-overflow_mul-p c = omega (arith, c.requires.0.merging.few, c.requires.0.merging.room, c.requires.1)
-
-pub overflow_add-p : goal.overflow_add-p
-overflow_add-p c = omega (arith, c.requires.0.merging.few, c.requires.0.merging.room, c.requires.1)
-
 pub bounds-pairs-p : goal.bounds-pairs-p
 bounds-pairs-p c = omega (arith, c.requires.0.merging.few, c.requires.0.merging.room, c.requires.1)
-
-pub overflow_mul-p-2 : goal.overflow_mul-p-2
-overflow_mul-p-2 c = omega (arith, c.requires.0.merging.few, c.requires.0.merging.room, c.requires.1)
-
-pub overflow_add-p-2 : goal.overflow_add-p-2
-overflow_add-p-2 c = omega (arith, c.requires.0.merging.few, c.requires.0.merging.room, c.requires.1)
 
 pub bounds-pairs-p-2 : goal.bounds-pairs-p-2
 bounds-pairs-p-2 c = omega (arith, c.requires.0.merging.few, c.requires.0.merging.room, c.requires.1)
@@ -42,8 +30,8 @@ overflow_add-j c = omega (arith, (pair_bodies c.loop-a.invariant c.requires.1 c.
 pub overflow_add-j-in-loop-a : goal.overflow_add-j-in-loop-a
 overflow_add-j-in-loop-a c = omega (arith, (pair_bodies c.loop-a.invariant c.requires.1 c.loop-a-test.true c.from-x.ensures c.from-y.ensures).1, c.loop-a.invariant.goes.searching.forms.right.bounds.long)
 
-pub overflow_add-p-in-loop-a : goal.overflow_add-p-in-loop-a
-overflow_add-p-in-loop-a c = omega (arith, c.requires.0.merging.few, c.requires.0.merging.room, c.requires.1)
+pub overflow_add-p : goal.overflow_add-p
+overflow_add-p c = omega (arith, c.requires.0.merging.few, c.requires.0.merging.room, c.requires.1)
 
 pub walk_pair-requires : goal.walk_pair-requires
 walk_pair-requires c = pair_walkable c.loop-a.invariant c.requires.1 c.loop-a-test.true c.from-x.ensures c.from-y.ensures

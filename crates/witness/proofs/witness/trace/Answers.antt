@@ -6,7 +6,7 @@ use Rattle.witness.proofs.Showing.{show_bodied_left, show_bodied_right, show_lef
 use Rattle.witness.proofs.witness.trace.Goals as goal
 
 pub body_of-requires : goal.body_of-requires
-body_of-requires c = (show_bodied_left c.requires.0 c.requires.1, omega arith)
+body_of-requires c = show_bodied_left c.requires.0 c.requires.1
 
 pub offset_bounds-starts1-body_of : goal.offset_bounds-starts1-body_of
 offset_bounds-starts1-body_of c = omega (arith, show_left c.requires.0 c.requires.1, c.body_of.ensures)
@@ -15,7 +15,7 @@ pub bounds-starts1-body_of : goal.bounds-starts1-body_of
 bounds-starts1-body_of c = omega (arith, show_left c.requires.0 c.requires.1, c.body_of.ensures)
 
 pub body_of-requires-2 : goal.body_of-requires-2
-body_of-requires-2 c = (show_bodied_right c.requires.0 c.requires.1, omega arith)
+body_of-requires-2 c = show_bodied_right c.requires.0 c.requires.1
 
 pub offset_bounds-starts2-body_of : goal.offset_bounds-starts2-body_of
 offset_bounds-starts2-body_of c = omega (arith, show_right c.requires.0 c.requires.1, c.body_of-2.ensures)

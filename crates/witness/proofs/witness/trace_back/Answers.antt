@@ -13,14 +13,11 @@ step_back-placed-requires c = way_asks c.requires.0 c.requires.1 c.loop-r.invari
 pub overflow_sub-r-in-loop-r : goal.overflow_sub-r-in-loop-r
 overflow_sub-r-in-loop-r c = omega (arith, c.loop-r-test.true)
 
-pub pair_byte-r-requires : goal.pair_byte-r-requires
-pair_byte-r-requires c = (omega (arith, c.loop-r-test.true, c.loop-r.invariant.small, c.requires.0.long), omega arith)
-
 pub loop-r-smaller : goal.loop-r-smaller
-loop-r-smaller c = omega (arith, way_less c.requires.0 c.requires.1 c.loop-r.invariant (c.loop-r.r - 1) (omega (arith, c.loop-r-test.true)) c.pair_byte-r.ensures)
+loop-r-smaller c = omega (arith, way_less c.requires.0 c.requires.1 c.loop-r.invariant (c.loop-r.r - 1) (omega (arith, c.loop-r-test.true)) c.from-r.ensures)
 
 pub loop-r-preserved : goal.loop-r-preserved
-loop-r-preserved c = way_next c.requires.0 c.requires.1 c.loop-r.invariant (c.loop-r.r - 1) (omega (arith, c.loop-r-test.true)) c.pair_byte-r.ensures c.step_back-placed.auto.buffer c.step_back-placed.auto.place c.step_back-placed.ensures
+loop-r-preserved c = way_next c.requires.0 c.requires.1 c.loop-r.invariant (c.loop-r.r - 1) (omega (arith, c.loop-r-test.true)) c.from-r.ensures c.step_back-placed.auto.buffer c.step_back-placed.auto.place c.step_back-placed.ensures
 
 pub shape_of-buffer : goal.shape_of-buffer
 shape_of-buffer c = c.loop-r.invariant.same_buffer
