@@ -9,7 +9,7 @@ use crate::other::{PathEnd, fill_distances, write_path};
 use crate::shown::{add_step, write_address, write_steps};
 use formats::file::copy_at;
 use forms::leaf::leaf_symbol;
-use pairs::pairs::{Pair, Side};
+use pairs::pairs::{Clash, Pair, Side};
 use trees::bytes::Span;
 
 // Below a clash: the child that matters, 0 if none does, the number of steps of its tree, and the root symbols of the two outputs.
@@ -264,7 +264,7 @@ fn trace_back(
     placed
 }
 
-// What shows that the bodies of parent q for symbol a clash at mark m, as the list of pairs leads there: the tree in `buffer`, the address at the end of `place`.
+// What shows that two bodies clash, as the list of pairs leads there: the tree in `buffer`, the address at the end of `place`.
 fn trace(
     ins: &[u8],
     outs: &[u8],
@@ -276,15 +276,16 @@ fn trace(
     n2: usize,
     pairs: &[Pair; 256],
     e: usize,
-    q: usize,
-    a: usize,
-    m: usize,
+    clash: Clash,
     buffer: &mut [u8],
     place: &mut [u8],
 ) -> Traced
-    requires { Comparable ins.now outs.now starts1.now marks1.now n1 starts2.now marks2.now n2 × Clashes (sides ins.now starts1.now marks1.now starts2.now marks2.now) n1 n2 pairs.now q a m × Tracing ins.now e buffer.old place.old }
+    requires { Comparable ins.now outs.now starts1.now marks1.now n1 starts2.now marks2.now n2 × Clashes (sides ins.now starts1.now marks1.now starts2.now marks2.now) n1 n2 pairs.now clash.parent clash.symbol clash.mark × Tracing ins.now e buffer.old place.old }
     ensures { Traces ins.now outs.now (machine ins.now outs.now starts1.now marks1.now n1) (machine ins.now outs.now starts2.now marks2.now n2) buffer.new result.span.from result.span.to place.new result.at result.left result.right }
 {
+    let q = clash.parent;
+    let a = clash.symbol;
+    let m = clash.mark;
     let i = usize::from(starts1[body_of(ins, pairs, q, a, Side::Left)]);
     let j = usize::from(starts2[body_of(ins, pairs, q, a, Side::Right)]);
     let f = root_tree(
@@ -314,7 +315,7 @@ fn trace(
     }
 }
 
-// The tree and the address that show that the bodies of parent q for symbol a clash at mark m, and the two symbols.
+// The tree and the address that show that two bodies clash, and the two symbols.
 pub fn show(
     ins: &[u8],
     outs: &[u8],
@@ -325,13 +326,11 @@ pub fn show(
     marks2: &[u8],
     n2: usize,
     pairs: &[Pair; 256],
-    q: usize,
-    a: usize,
-    m: usize,
+    clash: Clash,
     tree: &mut [u8],
     address: &mut [u8],
 ) -> Shown
-    requires { Comparable ins.now outs.now starts1.now marks1.now n1 starts2.now marks2.now n2 × Clashes (sides ins.now starts1.now marks1.now starts2.now marks2.now) n1 n2 pairs.now q a m × (1536 ≤ length tree.old) × (16128 ≤ length address.old) }
+    requires { Comparable ins.now outs.now starts1.now marks1.now n1 starts2.now marks2.now n2 × Clashes (sides ins.now starts1.now marks1.now starts2.now marks2.now) n1 n2 pairs.now clash.parent clash.symbol clash.mark × (1536 ≤ length tree.old) × (16128 ≤ length address.old) }
     ensures { Shows ins.now outs.now (machine ins.now outs.now starts1.now marks1.now n1) (machine ins.now outs.now starts2.now marks2.now n2) tree.old tree.new address.old address.new result.nodes result.numbers result.left result.right }
 {
     let mut buffer = [0u8; 3584];
@@ -348,9 +347,7 @@ pub fn show(
         n2,
         pairs,
         e,
-        q,
-        a,
-        m,
+        clash,
         &mut buffer,
         &mut place,
     );
