@@ -1,8 +1,8 @@
 // An input tree on which a state's output has a root symbol other than b: the distances of the states, and the steps along which they decrease.
 ghost use Rattle.std.specs.Prelude.{◌+◌, ◌*◌, ◌≤◌, ◌<◌, ◌≡◌, length};
-ghost use Rattle.witness.specs.Inner.Other.{step_distance, DistanceTableAt, FindsDistance, Settable, SetsDistance, Sweepable, SweepsDistances, Fillable, FillsDistances, Steppable, FindsStep, PutsStep, PathAsked, DecreasingPath};
+ghost use Rattle.witness.specs.Inner.Other.{step_distance, IsDistance, DistanceTableAt, FindsDistance, Settable, SetsDistance, Sweepable, SweepsDistances, Fillable, FillsDistances, Steppable, FindsStep, PutsStep, PathAsked, DecreasingPath};
 
-// How far the right-hand side of q for a is from a root symbol other than b: 1 if it has one, one more than the state called if it is a call alone, else 0.
+// How far the right-hand side of q for a is from a root symbol other than b: 1 if it has one, one more than the state called if it is a call alone.
 fn step_distance(
     ins: &[u8],
     starts: &[u16],
@@ -11,37 +11,43 @@ fn step_distance(
     q: usize,
     a: usize,
     b: usize,
-) -> usize
+) -> Option<usize>
     requires { DistanceTableAt ins.now starts.now marks.now dist.now q × (a < length ins.now) }
-    ensures { (result ≡ step_distance ins.now starts.now marks.now dist.now b q a) × (result ≤ 256) }
+    ensures { IsDistance (step_distance ins.now starts.now marks.now dist.now b q a) result }
 {
     let at = 2 * usize::from(starts[1 + q * ins.len() + a]);
     let x = usize::from(marks[at + 1]);
     if marks[at] == 0 {
         if x == b {
-            return 0;
+            return None;
         }
-        return 1;
+        return Some(1);
     }
     let d = usize::from(dist[x]);
     if d == 0 {
-        return 0;
+        return None;
     }
-    d + 1
+    Some(d + 1)
 }
 
-// The distance of the first right-hand side of q that has one, or 0.
-fn find_distance(ins: &[u8], starts: &[u16], marks: &[u8], dist: &[u8], q: usize, b: usize) -> usize
+// The distance of the first right-hand side of q that has one.
+fn find_distance(
+    ins: &[u8],
+    starts: &[u16],
+    marks: &[u8],
+    dist: &[u8],
+    q: usize,
+    b: usize,
+) -> Option<usize>
     requires { DistanceTableAt ins.now starts.now marks.now dist.now q }
     ensures { FindsDistance ins.now starts.now marks.now dist.now q b result }
 {
     for a in 0..ins.len() {
-        let d = step_distance(ins, starts, marks, dist, q, a, b);
-        if d > 0 {
-            return d;
+        if let Some(d) = step_distance(ins, starts, marks, dist, q, a, b) {
+            return Some(d);
         }
     }
-    0
+    None
 }
 
 // Gives state q its distance, if it has none and one of its right-hand sides has one; says whether it did.
@@ -59,12 +65,13 @@ fn set_distance(
     if dist[q] > 0 {
         return false;
     }
-    let d = find_distance(ins, starts, marks, dist, q, b);
-    if d == 0 {
-        return false;
+    match find_distance(ins, starts, marks, dist, q, b) {
+        Some(d) => {
+            dist[q] = d as u8;
+            true
+        }
+        None => false,
     }
-    dist[q] = d as u8;
-    true
 }
 
 // Does so for each of n states, and says whether any got a distance.
@@ -111,7 +118,7 @@ fn find_step(ins: &[u8], starts: &[u16], marks: &[u8], dist: &[u8], q: usize, b:
     requires { Steppable ins.now starts.now marks.now dist.now q b }
     ensures { FindsStep ins.now starts.now marks.now dist.now q b result }
 {
-    let d = usize::from(dist[q]);
+    let d = Some(usize::from(dist[q]));
     let mut a = 0;
     // Stays `while`: one symbol is as far, so no end is tested.
     while step_distance(ins, starts, marks, dist, q, a, b) != d {
