@@ -1,7 +1,15 @@
 // The pair search of Hopcroft and Karp: states of two transducers are joined into classes, pair by pair, until all right-hand sides
 // agree up to classes, or two of them clash.
 ghost use Rattle.std.specs.Prelude.{ℕ, ◌+◌, ◌*◌, ◌≤◌, ◌<◌, ◌≡◌, length, get_or};
-ghost use Rattle.pairs.specs.Inner.Pairs.{sides, table, state_of, Forms, FirstClash, Joined, Merging, JoinsStates, Joinable, JoinsMarks, Searching, Walkable, Walks, WalksPair, WalksAll, Searches};
+ghost use Rattle.pairs.specs.Inner.Pairs.{sides, sides_of, table, state_of, Forms, FirstClash, Joined, Merging, JoinsStates, Joinable, JoinsMarks, Searching, Walkable, Walks, WalksPair, WalksAll, Searches};
+
+// A transducer in tables: where its bodies start, their marks, and how many states it has.
+#[derive(Clone, Copy)]
+pub struct Tables<'a> {
+    pub starts: &'a [u16],
+    pub marks: &'a [u8],
+    pub states: usize,
+}
 
 // One of the two transducers.
 #[derive(Clone, Copy, Debug, PartialEq, Eq)]
@@ -140,11 +148,9 @@ fn join_marks(
 // Walks body i of the first and body j of the second, those of a parent for symbol a.
 fn walk_pair(
     ins: &[u8],
-    starts1: &[u16],
-    marks1: &[u8],
+    left: Tables,
     i: usize,
-    starts2: &[u16],
-    marks2: &[u8],
+    right: Tables,
     j: usize,
     classes1: &mut [u8],
     classes2: &mut [u8],
@@ -153,14 +159,14 @@ fn walk_pair(
     parent: usize,
     a: usize,
 ) -> Result<usize, Clash>
-    requires { Walkable (sides ins.now starts1.now marks1.now starts2.now marks2.now) (table classes1.old classes2.old pairs.old count) parent a i j }
-    ensures { Walks (sides ins.now starts1.now marks1.now starts2.now marks2.now) (table classes1.old classes2.old pairs.old count) classes1.new classes2.new pairs.new i j result }
+    requires { Walkable (sides_of ins.now left right) (table classes1.old classes2.old pairs.old count) parent a i j }
+    ensures { Walks (sides_of ins.now left.entry right.entry) (table classes1.old classes2.old pairs.old count) classes1.new classes2.new pairs.new i j result }
 {
-    let from = usize::from(starts1[i]);
-    let other = usize::from(starts2[j]);
-    let size = usize::from(starts1[i + 1]) - from;
-    let n = size.min(usize::from(starts2[j + 1]) - other);
-    let clash = first_clash(marks1, from, marks2, other, n);
+    let from = usize::from(left.starts[i]);
+    let other = usize::from(right.starts[j]);
+    let size = usize::from(left.starts[i + 1]) - from;
+    let n = size.min(usize::from(right.starts[j + 1]) - other);
+    let clash = first_clash(left.marks, from, right.marks, other, n);
     match clash {
         Some(mark) => Err(Clash {
             parent,
@@ -169,7 +175,17 @@ fn walk_pair(
         }),
         None => {
             let r = join_marks(
-                marks1, from, marks2, other, n, classes1, classes2, pairs, count, parent, a,
+                left.marks,
+                from,
+                right.marks,
+                other,
+                n,
+                classes1,
+                classes2,
+                pairs,
+                count,
+                parent,
+                a,
             );
             Ok(r)
         }
@@ -179,18 +195,16 @@ fn walk_pair(
 // Walks the right-hand sides of pair p, symbol by symbol.
 fn walk_symbols(
     ins: &[u8],
-    starts1: &[u16],
-    marks1: &[u8],
-    starts2: &[u16],
-    marks2: &[u8],
+    left: Tables,
+    right: Tables,
     classes1: &mut [u8],
     classes2: &mut [u8],
     pairs: &mut [Pair; 256],
     count: usize,
     p: usize,
 ) -> Result<usize, Clash>
-    requires { Searching (sides ins.now starts1.now marks1.now starts2.now marks2.now) (table classes1.old classes2.old pairs.old count) × (p < count) }
-    ensures { WalksPair (sides ins.now starts1.now marks1.now starts2.now marks2.now) (table classes1.old classes2.old pairs.old count) classes1.new classes2.new pairs.new p result }
+    requires { Searching (sides_of ins.now left right) (table classes1.old classes2.old pairs.old count) × (p < count) }
+    ensures { WalksPair (sides_of ins.now left.entry right.entry) (table classes1.old classes2.old pairs.old count) classes1.new classes2.new pairs.new p result }
 {
     let x = usize::from(pairs[p].left);
     let y = usize::from(pairs[p].right);
@@ -200,11 +214,9 @@ fn walk_symbols(
         let j = 1 + y * ins.len() + a;
         n = walk_pair(
             ins,
-            starts1,
-            marks1,
+            left,
             i,
-            starts2,
-            marks2,
+            right,
             j,
             classes1,
             classes2,
@@ -220,25 +232,21 @@ fn walk_symbols(
 // Walks the right-hand sides of the listed pairs, from the first on.
 fn walk_pairs(
     ins: &[u8],
-    starts1: &[u16],
-    marks1: &[u8],
-    starts2: &[u16],
-    marks2: &[u8],
+    left: Tables,
+    right: Tables,
     classes1: &mut [u8],
     classes2: &mut [u8],
     pairs: &mut [Pair; 256],
     count: usize,
 ) -> Result<(), Clash>
-    requires { Searching (sides ins.now starts1.now marks1.now starts2.now marks2.now) (table classes1.old classes2.old pairs.old count) }
-    ensures { WalksAll (sides ins.now starts1.now marks1.now starts2.now marks2.now) (table classes1.old classes2.old pairs.old count) classes1.new classes2.new pairs.new result }
+    requires { Searching (sides_of ins.now left right) (table classes1.old classes2.old pairs.old count) }
+    ensures { WalksAll (sides_of ins.now left.entry right.entry) (table classes1.old classes2.old pairs.old count) classes1.new classes2.new pairs.new result }
 {
     let mut n = count;
     let mut p = 0;
     // Stays `while`: walking a pair lists more pairs.
     while p < n {
-        n = walk_symbols(
-            ins, starts1, marks1, starts2, marks2, classes1, classes2, pairs, n, p,
-        )?;
+        n = walk_symbols(ins, left, right, classes1, classes2, pairs, n, p)?;
         p += 1;
     }
     Ok(())
@@ -260,10 +268,16 @@ pub fn search(
 {
     start_classes(classes1, 0);
     start_classes(classes2, 128);
-    let n = walk_pair(
-        ins, starts1, marks1, 0, starts2, marks2, 0, classes1, classes2, pairs, 0, 0, 0,
-    )?;
-    walk_pairs(
-        ins, starts1, marks1, starts2, marks2, classes1, classes2, pairs, n,
-    )
+    let left = Tables {
+        starts: starts1,
+        marks: marks1,
+        states: classes1.len(),
+    };
+    let right = Tables {
+        starts: starts2,
+        marks: marks2,
+        states: classes2.len(),
+    };
+    let n = walk_pair(ins, left, 0, right, 0, classes1, classes2, pairs, 0, 0, 0)?;
+    walk_pairs(ins, left, right, classes1, classes2, pairs, n)
 }

@@ -9,7 +9,7 @@ use crate::other::{PathEnd, fill_distances, write_path};
 use crate::shown::{add_step, write_address, write_steps};
 use formats::file::copy_at;
 use forms::leaf::leaf_symbol;
-use pairs::pairs::{Clash, Pair, Side};
+use pairs::pairs::{Clash, Pair, Side, Tables};
 use trees::bytes::Span;
 
 // Below a clash: the child that matters, 0 if none does, the number of steps of its tree, and the root symbols of the two outputs.
@@ -67,44 +67,32 @@ fn body_of(ins: &[u8], pairs: &[Pair; 256], q: usize, a: usize, side: Side) -> u
 }
 
 // The steps from state q down to a root symbol other than b.
-fn path_from(
-    ins: &[u8],
-    starts: &[u16],
-    marks: &[u8],
-    n: usize,
-    q: usize,
-    b: usize,
-    steps: &mut [u8],
-) -> PathEnd
-    requires { PathFromAsked ins.now starts.now marks.now n q steps.old }
-    ensures { PathFromFound ins.now starts.now marks.now q b steps.new result.count result.symbol }
+fn path_from(ins: &[u8], form: Tables, q: usize, b: usize, steps: &mut [u8]) -> PathEnd
+    requires { PathFromAsked ins.now form.starts.now form.marks.now form.states q steps.old }
+    ensures { PathFromFound ins.now form.entry.starts.now form.entry.marks.now q b steps.new result.count result.symbol }
 {
     let mut dist = [0u8; 128];
-    fill_distances(ins, starts, marks, n, b, &mut dist);
-    write_path(ins, starts, marks, &dist, q, b, steps)
+    fill_distances(ins, form, b, &mut dist);
+    write_path(ins, form, &dist, q, b, steps)
 }
 
 // The root symbol of the mark (c, x), a call reading the leaf e.
-fn root_on_leaf(ins: &[u8], starts: &[u16], marks: &[u8], e: usize, c: usize, x: usize) -> usize
-    requires { RootOnLeafAsked ins.now starts.now marks.now e c x }
-    ensures { RootOnLeaf ins.now starts.now marks.now e c x result }
+fn root_on_leaf(ins: &[u8], form: Tables, e: usize, c: usize, x: usize) -> usize
+    requires { RootOnLeafAsked ins.now form.starts.now form.marks.now e c x }
+    ensures { RootOnLeaf ins.now form.entry.starts.now form.entry.marks.now e c x result }
 {
     if c == 0 {
         return x;
     }
-    let at = 2 * usize::from(starts[1 + x * ins.len() + e]);
-    usize::from(marks[at + 1])
+    let at = 2 * usize::from(form.starts[1 + x * ins.len() + e]);
+    usize::from(form.marks[at + 1])
 }
 
 // What lies below two marks that clash: a path from the call, or from the first of two calls.
 fn find_bottom(
     ins: &[u8],
-    starts1: &[u16],
-    marks1: &[u8],
-    n1: usize,
-    starts2: &[u16],
-    marks2: &[u8],
-    n2: usize,
+    left: Tables,
+    right: Tables,
     e: usize,
     c1: usize,
     x1: usize,
@@ -112,12 +100,12 @@ fn find_bottom(
     x2: usize,
     steps: &mut [u8],
 ) -> Bottom
-    requires { BottomAsked ins.now starts1.now marks1.now n1 starts2.now marks2.now n2 e c1 x1 c2 x2 steps.old }
-    ensures { BottomFound ins.now starts1.now marks1.now starts2.now marks2.now e c1 x1 c2 x2 steps.new result.child result.count result.left result.right }
+    requires { BottomAsked ins.now left.starts.now left.marks.now left.states right.starts.now right.marks.now right.states e c1 x1 c2 x2 steps.old }
+    ensures { BottomFound ins.now left.entry.starts.now left.entry.marks.now right.entry.starts.now right.entry.marks.now e c1 x1 c2 x2 steps.new result.child result.count result.left result.right }
 {
     if c1 > 0 {
-        let b = root_on_leaf(ins, starts2, marks2, e, c2, x2);
-        let f = path_from(ins, starts1, marks1, n1, x1, b, steps);
+        let b = root_on_leaf(ins, right, e, c2, x2);
+        let f = path_from(ins, left, x1, b, steps);
         return Bottom {
             child: c1,
             count: f.count,
@@ -126,7 +114,7 @@ fn find_bottom(
         };
     }
     if c2 > 0 {
-        let f = path_from(ins, starts2, marks2, n2, x2, x1, steps);
+        let f = path_from(ins, right, x2, x1, steps);
         return Bottom {
             child: c2,
             count: f.count,
@@ -164,12 +152,8 @@ fn step_up(
 // Writes the tree on which parent q, for symbol a, shows that mark number i of the first and mark number j of the second clash.
 fn root_tree(
     ins: &[u8],
-    starts1: &[u16],
-    marks1: &[u8],
-    n1: usize,
-    starts2: &[u16],
-    marks2: &[u8],
-    n2: usize,
+    left: Tables,
+    right: Tables,
     e: usize,
     i: usize,
     j: usize,
@@ -177,17 +161,15 @@ fn root_tree(
     a: usize,
     buffer: &mut [u8],
 ) -> Rooted
-    requires { RootAsked ins.now starts1.now marks1.now n1 starts2.now marks2.now n2 e i j q a buffer.old }
-    ensures { RootFound ins.now starts1.now marks1.now starts2.now marks2.now e i j q a buffer.new result.span.from result.span.to result.left result.right }
+    requires { RootAsked ins.now left.starts.now left.marks.now left.states right.starts.now right.marks.now right.states e i j q a buffer.old }
+    ensures { RootFound ins.now left.entry.starts.now left.entry.marks.now right.entry.starts.now right.entry.marks.now e i j q a buffer.new result.span.from result.span.to result.left result.right }
 {
     let mut steps = [0u8; 256];
-    let c1 = usize::from(marks1[2 * i]);
-    let x1 = usize::from(marks1[2 * i + 1]);
-    let c2 = usize::from(marks2[2 * j]);
-    let x2 = usize::from(marks2[2 * j + 1]);
-    let f = find_bottom(
-        ins, starts1, marks1, n1, starts2, marks2, n2, e, c1, x1, c2, x2, &mut steps,
-    );
+    let c1 = usize::from(left.marks[2 * i]);
+    let x1 = usize::from(left.marks[2 * i + 1]);
+    let c2 = usize::from(right.marks[2 * j]);
+    let x2 = usize::from(right.marks[2 * j + 1]);
+    let f = find_bottom(ins, left, right, e, c1, x1, c2, x2, &mut steps);
     let tree = write_steps(ins, e, &steps, f.count, buffer);
     let span = step_up(ins, e, q, a, f.child, buffer, tree);
     Rooted {
@@ -201,8 +183,7 @@ fn root_tree(
 fn step_back(
     ins: &[u8],
     outs: &[u8],
-    starts1: &[u16],
-    marks1: &[u8],
+    left: Tables,
     pairs: &[Pair; 256],
     e: usize,
     p: usize,
@@ -211,16 +192,16 @@ fn step_back(
     place: &mut [u8],
     at: usize,
 ) -> Placed
-    requires { Leading ins.now outs.now starts1.now marks1.now pairs.now e (p + 1) × Roomy (p + 1) buffer.old span.from span.to place.old at }
-    ensures { StepsBack ins.now outs.now starts1.now marks1.now pairs.now e p buffer.old span.from span.to place.old at buffer.new result.span.from result.span.to place.new result.at }
+    requires { Leading ins.now outs.now left.starts.now left.marks.now pairs.now e (p + 1) × Roomy (p + 1) buffer.old span.from span.to place.old at }
+    ensures { StepsBack ins.now outs.now left.entry.starts.now left.entry.marks.now pairs.now e p buffer.old span.from span.to place.old at buffer.new result.span.from result.span.to place.new result.at }
 {
     let pair = pairs[p];
     let q = usize::from(pair.parent);
     let a = usize::from(pair.symbol);
     let m = usize::from(pair.mark);
     let i = usize::from(pair.child);
-    let from = usize::from(starts1[body_of(ins, pairs, q, a, Side::Left)]);
-    let at = write_address(outs, marks1, from, m, place, at);
+    let from = usize::from(left.starts[body_of(ins, pairs, q, a, Side::Left)]);
+    let at = write_address(outs, left.marks, from, m, place, at);
     let span = step_up(ins, e, q, a, i, buffer, span);
     Placed { span, at }
 }
@@ -229,8 +210,7 @@ fn step_back(
 fn trace_back(
     ins: &[u8],
     outs: &[u8],
-    starts1: &[u16],
-    marks1: &[u8],
+    left: Tables,
     pairs: &[Pair; 256],
     e: usize,
     q: usize,
@@ -239,8 +219,8 @@ fn trace_back(
     place: &mut [u8],
     at: usize,
 ) -> Placed
-    requires { Leading ins.now outs.now starts1.now marks1.now pairs.now e q × Roomy q buffer.old span.from span.to place.old at }
-    ensures { TracesBack ins.now outs.now starts1.now marks1.now pairs.now e q buffer.old span.from span.to place.old at buffer.new result.span.from result.span.to place.new result.at }
+    requires { Leading ins.now outs.now left.starts.now left.marks.now pairs.now e q × Roomy q buffer.old span.from span.to place.old at }
+    ensures { TracesBack ins.now outs.now left.entry.starts.now left.entry.marks.now pairs.now e q buffer.old span.from span.to place.old at buffer.new result.span.from result.span.to place.new result.at }
 {
     let mut placed = Placed { span, at };
     let mut r = q;
@@ -249,8 +229,7 @@ fn trace_back(
         placed = step_back(
             ins,
             outs,
-            starts1,
-            marks1,
+            left,
             pairs,
             e,
             r - 1,
@@ -268,45 +247,25 @@ fn trace_back(
 fn trace(
     ins: &[u8],
     outs: &[u8],
-    starts1: &[u16],
-    marks1: &[u8],
-    n1: usize,
-    starts2: &[u16],
-    marks2: &[u8],
-    n2: usize,
+    left: Tables,
+    right: Tables,
     pairs: &[Pair; 256],
     e: usize,
     clash: Clash,
     buffer: &mut [u8],
     place: &mut [u8],
 ) -> Traced
-    requires { Comparable ins.now outs.now starts1.now marks1.now n1 starts2.now marks2.now n2 × Clashes (sides ins.now starts1.now marks1.now starts2.now marks2.now) n1 n2 pairs.now clash.parent clash.symbol clash.mark × Tracing ins.now e buffer.old place.old }
-    ensures { Traces ins.now outs.now (machine ins.now outs.now starts1.now marks1.now n1) (machine ins.now outs.now starts2.now marks2.now n2) buffer.new result.span.from result.span.to place.new result.at result.left result.right }
+    requires { Comparable ins.now outs.now left.starts.now left.marks.now left.states right.starts.now right.marks.now right.states × Clashes (sides ins.now left.starts.now left.marks.now right.starts.now right.marks.now) left.states right.states pairs.now clash.parent clash.symbol clash.mark × Tracing ins.now e buffer.old place.old }
+    ensures { Traces ins.now outs.now (machine ins.now outs.now left.entry.starts.now left.entry.marks.now left.entry.states) (machine ins.now outs.now right.entry.starts.now right.entry.marks.now right.entry.states) buffer.new result.span.from result.span.to place.new result.at result.left result.right }
 {
     let q = clash.parent;
     let a = clash.symbol;
     let m = clash.mark;
-    let i = usize::from(starts1[body_of(ins, pairs, q, a, Side::Left)]);
-    let j = usize::from(starts2[body_of(ins, pairs, q, a, Side::Right)]);
-    let f = root_tree(
-        ins,
-        starts1,
-        marks1,
-        n1,
-        starts2,
-        marks2,
-        n2,
-        e,
-        i + m,
-        j + m,
-        q,
-        a,
-        buffer,
-    );
-    let w = write_address(outs, marks1, i, m, place, 16128);
-    let s = trace_back(
-        ins, outs, starts1, marks1, pairs, e, q, buffer, f.span, place, w,
-    );
+    let i = usize::from(left.starts[body_of(ins, pairs, q, a, Side::Left)]);
+    let j = usize::from(right.starts[body_of(ins, pairs, q, a, Side::Right)]);
+    let f = root_tree(ins, left, right, e, i + m, j + m, q, a, buffer);
+    let w = write_address(outs, left.marks, i, m, place, 16128);
+    let s = trace_back(ins, outs, left, pairs, e, q, buffer, f.span, place, w);
     Traced {
         span: s.span,
         at: s.at,
@@ -336,15 +295,21 @@ pub fn show(
     let mut buffer = [0u8; 3584];
     let mut place = [0u8; 16128];
     let e = leaf_symbol(ins);
+    let left = Tables {
+        starts: starts1,
+        marks: marks1,
+        states: n1,
+    };
+    let right = Tables {
+        starts: starts2,
+        marks: marks2,
+        states: n2,
+    };
     let s = trace(
         ins,
         outs,
-        starts1,
-        marks1,
-        n1,
-        starts2,
-        marks2,
-        n2,
+        left,
+        right,
         pairs,
         e,
         clash,

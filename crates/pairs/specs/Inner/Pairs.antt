@@ -11,6 +11,7 @@ use Rattle.forms.specs.Inner.Tables.{machine, Layout}
 use Rattle.classes.specs.Inner.Classes.{at}
 use Rattle.pairs.specs.declared.pairs.Clash.{Clash}
 use Rattle.pairs.specs.declared.pairs.Pair.{Pair}
+use Rattle.pairs.specs.declared.pairs.Tables.{Tables}
 use Rattle.pairs.specs.declared.pairs.Side.{Side}
 use Rattle.pairs.specs.declared.pairs.Side.TheVariants.{Left, Right}
 
@@ -25,6 +26,9 @@ pub record Sides : Type 0 where
 
 abbrev pub sides : List ℕ → List ℕ → List ℕ → List ℕ → List ℕ → Sides
 sides ins starts bytes starts' bytes' = record { ins = ins; starts = starts; bytes = bytes; starts' = starts'; bytes' = bytes' }
+
+abbrev pub sides_of : List ℕ → Tables → Tables → Sides
+sides_of ins T U = sides ins T.starts.now T.marks.now U.starts.now U.marks.now
 
 -- both are transducers over one output alphabet, with n and n' states
 pub record Forms (S : Sides) (n n' : ℕ) : Type 0 where

@@ -3,4 +3,4 @@ use Rattle.witness.proofs.Distances.{SweepLoop}
 use Rattle.witness.proofs.other.sweep_distances.Given as goal
 
 abbrev pub invariant-loop-q : goal.invariant-loop-q
-invariant-loop-q l = SweepLoop l.ins l.starts l.marks l.n l.b l.initial.dist l.dist l.any l.q
+invariant-loop-q l = SweepLoop l.ins l.form.starts.now l.form.marks.now l.form.states l.b l.initial.dist l.dist l.any l.q

@@ -12,11 +12,11 @@ overflow_add-x c = omega (arith, leaf_body_number c.requires (omega (arith, c.if
 pub overflow_add-x-2 : goal.overflow_add-x-2
 overflow_add-x-2 c = omega (arith, leaf_body_number c.requires (omega (arith, c.if-c-eq0.false)))
 
-pub offset_bounds-starts-x : goal.offset_bounds-starts-x
-offset_bounds-starts-x c = omega (arith, leaf_body_number c.requires (omega (arith, c.if-c-eq0.false)))
+pub offset_bounds-form-x : goal.offset_bounds-form-x
+offset_bounds-form-x c = omega (arith, leaf_body_number c.requires (omega (arith, c.if-c-eq0.false)))
 
-pub bounds-starts-x : goal.bounds-starts-x
-bounds-starts-x c = omega (arith, leaf_body_number c.requires (omega (arith, c.if-c-eq0.false)))
+pub bounds-form-x : goal.bounds-form-x
+bounds-form-x c = omega (arith, leaf_body_number c.requires (omega (arith, c.if-c-eq0.false)))
 
 pub overflow_mul-at : goal.overflow_mul-at
 overflow_mul-at c = omega (arith, leaf_mark_inside c.requires (omega (arith, c.if-c-eq0.false)) c.from-at.ensures)
@@ -24,8 +24,8 @@ overflow_mul-at c = omega (arith, leaf_mark_inside c.requires (omega (arith, c.i
 pub overflow_add-at : goal.overflow_add-at
 overflow_add-at c = omega (arith, leaf_mark_inside c.requires (omega (arith, c.if-c-eq0.false)) c.from-at.ensures)
 
-pub bounds-marks-at : goal.bounds-marks-at
-bounds-marks-at c = leaf_mark_inside c.requires (omega (arith, c.if-c-eq0.false)) c.from-at.ensures
+pub bounds-form-at : goal.bounds-form-at
+bounds-form-at c = leaf_mark_inside c.requires (omega (arith, c.if-c-eq0.false)) c.from-at.ensures
 
 pub returns : goal.returns
 returns c = leaf_root c.requires (omega (arith, c.if-c-eq0.false)) c.from-at.ensures c.from.ensures
