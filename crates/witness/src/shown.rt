@@ -15,7 +15,7 @@ fn fill(buffer: &mut [u8], at: usize, n: usize, e: u8)
 }
 
 // Writes the symbol a with leaves e for all its children, from position `at` on.
-pub(crate) fn write_symbol(ins: &[u8], e: usize, a: usize, buffer: &mut [u8], at: usize) -> Span
+fn write_symbol(ins: &[u8], e: usize, a: usize, buffer: &mut [u8], at: usize) -> Span
     requires { SymbolAsked ins.now e a buffer.old at }
     ensures { SymbolWritten ins.now e a at buffer.new result.from result.to }
 {
@@ -29,7 +29,7 @@ pub(crate) fn write_symbol(ins: &[u8], e: usize, a: usize, buffer: &mut [u8], at
 }
 
 // Puts the tree of the bytes of `span` under the symbol a, as its child number i; the other children are leaves e.
-pub(crate) fn wrap(ins: &[u8], e: usize, a: usize, i: usize, buffer: &mut [u8], span: Span) -> Span
+fn wrap(ins: &[u8], e: usize, a: usize, i: usize, buffer: &mut [u8], span: Span) -> Span
     requires { Wrappable ins.now e a i buffer.old span.from span.to }
     ensures { Wrapped ins.now e a i buffer.old span.from span.to buffer.new result.from result.to }
 {

@@ -1,5 +1,5 @@
 // A shown difference, from a clash of two bodies: the input tree, the address and the two symbols there.
-ghost use Rattle.std.specs.Prelude.{◌+◌, ◌-◌, ◌≤◌, ◌<◌, ◌≡◌, length};
+ghost use Rattle.std.specs.Prelude.{◌+◌, ◌-◌, ◌≤◌, ◌<◌, ◌*◌, ◌≡◌, length, get_or};
 ghost use Rattle.forms.specs.Inner.Tables.{machine};
 ghost use Rattle.witness.specs.Inner.Bottoms.{Bodied, PathFromAsked, PathFromFound, RootOnLeafAsked, RootOnLeaf, BottomAsked, BottomFound, Upable, Upped, RootAsked, RootFound, Leading, Roomy, StepsBack, TracesBack, Tracing, Traces};
 ghost use Rattle.pairs.specs.Inner.Pairs.{sides, pair_state, body_of, Clashes};
@@ -11,6 +11,13 @@ use formats::file::copy_at;
 use forms::leaf::leaf_symbol;
 use pairs::pairs::{Clash, Pair, Side, Tables};
 use trees::bytes::Span;
+
+// A mark: the child that it calls and the state, or 0 and a symbol.
+#[derive(Clone, Copy, Debug, PartialEq, Eq)]
+struct Mark {
+    child: usize,
+    name: usize,
+}
 
 // Below a clash: the child that matters, 0 if none does, the number of steps of its tree, and the root symbols of the two outputs.
 #[derive(Clone, Copy, Debug, PartialEq, Eq)]
@@ -76,15 +83,26 @@ fn path_from(ins: &[u8], form: Tables, q: usize, b: usize, steps: &mut [u8]) -> 
     write_path(ins, form, &dist, q, b, steps)
 }
 
-// The root symbol of the mark (c, x), a call reading the leaf e.
-fn root_on_leaf(ins: &[u8], form: Tables, e: usize, c: usize, x: usize) -> usize
-    requires { RootOnLeafAsked ins.now form.starts.now form.marks.now e c x }
-    ensures { RootOnLeaf ins.now form.entry.starts.now form.entry.marks.now e c x result }
+// Mark number j.
+fn mark_of(marks: &[u8], j: usize) -> Mark
+    requires { 2 * j + 2 ≤ length marks.now }
+    ensures { (result.child ≡ get_or marks.now (2 * j) 0) × (result.name ≡ get_or marks.now (2 * j + 1) 0) }
 {
-    if c == 0 {
-        return x;
+    Mark {
+        child: usize::from(marks[2 * j]),
+        name: usize::from(marks[2 * j + 1]),
     }
-    let at = 2 * usize::from(form.starts[1 + x * ins.len() + e]);
+}
+
+// The root symbol of a mark, a call reading the leaf e.
+fn root_on_leaf(ins: &[u8], form: Tables, e: usize, mark: Mark) -> usize
+    requires { RootOnLeafAsked ins.now form.starts.now form.marks.now e mark.child mark.name }
+    ensures { RootOnLeaf ins.now form.entry.starts.now form.entry.marks.now e mark.child mark.name result }
+{
+    if mark.child == 0 {
+        return mark.name;
+    }
+    let at = 2 * usize::from(form.starts[1 + mark.name * ins.len() + e]);
     usize::from(form.marks[at + 1])
 }
 
@@ -94,39 +112,37 @@ fn find_bottom(
     left: Tables,
     right: Tables,
     e: usize,
-    c1: usize,
-    x1: usize,
-    c2: usize,
-    x2: usize,
+    first: Mark,
+    second: Mark,
     steps: &mut [u8],
 ) -> Bottom
-    requires { BottomAsked ins.now left.starts.now left.marks.now left.states right.starts.now right.marks.now right.states e c1 x1 c2 x2 steps.old }
-    ensures { BottomFound ins.now left.entry.starts.now left.entry.marks.now right.entry.starts.now right.entry.marks.now e c1 x1 c2 x2 steps.new result.child result.count result.left result.right }
+    requires { BottomAsked ins.now left.starts.now left.marks.now left.states right.starts.now right.marks.now right.states e first.child first.name second.child second.name steps.old }
+    ensures { BottomFound ins.now left.entry.starts.now left.entry.marks.now right.entry.starts.now right.entry.marks.now e first.child first.name second.child second.name steps.new result.child result.count result.left result.right }
 {
-    if c1 > 0 {
-        let b = root_on_leaf(ins, right, e, c2, x2);
-        let f = path_from(ins, left, x1, b, steps);
+    if first.child > 0 {
+        let b = root_on_leaf(ins, right, e, second);
+        let f = path_from(ins, left, first.name, b, steps);
         return Bottom {
-            child: c1,
+            child: first.child,
             count: f.count,
             left: f.symbol,
             right: b,
         };
     }
-    if c2 > 0 {
-        let f = path_from(ins, right, x2, x1, steps);
+    if second.child > 0 {
+        let f = path_from(ins, right, second.name, first.name, steps);
         return Bottom {
-            child: c2,
+            child: second.child,
             count: f.count,
-            left: x1,
+            left: first.name,
             right: f.symbol,
         };
     }
     Bottom {
         child: 0,
         count: 0,
-        left: x1,
-        right: x2,
+        left: first.name,
+        right: second.name,
     }
 }
 
@@ -165,11 +181,9 @@ fn root_tree(
     ensures { RootFound ins.now left.entry.starts.now left.entry.marks.now right.entry.starts.now right.entry.marks.now e i j q a buffer.new result.span.from result.span.to result.left result.right }
 {
     let mut steps = [0u8; 256];
-    let c1 = usize::from(left.marks[2 * i]);
-    let x1 = usize::from(left.marks[2 * i + 1]);
-    let c2 = usize::from(right.marks[2 * j]);
-    let x2 = usize::from(right.marks[2 * j + 1]);
-    let f = find_bottom(ins, left, right, e, c1, x1, c2, x2, &mut steps);
+    let first = mark_of(left.marks, i);
+    let second = mark_of(right.marks, j);
+    let f = find_bottom(ins, left, right, e, first, second, &mut steps);
     let tree = write_steps(ins, e, &steps, f.count, buffer);
     let span = step_up(ins, e, q, a, f.child, buffer, tree);
     Rooted {

@@ -7,13 +7,13 @@ use Rattle.witness.proofs.WayBack.{root_bottom, root_below, root_steps, root_upa
 use Rattle.witness.proofs.witness.root_tree.Goals as goal
 
 pub find_bottom-f-requires : goal.find_bottom-f-requires
-find_bottom-f-requires c = root_bottom c.requires c.from-c1.ensures c.from-x1.ensures c.from-c2.ensures c.from-x2.ensures (omega (arith, length-replicate {A = ℕ} 256 0))
+find_bottom-f-requires c = root_bottom c.requires c.mark_of-first.ensures.0 c.mark_of-first.ensures.1 c.mark_of-second.ensures.0 c.mark_of-second.ensures.1 (omega (arith, length-replicate {A = ℕ} 256 0))
 
 pub write_steps-tree-requires : goal.write_steps-tree-requires
-write_steps-tree-requires c = root_steps c.requires (root_below c.requires c.from-c1.ensures c.from-x1.ensures c.from-c2.ensures c.from-x2.ensures c.find_bottom-f.ensures) (c.find_bottom-f.auto.steps ∙ length-replicate {A = ℕ} 256 0)
+write_steps-tree-requires c = root_steps c.requires (root_below c.requires c.mark_of-first.ensures.0 c.mark_of-first.ensures.1 c.mark_of-second.ensures.0 c.mark_of-second.ensures.1 c.find_bottom-f.ensures) (c.find_bottom-f.auto.steps ∙ length-replicate {A = ℕ} 256 0)
 
 pub step_up-span-requires : goal.step_up-span-requires
-step_up-span-requires c = root_upable c.requires (root_below c.requires c.from-c1.ensures c.from-x1.ensures c.from-c2.ensures c.from-x2.ensures c.find_bottom-f.ensures) c.write_steps-tree.ensures c.write_steps-tree.auto.buffer
+step_up-span-requires c = root_upable c.requires (root_below c.requires c.mark_of-first.ensures.0 c.mark_of-first.ensures.1 c.mark_of-second.ensures.0 c.mark_of-second.ensures.1 c.find_bottom-f.ensures) c.write_steps-tree.ensures c.write_steps-tree.auto.buffer
 
 pub returns : goal.returns
-returns c = root_found c.requires (root_below c.requires c.from-c1.ensures c.from-x1.ensures c.from-c2.ensures c.from-x2.ensures c.find_bottom-f.ensures) c.write_steps-tree.ensures c.write_steps-tree.auto.buffer c.step_up-span.ensures
+returns c = root_found c.requires (root_below c.requires c.mark_of-first.ensures.0 c.mark_of-first.ensures.1 c.mark_of-second.ensures.0 c.mark_of-second.ensures.1 c.find_bottom-f.ensures) c.write_steps-tree.ensures c.write_steps-tree.auto.buffer c.step_up-span.ensures
