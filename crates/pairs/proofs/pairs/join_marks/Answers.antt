@@ -22,11 +22,5 @@ loop-k-preserved c =
       | else-c-gt0 w ↦ rw (w.classes1-is, w.classes2-is, w.pairs-is, w.r-is) (joins_symbol A (λ h. omega (arith, h, w.if-c-gt0.false)))
     ]
 
-pub shape_of-classes1 : goal.shape_of-classes1
-shape_of-classes1 c = c.loop-k.invariant.later.same_left
-
-pub shape_of-classes2 : goal.shape_of-classes2
-shape_of-classes2 c = c.loop-k.invariant.later.same_right
-
 pub returns : goal.returns
 returns c = let e : c.loop-k.k ≡ c.args.n = omega arith in rw e at c.loop-k.invariant

@@ -14,8 +14,5 @@ loop-more-smaller c = fill_less c.requires c.loop-more.invariant c.sweep_distanc
 pub loop-more-preserved : goal.loop-more-preserved
 loop-more-preserved c = fill_next c.requires c.loop-more.invariant c.sweep_distances-more.ensures c.sweep_distances-more.auto.dist
 
-pub shape_of-dist : goal.shape_of-dist
-shape_of-dist c = c.loop-more.invariant.same_length
-
 pub returns : goal.returns
 returns c = fill_end c.requires c.loop-more.invariant c.loop-more-test.false

@@ -29,17 +29,11 @@ alike : (r : Option ℕ) (d : ℕ) → not (option_eq eqb r (Some d)) ≡ false 
 alike None d t = conflict (cc)
 alike (Some x) d t = by_cases (ℕ_discrete x d) (λ z. ap Some z) (λ z. let w = rw (ne_eqb x d z) at t in conflict (cc))
 
-pub bounds-dist-q : goal.bounds-dist-q
-bounds-dist-q c = omega (arith, c.requires.at.state, c.requires.at.table.long)
-
 pub loop-d-init : goal.loop-d-init
 loop-d-init c = record { ahead = λ s h e. omega arith }
 
 pub step_distance-requires : goal.step_distance-requires
 step_distance-requires c = (c.requires.at, there c.requires c.loop-d.invariant)
-
-pub overflow_add-a : goal.overflow_add-a
-overflow_add-a c = omega (arith, there c.requires c.loop-d.invariant)
 
 pub loop-d-smaller : goal.loop-d-smaller
 loop-d-smaller c = omega (arith, there c.requires c.loop-d.invariant)

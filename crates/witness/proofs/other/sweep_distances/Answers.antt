@@ -17,8 +17,5 @@ loop-q-preserved c =
       | else-set_distance w ↦ sweep_kept c.requires c.loop-q.invariant c.loop-q-test.true k.ensures k.auto.dist w.if-set_distance.false w.any-is
     ]
 
-pub shape_of-dist : goal.shape_of-dist
-shape_of-dist c = c.loop-q.invariant.same_length
-
 pub returns : goal.returns
 returns c = sweep_end c.requires c.loop-q.invariant c.loop-q-test.false

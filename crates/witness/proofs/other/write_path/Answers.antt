@@ -1,15 +1,9 @@
 -- `write_path` meets its contract. The invariant is `PathLoop`. Assumes nothing.
 use Prim.Native.Nat.{◌-◌}
 use native.Mathlib.Omega.{arith}
-use mathlib.Core.Path.{◌≡◌, ◌∙◌}
+use mathlib.Core.Path.{◌≡◌}
 use Rattle.witness.proofs.Decreasing.{decreasing_start, decreasing_steppable, decreasing_next, decreasing_end}
 use Rattle.witness.proofs.other.write_path.Goals as goal
-
-pub bounds-dist-q : goal.bounds-dist-q
-bounds-dist-q c = omega (arith, c.requires.at.state, c.requires.at.table.long)
-
-pub overflow_sub-last : goal.overflow_sub-last
-overflow_sub-last c = omega (arith, c.requires.found, c.from-count.ensures)
 
 pub loop-k-init : goal.loop-k-init
 loop-k-init c = decreasing_start c.requires c.from-count.ensures
@@ -22,9 +16,6 @@ loop-k-preserved c = decreasing_next c.requires c.loop-k.invariant c.put_step-p.
 
 pub put_step-symbol-requires : goal.put_step-symbol-requires
 put_step-symbol-requires c = let e : c.loop-k.k ≡ c.from-count.result - 1 = omega arith in rw e at (decreasing_steppable c.requires c.loop-k.invariant)
-
-pub shape_of-steps : goal.shape_of-steps
-shape_of-steps c = c.put_step-symbol.auto.steps ∙ c.loop-k.invariant.same_length
 
 pub returns : goal.returns
 returns c =

@@ -1,15 +1,10 @@
 -- `wrap` meets its contract. Assumes nothing.
 use Prim.Native.Nat.{◌-◌}
 use native.Mathlib.Omega.{arith}
-use mathlib.Core.Path.{refl, ap, ◌∙◌}
+use mathlib.Core.Path.{refl, ap}
 use lib.ListN.{length-set}
 use Rattle.witness.proofs.Wrapping.{wrapped}
 use Rattle.witness.proofs.shown.wrap.Goals as goal
-
-pub overflow_sub-from : goal.overflow_sub-from
-overflow_sub-from c =
-    let P = c.requires in
-    omega (arith, P.child, P.left, P.symbols.ranks.low c.args.a P.symbols.there)
 
 pub fill-requires : goal.fill-requires
 fill-requires c =
@@ -22,17 +17,6 @@ fill-requires-2 c =
     let a = c.args in
     let P = c.requires in
     omega (arith, length-set a.buffer.now (a.span.from - a.i) a.a, c.fill.auto.buffer, P.right, c.from.ensures, P.symbols.ranks.low a.a P.symbols.there)
-
-pub overflow_add-result : goal.overflow_add-result
-overflow_add-result c =
-    let a = c.args in
-    let P = c.requires in
-    omega (arith, P.right, c.from.ensures, P.symbols.ranks.low a.a P.symbols.there)
-
-pub shape_of-buffer : goal.shape_of-buffer
-shape_of-buffer c =
-    let a = c.args in
-    c.fill-2.auto.buffer ∙ c.fill.auto.buffer ∙ length-set a.buffer.now (a.span.from - a.i) a.a
 
 pub returns : goal.returns
 returns c = wrapped c.requires (ap (λ k. k - c.args.i) c.from.ensures) refl c.fill.ensures c.fill-2.ensures refl

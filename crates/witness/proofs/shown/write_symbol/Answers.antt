@@ -1,6 +1,6 @@
 -- `write_symbol` meets its contract. Assumes nothing.
 use native.Mathlib.Omega.{arith}
-use mathlib.Core.Path.{refl, ◌∙◌}
+use mathlib.Core.Path.{refl}
 use lib.ListN.{length-set}
 use Rattle.witness.proofs.Wrapping.{symbol_written}
 use Rattle.witness.proofs.shown.write_symbol.Goals as goal
@@ -10,17 +10,6 @@ fill-requires c =
     let a = c.args in
     let P = c.requires in
     omega (arith, length-set a.buffer.now a.at a.a, P.room, P.symbols.ranks.low a.a P.symbols.there, c.from-rank.ensures)
-
-pub overflow_add-result-2 : goal.overflow_add-result-2
-overflow_add-result-2 c =
-    let a = c.args in
-    let P = c.requires in
-    omega (arith, P.room, P.symbols.ranks.low a.a P.symbols.there, c.from-rank.ensures)
-
-pub shape_of-buffer : goal.shape_of-buffer
-shape_of-buffer c =
-    let a = c.args in
-    c.fill.auto.buffer ∙ length-set a.buffer.now a.at a.a
 
 pub returns : goal.returns
 returns c = symbol_written c.requires c.from-rank.ensures c.fill.ensures refl

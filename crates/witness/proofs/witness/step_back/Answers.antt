@@ -1,16 +1,9 @@
 -- `step_back` meets its contract. Assumes nothing.
-use native.Mathlib.Omega.{arith}
-use Rattle.witness.proofs.WayBack.{back_bodied, back_start, back_address_asked, back_upable, back_done}
+use Rattle.witness.proofs.WayBack.{back_bodied, back_address_asked, back_upable, back_done}
 use Rattle.witness.proofs.witness.step_back.Goals as goal
 
 pub body_of-requires : goal.body_of-requires
 body_of-requires c = back_bodied c.args.p c.requires.0 c.from-q.ensures c.from-a.ensures
-
-pub offset_bounds-left-body_of : goal.offset_bounds-left-body_of
-offset_bounds-left-body_of c = omega (arith, back_start c.args.p c.requires.0 c.from-q.ensures c.from-a.ensures c.body_of.ensures)
-
-pub bounds-left-body_of : goal.bounds-left-body_of
-bounds-left-body_of c = back_start c.args.p c.requires.0 c.from-q.ensures c.from-a.ensures c.body_of.ensures
 
 pub write_address-at-requires : goal.write_address-at-requires
 write_address-at-requires c = back_address_asked c.args.p c.requires.0 c.requires.1 c.from-q.ensures c.from-a.ensures c.from-m.ensures c.body_of.ensures c.from-from.ensures

@@ -1,33 +1,14 @@
 -- `trace` meets its contract. Assumes nothing.
-use native.Mathlib.Omega.{arith}
 use mathlib.Core.Path.{ap, ◌∙◌}
 use Rattle.classes.specs.Inner.Classes.{at}
-use Rattle.witness.proofs.Showing.{show_bodied_left, show_bodied_right, show_left, show_right, show_fits, show_root, show_address_asked, show_leading, show_roomy, traced}
+use Rattle.witness.proofs.Showing.{show_bodied_left, show_bodied_right, show_root, show_address_asked, show_leading, show_roomy, traced}
 use Rattle.witness.proofs.witness.trace.Goals as goal
 
 pub body_of-requires : goal.body_of-requires
 body_of-requires c = show_bodied_left c.requires.0 c.requires.1
 
-pub offset_bounds-left-body_of : goal.offset_bounds-left-body_of
-offset_bounds-left-body_of c = omega (arith, show_left c.requires.0 c.requires.1, c.body_of.ensures)
-
-pub bounds-left-body_of : goal.bounds-left-body_of
-bounds-left-body_of c = omega (arith, show_left c.requires.0 c.requires.1, c.body_of.ensures)
-
 pub body_of-requires-2 : goal.body_of-requires-2
 body_of-requires-2 c = show_bodied_right c.requires.0 c.requires.1
-
-pub offset_bounds-right-body_of : goal.offset_bounds-right-body_of
-offset_bounds-right-body_of c = omega (arith, show_right c.requires.0 c.requires.1, c.body_of-2.ensures)
-
-pub bounds-right-body_of : goal.bounds-right-body_of
-bounds-right-body_of c = omega (arith, show_right c.requires.0 c.requires.1, c.body_of-2.ensures)
-
-pub overflow_add-i : goal.overflow_add-i
-overflow_add-i c = omega (arith, (show_fits c.requires.0 c.requires.1).0, (c.from-i.ensures ∙ ap (at c.args.left.starts.now) c.body_of.ensures))
-
-pub overflow_add-j : goal.overflow_add-j
-overflow_add-j c = omega (arith, (show_fits c.requires.0 c.requires.1).1, (c.from-j.ensures ∙ ap (at c.args.right.starts.now) c.body_of-2.ensures))
 
 pub root_tree-f-requires : goal.root_tree-f-requires
 root_tree-f-requires c = show_root c.requires.0 c.requires.1 c.requires.2.leaf (c.from-i.ensures ∙ ap (at c.args.left.starts.now) c.body_of.ensures) (c.from-j.ensures ∙ ap (at c.args.right.starts.now) c.body_of-2.ensures) c.requires.2.tree_room

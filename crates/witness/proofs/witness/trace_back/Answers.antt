@@ -10,20 +10,11 @@ loop-r-init c = way_start c.requires.0 c.requires.1
 pub step_back-placed-requires : goal.step_back-placed-requires
 step_back-placed-requires c = way_asks c.requires.0 c.requires.1 c.loop-r.invariant (c.loop-r.r - 1) (omega (arith, c.loop-r-test.true))
 
-pub overflow_sub-r-in-loop-r : goal.overflow_sub-r-in-loop-r
-overflow_sub-r-in-loop-r c = omega (arith, c.loop-r-test.true)
-
 pub loop-r-smaller : goal.loop-r-smaller
 loop-r-smaller c = omega (arith, way_less c.requires.0 c.requires.1 c.loop-r.invariant (c.loop-r.r - 1) (omega (arith, c.loop-r-test.true)) c.from-r.ensures)
 
 pub loop-r-preserved : goal.loop-r-preserved
 loop-r-preserved c = way_next c.requires.0 c.requires.1 c.loop-r.invariant (c.loop-r.r - 1) (omega (arith, c.loop-r-test.true)) c.from-r.ensures c.step_back-placed.auto.buffer c.step_back-placed.auto.place c.step_back-placed.ensures
-
-pub shape_of-buffer : goal.shape_of-buffer
-shape_of-buffer c = c.loop-r.invariant.same_buffer
-
-pub shape_of-place : goal.shape_of-place
-shape_of-place c = c.loop-r.invariant.same_area
 
 pub returns : goal.returns
 returns c = way_end c.requires.0 c.requires.1 c.loop-r.invariant (omega (arith, c.loop-r-test.false))
