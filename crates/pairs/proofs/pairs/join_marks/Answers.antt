@@ -1,17 +1,9 @@
 -- `join_marks` meets its contract. The invariant: what the contract says, of the marks passed. Assumes nothing.
 use native.Mathlib.Omega.{arith}
 use mathlib.Core.Path.{◌≡◌}
-use Rattle.pairs.proofs.Searching.{joins_none, joins_symbol, joins_call, call_there}
+use Rattle.pairs.proofs.Searching.{joins_symbol, joins_call}
 use Rattle.pairs.proofs.pairs.join_marks.Goals as goal
 use Rattle.pairs.proofs.pairs.join_marks.Goals.{then-c-gt0, else-c-gt0}
-
-pub loop-k-init : goal.loop-k-init
-loop-k-init c = joins_none c.requires.0.merging
-
-pub join_states-r-requires : goal.join_states-r-requires
-join_states-r-requires c =
-    let t = call_there c.loop-k.invariant c.requires.0 c.loop-k-test.true c.if-c-gt0.true in
-    (c.loop-k.invariant.merging, t.0, t.1)
 
 pub loop-k-preserved : goal.loop-k-preserved
 loop-k-preserved c =

@@ -1,10 +1,7 @@
 -- `walk_symbols` meets its contract. The invariant is `PairLoop`. Assumes nothing.
 use native.Mathlib.Omega.{arith}
-use Rattle.pairs.proofs.Searching.{pair_start, pair_walkable, pair_next, pair_end}
+use Rattle.pairs.proofs.Searching.{pair_walkable, pair_next, pair_end}
 use Rattle.pairs.proofs.pairs.walk_symbols.Goals as goal
-
-pub loop-a-init : goal.loop-a-init
-loop-a-init c = pair_start c.args.p c.requires.0
 
 pub walk_pair-requires : goal.walk_pair-requires
 walk_pair-requires c = pair_walkable c.loop-a.invariant c.requires.1 c.loop-a-test.true c.from-x.ensures c.from-y.ensures

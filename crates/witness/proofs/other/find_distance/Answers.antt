@@ -1,12 +1,6 @@
 -- `find_distance` meets its contract. The invariant: no right-hand side for a symbol before a has a distance. Assumes nothing.
-use Rattle.witness.proofs.Distances.{pass_start, pass_next, find_here, find_none}
+use Rattle.witness.proofs.Distances.{pass_next, find_here, find_none}
 use Rattle.witness.proofs.other.find_distance.Goals as goal
-
-pub loop-a-init : goal.loop-a-init
-loop-a-init c = pass_start
-
-pub step_distance-requires : goal.step_distance-requires
-step_distance-requires c = (c.requires, c.loop-a-test.true)
 
 pub returns-in-Some : goal.returns-in-Some
 returns-in-Some c = find_here c.loop-a-test.true c.step_distance.ensures _ c.in-Some.is

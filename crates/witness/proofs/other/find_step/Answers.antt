@@ -29,15 +29,6 @@ alike : (r : Option ℕ) (d : ℕ) → not (option_eq eqb r (Some d)) ≡ false 
 alike None d t = conflict (cc)
 alike (Some x) d t = by_cases (ℕ_discrete x d) (λ z. ap Some z) (λ z. let w = rw (ne_eqb x d z) at t in conflict (cc))
 
-pub loop-d-init : goal.loop-d-init
-loop-d-init c = record { ahead = λ s h e. omega arith }
-
-pub step_distance-requires : goal.step_distance-requires
-step_distance-requires c = (c.requires.at, there c.requires c.loop-d.invariant)
-
-pub loop-d-smaller : goal.loop-d-smaller
-loop-d-smaller c = omega (arith, there c.requires c.loop-d.invariant)
-
 pub loop-d-preserved : goal.loop-d-preserved
 loop-d-preserved c = ahead_next c.loop-d.invariant c.step_distance.ensures c.requires.found (λ e. unlike _ _ (sym c.ne.ensures ∙ c.loop-d-test.true) (e ∙ ap Some (sym c.from.ensures)))
 

@@ -1,10 +1,7 @@
 -- `sweep_distances` meets its contract. The invariant is `SweepLoop`. Assumes nothing.
-use Rattle.witness.proofs.Distances.{sweep_start, sweep_settable, sweep_set, sweep_kept, sweep_end}
+use Rattle.witness.proofs.Distances.{sweep_settable, sweep_set, sweep_kept, sweep_end}
 use Rattle.witness.proofs.other.sweep_distances.Goals as goal
 use Rattle.witness.proofs.other.sweep_distances.Goals.{then-set_distance, else-set_distance}
-
-pub loop-q-init : goal.loop-q-init
-loop-q-init c = sweep_start c.requires.founded
 
 pub set_distance-requires : goal.set_distance-requires
 set_distance-requires c = sweep_settable c.requires c.loop-q.invariant c.loop-q-test.true

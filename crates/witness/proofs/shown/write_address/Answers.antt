@@ -10,13 +10,6 @@ use Rattle.witness.proofs.shown.write_address.Goals as goal
 pub loop-j-init : goal.loop-j-init
 loop-j-init c = (refl, λ n r to B. address_start B)
 
-pub mark_rank-rank-requires : goal.mark_rank-rank-requires
-mark_rank-rank-requires c =
-    let P = c.requires in
-    let l = c.loop-j in
-    let C = l.invariant.1 P.states P.children P.to P.body in
-    omega (arith, C.inside, P.body.there, P.body.inside)
-
 pub overflow_sub-w : goal.overflow_sub-w
 overflow_sub-w c =
     let P = c.requires in

@@ -1,13 +1,9 @@
 -- `root_tree` meets its contract. Assumes nothing.
 use Prim.Native.Nat.{ℕ}
-use native.Mathlib.Omega.{arith}
 use mathlib.Core.Path.{◌∙◌}
 use lib.ListN.{length-replicate}
-use Rattle.witness.proofs.WayBack.{root_bottom, root_below, root_steps, root_upable, root_found}
+use Rattle.witness.proofs.WayBack.{root_below, root_steps, root_upable, root_found}
 use Rattle.witness.proofs.witness.root_tree.Goals as goal
-
-pub find_bottom-f-requires : goal.find_bottom-f-requires
-find_bottom-f-requires c = root_bottom c.requires c.mark_of-first.ensures.0 c.mark_of-first.ensures.1 c.mark_of-second.ensures.0 c.mark_of-second.ensures.1 (omega (arith, length-replicate {A = ℕ} 256 0))
 
 pub write_steps-tree-requires : goal.write_steps-tree-requires
 write_steps-tree-requires c = root_steps c.requires (root_below c.requires c.mark_of-first.ensures.0 c.mark_of-first.ensures.1 c.mark_of-second.ensures.0 c.mark_of-second.ensures.1 c.find_bottom-f.ensures) (c.find_bottom-f.auto.steps ∙ length-replicate {A = ℕ} 256 0)

@@ -1,14 +1,8 @@
 -- `trace` meets its contract. Assumes nothing.
 use mathlib.Core.Path.{ap, ◌∙◌}
 use Rattle.classes.specs.Inner.Classes.{at}
-use Rattle.witness.proofs.Showing.{show_bodied_left, show_bodied_right, show_root, show_address_asked, show_leading, show_roomy, traced}
+use Rattle.witness.proofs.Showing.{show_root, show_address_asked, show_leading, show_roomy, traced}
 use Rattle.witness.proofs.witness.trace.Goals as goal
-
-pub body_of-requires : goal.body_of-requires
-body_of-requires c = show_bodied_left c.requires.0 c.requires.1
-
-pub body_of-requires-2 : goal.body_of-requires-2
-body_of-requires-2 c = show_bodied_right c.requires.0 c.requires.1
 
 pub root_tree-f-requires : goal.root_tree-f-requires
 root_tree-f-requires c = show_root c.requires.0 c.requires.1 c.requires.2.leaf (c.from-i.ensures ∙ ap (at c.args.left.starts.now) c.body_of.ensures) (c.from-j.ensures ∙ ap (at c.args.right.starts.now) c.body_of-2.ensures) c.requires.2.tree_room
