@@ -42,7 +42,8 @@ impl Pair {
     }
 }
 
-// Two bodies that clash: those of a parent (0: the initial terms; p + 1: pair p) for a symbol, at a mark.
+// Two bodies that clash: those of a parent for a symbol, at a mark.
+// Stays: 0 for the initial terms as a parent, p + 1 for pair p, since the bytes of a pair say it so.
 #[derive(Clone, Copy, Debug, PartialEq, Eq)]
 pub struct Clash {
     pub parent: usize,
@@ -72,6 +73,7 @@ fn join(classes: &mut [u8], c: u8, d: u8)
 }
 
 // Joins the classes of the pair's states, if they are two, and lists it.
+// Stays: classes, pairs and count side by side here and below. They are lent by the caller, and each contract with a struct of `&mut` has to speak of its borrows.
 fn join_states(
     classes1: &mut [u8],
     classes2: &mut [u8],

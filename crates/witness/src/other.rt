@@ -24,6 +24,7 @@ fn step_distance(
         }
         return Some(1);
     }
+    // Stays: 0 for none in the table, a fixed array with one byte for a state.
     let d = usize::from(dist[x]);
     if d == 0 {
         return None;
@@ -81,6 +82,7 @@ pub(crate) fn fill_distances(ins: &[u8], form: Tables, b: usize, dist: &mut [u8]
     ensures { FillsDistances ins.now form.entry.starts.now form.entry.marks.now form.entry.states b dist.new }
 {
     let mut more = true;
+    // Stays `while`: until a sweep finds nothing.
     while more {
         more = sweep_distances(ins, form, b, dist);
     }

@@ -20,6 +20,7 @@ struct Mark {
 }
 
 // Below a clash: the child that matters, 0 if none does, the number of steps of its tree, and the root symbols of the two outputs.
+// Stays: 0 for no child, as in the two bytes of a step.
 #[derive(Clone, Copy, Debug, PartialEq, Eq)]
 struct Bottom {
     pub child: usize,
