@@ -39,9 +39,6 @@ pub record JoinLoop (l₀ l : List ℕ) (c d x : ℕ) : Type 0 where
   pub miss : (y : ℕ) → (y < length l₀ → at l₀ y ≡ c → ⊥) → at l y ≡ at l₀ y
   pub rest : (y : ℕ) → x ≤ y → at l y ≡ at l₀ y
 
-pub join_start : (l : List ℕ) (c d : ℕ) → JoinLoop l l c d 0
-join_start l c d = record { long = refl; hit = λ y h e. absurd (omega arith); miss = λ y h. refl; rest = λ y h. refl }
-
 module _ {l₀ l : List ℕ} {c d x : ℕ} (J : JoinLoop l₀ l c d x) (h : x < length l) where
   pub join_hit : at l x ≡ c → JoinLoop l₀ (set l x d) c d (x + 1)
   join_hit e =

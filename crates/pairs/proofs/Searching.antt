@@ -26,7 +26,7 @@ use Rattle.classes.specs.Inner.Classes.{at}
 use Rattle.pairs.specs.declared.pairs.Pair.{Pair}
 use Rattle.pairs.specs.declared.pairs.Side.{Side}
 use Rattle.pairs.specs.declared.pairs.Side.TheVariants.{Left, Right}
-use Rattle.pairs.specs.Inner.Pairs.{state_of, Sides, Forms, FirstClash, InStep, pair_left, pair_right, pair_parent, pair_symbol, Entry, body_of, left_body, right_body, Linked, Table, table, Merging, Later, JoinsStates, Joinable, Listed, JoinsMarks, Searching, Goes, Alike, Walkable, Walks, WalksPair, WalksAll, Searches, Connected, pair, itself, back, onward}
+use Rattle.pairs.specs.Inner.Pairs.{state_of, Sides, Forms, FirstClash, InStep, pair_left, pair_right, pair_parent, pair_symbol, Entry, body_of, left_body, right_body, Linked, Table, table, Later, JoinsStates, Joinable, Listed, JoinsMarks, Searching, Goes, Alike, Walkable, Walks, WalksPair, WalksAll, Searches, Connected, pair, itself, back, onward}
 use Rattle.pairs.specs.declared.pairs.Clash.{Clash}
 use Rattle.std.specs.Prelude.{Option, Some, None, Result, Ok, Err}
 use Rattle.pairs.proofs.Joining.{later_self, class_left, class_right, merging_start}
@@ -55,9 +55,6 @@ entry_kept L {p = p} h E = record {
 }
 
 -- ---- the marks of two bodies in step
-pub joins_none : {T : Table} {bytes bytes' : List ℕ} {i j q a : ℕ} → Merging T → JoinsMarks T T bytes bytes' i j 0 q a
-joins_none {T} M = record { merging = M; later = later_self T; together = λ k h. absurd (omega arith); listed = λ p h g. absurd (omega arith) }
-
 module _ {T₀ T : Table} {bytes bytes' : List ℕ} {i j : ℕ} where
   module _ {k q a : ℕ} (A : JoinsMarks T₀ T bytes bytes' i j k q a) where
     more_listed : {p : ℕ} → Listed T.list p q a bytes bytes' i j k → Listed T.list p q a bytes bytes' i j (k + 1)
@@ -291,22 +288,12 @@ pub record PairLoop (S : Sides) (T₀ T : Table) (p a : ℕ) : Type 0 where
 goes_self : {S : Sides} {T : Table} → Searching S T → Goes S T T
 goes_self {T = T} F = record { searching = F; later = later_self T }
 
-pub pair_start : {S : Sides} {T : Table} (p : ℕ) → Searching S T → PairLoop S T T p 0
-pair_start p F = record { small = omega arith; goes = goes_self F; alike = λ b h. absurd (omega arith) }
-
 module _ {S : Sides} {T₀ T : Table} {p a : ℕ} (L : PairLoop S T₀ T p a) (h : p < T₀.count) where
   pub pair_kept : {x y : ℕ} → x ≡ pair_left T₀.list p → y ≡ pair_right T₀.list p → (pair_left T.list p ≡ x) × (pair_right T.list p ≡ y)
   pair_kept e f = (ap (λ (z : Pair). z.left) (L.goes.later.keeps p (omega arith)) ∙ sym e, ap (λ (z : Pair). z.right) (L.goes.later.keeps p (omega arith)) ∙ sym f)
 
   pair_inside : p < T.count
   pair_inside = omega (arith, L.goes.later.longer)
-
-  -- their numbers are those of bodies
-  pub pair_bodies : a < length S.ins → {x y : ℕ} → x ≡ pair_left T₀.list p → y ≡ pair_right T₀.list p → (body_number S.ins x a < body_count S.ins (length T.left)) × (body_number S.ins y a < body_count S.ins (length T.right))
-  pair_bodies g e f =
-      let k = pair_kept e f in
-      let K = L.goes.searching.linked p pair_inside in
-      (number_less S.ins _ _ a (rw k.0 at K.left) g, number_less S.ins _ _ a (rw k.1 at K.right) g)
 
   pub pair_walkable : a < length S.ins → {x y : ℕ} → x ≡ pair_left T₀.list p → y ≡ pair_right T₀.list p → Walkable S T (p + 1) a (body_number S.ins x a) (body_number S.ins y a)
   unfolding body_of
@@ -335,14 +322,6 @@ module _ {S : Sides} {T₀ T : Table} {p a : ℕ} (L : PairLoop S T₀ T p a) (h
           alike = below_more (λ b. AlikeAt S (table C D P r) p b) a (λ b i. alike_at_later L.goes.searching k.0.later p b pair_inside (omega arith) (L.alike b i)) (rw (q.0, q.1) k.1);
         }
 
-    pub pair_clash : (f : Clash) → w ≡ Err f → WalksPair S T₀ C D P p (Err f)
-    pair_clash f z = record {
-      alike = λ r y. conflict (cc);
-      clash = λ d y.
-          let i : f ≡ d = cc in
-          rw (← i, ← L.goes.later.same_left, ← L.goes.later.same_right) (K.clash f z);
-    }
-
 pub pair_end : {S : Sides} {T₀ : Table} {C D : List ℕ} {P : List Pair} {n p a : ℕ} → PairLoop S T₀ (table C D P n) p a → length S.ins ≤ a → WalksPair S T₀ C D P p (Ok n)
 pair_end {n = n} L h = record {
   alike = λ r y. let i : n ≡ r = cc in rw (← i) (L.goes, λ a g. L.alike a (omega arith));
@@ -356,9 +335,6 @@ pub record AllLoop (S : Sides) (T₀ T : Table) (p : ℕ) : Type 0 where
   pub goes : Goes S T₀ T
   pub alike : (o : ℕ) → o < p → (a : ℕ) → a < length S.ins → AlikeAt S T o a
 
-pub all_start : {S : Sides} {T : Table} → Searching S T → AllLoop S T T 0
-all_start F = record { done = omega arith; goes = goes_self F; alike = λ o h. absurd (omega arith) }
-
 module _ {S : Sides} {T₀ T : Table} {p : ℕ} (L : AllLoop S T₀ T p) (h : p < T.count) {C D : List ℕ} {P : List Pair} {w : Result ℕ Clash} (K : WalksPair S T C D P p w) where
   pub all_next : (r : ℕ) → w ≡ Ok r → AllLoop S T₀ (table C D P r) (p + 1)
   all_next r z =
@@ -368,14 +344,6 @@ module _ {S : Sides} {T₀ T : Table} {p : ℕ} (L : AllLoop S T₀ T p) (h : p 
         goes = goes_then L.goes k.0;
         alike = below_more (λ o. (a : ℕ) → a < length S.ins → AlikeAt S (table C D P r) o a) p (λ o i a g. alike_at_later L.goes.searching k.0.later o a (omega arith) g (L.alike o i a g)) k.1;
       }
-
-  pub all_clash : (f : Clash) → w ≡ Err f → WalksAll S T₀ C D P (Err f)
-  all_clash f z = record {
-    alike = λ y. conflict (cc);
-    clash = λ d y.
-        let i : f ≡ d = cc in
-        rw (← i, ← L.goes.later.same_left, ← L.goes.later.same_right) (K.clash f z);
-  }
 
 pub all_end : {S : Sides} {T₀ : Table} {C D : List ℕ} {P : List Pair} {n p : ℕ} → AllLoop S T₀ (table C D P n) p → n ≤ p → WalksAll S T₀ C D P (Ok tt)
 all_end {n = n} L h = record { alike = λ y. (n, L.goes, λ o i a g. L.alike o (omega arith) a g); clash = λ d y. conflict (cc) }

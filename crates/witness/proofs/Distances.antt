@@ -21,7 +21,7 @@ use Rattle.trees.specs.Code.{Mark}
 use Rattle.formats.specs.Inner.Layout.{body_number}
 use Rattle.formats.proofs.Pairs.{pairs_at}
 use Rattle.theory.specs.Weight.{one_if}
-use Rattle.forms.proofs.Files.{number_fits, machine_wf}
+use Rattle.forms.proofs.Files.{machine_wf}
 use Rattle.witness.specs.Inner.Other.{IsDistance, other_distance, call_distance, mark_distance, first_mark, step_distance, Founded, NoneAt, Finished, missing, DistanceTable, DistanceTableAt, FindsDistance, Settable, NewDistance, SetsDistance, Sweepable, SweepsDistances, Fillable, FillsDistances, FindsStep, PutsStep}
 use Rattle.witness.proofs.Firsts.{First, Seen, seen_root, seen_call, seen, first_symbol, first_call, mark_fits, first_mark_lem, founded_sound, finished_complete}
 
@@ -46,10 +46,6 @@ called_state (first_symbol h e) o = absurd (o refl)
 called_state (first_call c) o = (c.child, c.state)
 
 module _ {ins starts bytes dist : List ℕ} {q a : ℕ} (S : DistanceTableAt ins starts bytes dist q) (there : a < length ins) where
-  -- the number of the right-hand side is in the table of starts
-  pub number_there : (body_number ins q a < 2049) × (body_number ins q a + 1 < length starts)
-  number_there = number_fits S.table.layout S.state there
-
   module _ {from : ℕ} (f : from ≡ get_or starts (body_number ins q a) 0) where
     -- its first mark stands in the file
     pub mark_there : 2 * from + 1 < length bytes
@@ -149,9 +145,6 @@ module _ {ins starts bytes dist : List ℕ} {q b : ℕ} (S : Settable ins starts
 pub record Passed (ins starts bytes dist : List ℕ) (q b a : ℕ) : Type 0 where
   pub inside : a ≤ length ins
   pub none : (k : ℕ) → k < a → step_distance ins starts bytes dist b q k ≡ 0
-
-pub pass_start : {ins starts bytes dist : List ℕ} {q b : ℕ} → Passed ins starts bytes dist q b 0
-pass_start = record { inside = omega arith; none = λ k h. absurd (omega arith) }
 
 pub distance_here : {s d : ℕ} → d ≡ s → 0 < d → d ≤ 256 → IsDistance s (Some d)
 distance_here {d = d} e h g = record { found = λ x z. let y : d ≡ x = cc in rw (← y) (e, h, g); none = λ z. conflict (cc) }
@@ -269,14 +262,8 @@ pub record FillLoop (ins starts bytes : List ℕ) (n b : ℕ) (dist₀ dist : Li
 pub left : List ℕ → ℕ → Bool → ℕ
 left dist n again = missing dist n + one_if again
 
-pub fill_start : {ins starts bytes : List ℕ} {n b : ℕ} {dist : List ℕ} → Fillable ins starts bytes n dist → FillLoop ins starts bytes n b dist dist true
-fill_start F = record { same_length = refl; founded = record { step = λ q k v e. absurd (omega (arith, F.zeros q v)) }; finished = λ z. conflict (cc) }
-
 module _ {ins starts bytes : List ℕ} {n b : ℕ} {dist₀ : List ℕ} (F : Fillable ins starts bytes n dist₀)
     {dist : List ℕ} {again : Bool} (L : FillLoop ins starts bytes n b dist₀ dist again) where
-  pub fill_sweepable : Sweepable ins starts bytes n b dist
-  fill_sweepable = record { table = longer F.table L.same_length; founded = L.founded }
-
   module _ {dist' : List ℕ} {r : Bool} (D : SweepsDistances ins starts bytes n b dist dist' r) where
     pub fill_next : length dist' ≡ length dist → FillLoop ins starts bytes n b dist₀ dist' r
     fill_next e = record { same_length = e ∙ L.same_length; founded = D.founded; finished = λ z. rw (D.same z) (D.finished z) }

@@ -36,7 +36,7 @@ use Rattle.earliest.specs.Inner.Places.{place}
 use Rattle.classes.specs.Inner.Classes.{at}
 use Rattle.canonical.proofs.Alike.{allowed_ranked}
 use Rattle.witness.specs.Difference.{address_area, Difference}
-use Rattle.witness.specs.Inner.Bottoms.{Bodied, BottomFound, RootAsked, RootFound, Stands, Leading, Roomy, StatesBelow, LedTo, TracesBack, Traces}
+use Rattle.witness.specs.Inner.Bottoms.{BottomFound, RootAsked, RootFound, Stands, Leading, Roomy, StatesBelow, LedTo, TracesBack, Traces}
 use Rattle.pairs.specs.declared.pairs.Pair.{Pair}
 use Rattle.pairs.specs.declared.pairs.Side.{Side}
 use Rattle.pairs.specs.declared.pairs.Side.TheVariants.{Left, Right}
@@ -47,7 +47,7 @@ use Rattle.witness.specs.Inner.Forms.{Comparable, Shows}
 use Rattle.witness.proofs.Bottoms.{RootsAre, Small, along_ended, Ends, Separates, separates}
 use Rattle.witness.proofs.Firsts.{allowed_here}
 use Rattle.witness.proofs.Linking.{agree_along, pair_along, top_child, Holds, shown_holds, path_witnessed}
-use Rattle.witness.proofs.WayBack.{body_start, mark_small, mark_inside, mark_state, mark_child, SideThere, side_there, left_address_asked, left_address, ends_before}
+use Rattle.witness.proofs.WayBack.{mark_small, mark_inside, mark_state, mark_child, SideThere, side_there, left_address_asked, left_address, ends_before}
 use Rattle.pairs.proofs.Stepping.{byte_mark, symbols_differ, children_differ}
 
 -- what parent q gives on d, on one side: the translation, or the output of a state of a pair
@@ -224,21 +224,6 @@ module _ {ins outs starts bytes : List ℕ} {n : ℕ} {starts' bytes' : List ℕ
 
   right : SideThere ins outs starts' bytes' n' P Right q a
   right = side_there C.right P Right q a rights K.known
-
-  show_bodied : {x : ℕ} → (0 < q → x < 128) → Bodied ins q a x
-  show_bodied h = record { long = omega (arith, K.parent, K.few); few_inputs = C.ins_ranks.few; known = K.known; state = h }
-
-  pub show_bodied_left : Bodied ins q a (pair_left P (q - 1))
-  show_bodied_left = show_bodied (λ o. omega (arith, lefts (q - 1) (omega arith), C.left.few_states))
-
-  pub show_bodied_right : Bodied ins q a (pair_right P (q - 1))
-  show_bodied_right = show_bodied (λ o. omega (arith, rights (q - 1) (omega arith), C.right.few_states))
-
-  pub show_left : left_body ins P q a < length starts
-  show_left = body_start C.left left.body
-
-  pub show_right : right_body ins P q a < length starts'
-  show_right = body_start C.right right.body
 
   small : m ≤ 63
   small = mark_small C.left left.body m K.clash.agree.inside
