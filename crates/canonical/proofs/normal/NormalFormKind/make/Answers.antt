@@ -1,6 +1,6 @@
--- `normal_by` meets its contract: the earliest form, and its quotient. Assumes nothing.
+-- The normal form is made: the earliest form, and its quotient. Assumes nothing.
 use Rattle.canonical.proofs.Cleaning.{normal_reducible, normal_states, normal_over}
-use Rattle.canonical.proofs.normal.normal_by.Goals as goal
+use Rattle.canonical.proofs.normal.NormalFormKind.make.Goals as goal
 
 pub reduce-requires : goal.reduce-requires
 reduce-requires c = (normal_reducible c.requires.0 c.form_of_parts.ensures c.in_ok-states.was c.input_ranks-ins.ensures c.output_ranks-outs.ensures, c.requires.1, c.requires.2)
