@@ -8,7 +8,8 @@ use mathlib.Core.List.{List, [], ◌∷◌, ◌++◌, append-nil}
 use lib.Dec.{ltb, leb}
 use lib.ListN.{length, get_or, drop, take, length-drop, length-append}
 use lib.Seq.{slice, take_at}
-use borrow.Author.Tests.{lt-ltb, le-ltb}
+use borrow.Author.Tests.{ltb-false}
+use Rattle.std.proofs.lemmas.List.{get_or_past}
 use Rattle.theory.specs.Lcp.{Patterns}
 use Rattle.theory.specs.Prefix.{Prefixes, keeps, no_more, also}
 use Rattle.theory.specs.Term.{var, node, Terms, none, more, count}
@@ -33,11 +34,12 @@ trees_at outs s p = forest (letter_of outs) (drop p s)
 -- a symbol takes as many trees as its rank says, and a call none
 pub letter_ranks : (outs : List ℕ) → Ranks (letter_of outs) outs
 unfolding letter_of
-letter_ranks outs = record { named = λ x h. simp (lt-ltb x (length outs) h); free = λ x h. simp (le-ltb x (length outs) h) (other x (leb 65536 x)) }
+letter_ranks outs = record { takes = λ x. by_test x (ltb x (length outs)) (leb 65536 x) refl }
   where
-    other : (x : ℕ) (b : Bool) → taken (letter_if false b outs x) ≡ 0
-    other x true = refl
-    other x false = refl
+    by_test : (x : ℕ) (a b : Bool) → ltb x (length outs) ≡ a → taken (letter_if a b outs x) ≡ get_or outs x 0
+    by_test x true b e = refl
+    by_test x false true e = sym (get_or_past outs x 0 (ltb-false _ _ e))
+    by_test x false false e = sym (get_or_past outs x 0 (ltb-false _ _ e))
 
 -- ---- one letter of a prefix
 -- behind the letter of a node stand its children, and then the other trees

@@ -5,9 +5,9 @@ ghost use Rattle.trees.specs.Alphabets.{Leaf};
 ghost use Rattle.discovery.specs.Inner.Discovering.{Discovers};
 ghost use Rattle.earliest.specs.Inner.Discovering.{Formable, FormOfTable};
 
-use crate::expand::{expand, letter_end, locate};
+use crate::expand::{expand, locate};
 use discovery::discover::{Spelled, discover};
-use prefixes::pattern::SLOT;
+use prefixes::pattern::{SLOT, tree_end};
 use prefixes::prefix::prefixes;
 use trees::bytes::Span;
 
@@ -59,7 +59,7 @@ impl Spelled<8192, 4096> for Expansion<'_> {
             &letters[0..len],
             c % SLOT,
         );
-        let stop = letter_end(self.outs, &letters[0..len], at);
+        let stop = tree_end(self.outs, &letters[0..len], at);
         Some(Span { from: at, to: stop })
     }
 }

@@ -1,15 +1,12 @@
 // Right-hand sides with the common prefix of each state put for its calls, as lists of letters: a number below 64 is a symbol,
 // CALL * i + c the call of state c on child i, where state c is the ⊤ at byte c of the table of prefixes.
-ghost use Rattle.std.specs.Prelude.{◌+◌, ◌≤◌, ◌<◌, ◌≡◌, length, drop};
+ghost use Rattle.std.specs.Prelude.{◌+◌, ◌≤◌, ◌<◌, ◌≡◌, length};
 ghost use Rattle.std.proofs.lemmas.List.Edits.{sets};
-ghost use Rattle.theory.specs.Term.{count};
-ghost use Rattle.trees.specs.Inner.Decode.{forest};
 ghost use Rattle.formats.specs.Inner.Judging.{Put};
-ghost use Rattle.prefixes.specs.Inner.Patterns.{Ended};
-ghost use Rattle.earliest.specs.Inner.Letters.{letter_of, labeled, expanded, Expandable, Locatable, LocatedAt};
+ghost use Rattle.earliest.specs.Inner.Letters.{labeled, expanded, Expandable, Locatable, LocatedAt};
 
 use discovery::queue::CALL;
-use prefixes::pattern::SLOT;
+use prefixes::pattern::{SLOT, tree_end};
 
 // Writes a pattern as letters: the ⊤ at byte m becomes the call `base + m`.
 fn label_head(head: &[u8], base: usize, out: &mut [u32], at: usize)
@@ -26,6 +23,7 @@ fn label_head(head: &[u8], base: usize, out: &mut [u32], at: usize)
 }
 
 // Writes the right-hand side of the marks number `from` up to `to` as letters, with the pattern of each state for its calls, and says how long that is.
+// Stays: a loop beside that of `Patterns::graft`. A ⊤ becomes another letter at each place here, so one loop for both would take a function for it.
 pub(crate) fn expand(
     heads: &[u8],
     sizes: &[u8],
@@ -54,25 +52,6 @@ pub(crate) fn expand(
     w
 }
 
-// The end of the tree at `at`.
-pub(crate) fn letter_end(outs: &[u8], s: &[u32], at: usize) -> usize
-    requires { 0 < count (forest (letter_of outs.now) (drop at s.now)) }
-    ensures { Ended (letter_of outs.now) s.now at result }
-{
-    // Stays a `while`: the count of trees that are owed goes up and down.
-    let mut owed = 1;
-    let mut p = at;
-    while owed > 0 {
-        let x = s[p] as usize;
-        if x < outs.len() {
-            owed += usize::from(outs[x]);
-        }
-        owed -= 1;
-        p += 1;
-    }
-    p
-}
-
 // Where in a tree of letters the subtree stands that byte m of a prefix of it stands for.
 pub(crate) fn locate(outs: &[u8], head: &[u8], s: &[u32], m: usize) -> usize
     requires { Locatable outs.now head.now s.now m }
@@ -83,7 +62,7 @@ pub(crate) fn locate(outs: &[u8], head: &[u8], s: &[u32], m: usize) -> usize
         if usize::from(*x) < outs.len() {
             p += 1;
         } else {
-            p = letter_end(outs, s, p);
+            p = tree_end(outs, s, p);
         }
     }
     p

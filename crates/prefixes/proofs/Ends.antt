@@ -8,14 +8,16 @@ use native.Mathlib.Omega.{arith}
 use mathlib.Core.Bool.{Bool, true, false}
 use mathlib.Core.Path.{◌≡◌, refl, sym, ap, ◌∙◌}
 use mathlib.Core.List.{List, [], ◌∷◌}
+use Rattle.std.specs.Prelude.{Some, is_some}
 use lib.Dec.{leb}
 use lib.ListN.{length, get_or, drop, length-drop, drop_of_length-le}
-use lib.Seq.{drop-cons}
+use lib.Seq.{drop-cons, drop-drop}
 use borrow.Author.Tests.{leb-true}
 use Rattle.theory.specs.Term.{Terms, count}
+use Rattle.theory.proofs.Terms.{conflict}
 use Rattle.trees.specs.Inner.Decode.{Letter, call, symbol, unknown, rests, node_if, put, forest}
 use Rattle.trees.proofs.Forest.{count_rests, rests_rests}
-use Rattle.prefixes.specs.Inner.Patterns.{Ended}
+use Rattle.prefixes.specs.Inner.Patterns.{trees_end, end_of, Ended}
 
 -- ---- one letter in front of some trees
 -- how many of the trees behind it a letter takes
@@ -36,23 +38,6 @@ module _ {A : Type 0} where
       by_rank false e h = absurd (omega arith)
   letter_behind unknown G n h = absurd (omega arith)
 
-  -- a letter more is at most one tree more
-  count_put : (l : Letter A) (G : Terms A) → count (put l G) ≤ suc (count G)
-  unfolding put count
-  count_put (call a) G = omega arith
-  count_put (symbol k n) G = by_rank (leb n (count G))
-    where
-      by_rank : (b : Bool) → count (node_if b k n G) ≤ suc (count G)
-      by_rank true = omega (arith, count_rests n G)
-      by_rank false = omega arith
-  count_put unknown G = omega arith
-
--- there are no more trees than letters
-pub count_letters : {A X : Type 0} (f : X → Letter A) (s : List X) → count (forest f s) ≤ length s
-unfolding forest count
-count_letters f [] = omega arith
-count_letters f (x ∷ s) = omega (arith, count_put (f x) (forest f s), count_letters f s)
-
 -- ---- from left to right
 module _ {A : Type 0} (f : ℕ → Letter A) (s : List ℕ) (p : ℕ) (there : 0 < count (forest f (drop p s))) where
   -- where a tree begins, the letters have not ended
@@ -69,60 +54,68 @@ module _ {A : Type 0} (f : ℕ → Letter A) (s : List ℕ) (p : ℕ) (there : 0
   unfolding forest
   letter_put = let e : drop p s ≡ get_or s p 0 ∷ drop (p + 1) s = rw add-one (drop-cons s p 0 letter_inside) in ap (forest f) e
 
+-- ---- what is owed, by the ranks alone
+-- each tree that is owed has a letter
+pub few_owed : {X : Type 0} (r : X → ℕ) (n p : ℕ) (s : List X) → is_some (trees_end r n p s) ≡ true → n ≤ length s
+unfolding trees_end
+few_owed r ℕ.zero p s h = omega arith
+few_owed r (suc n) p [] h = conflict (cc)
+few_owed r (suc n) p (x ∷ s) h = omega (arith, few_owed r (r x + n) (suc p) s h)
+
 -- The tree at `at` is passed up to p: it ends where the next `owed` trees end.
-pub record Owing {A : Type 0} (f : ℕ → Letter A) (s : List ℕ) (at owed p : ℕ) : Type 0 where
-  pub further : at < p + owed
-  pub inside : p ≤ length s
-  pub enough : owed ≤ count (forest f (drop p s))
-  pub behind : rests owed (forest f (drop p s)) ≡ rests 1 (forest f (drop at s))
+pub record Owing {X : Type 0} (outs : List ℕ) (number : X → ℕ) (s : List X) (at owed p : ℕ) : Type 0 where
+  pub some : is_some (end_of outs number s at) ≡ true
+  pub same : trees_end (λ x. get_or outs (number x) 0) owed p (drop p s) ≡ end_of outs number s at
 
--- o is what is owed after a look at the letter x, where n were owed before
-pub record Counted {A : Type 0} (f : ℕ → Letter A) (x n o : ℕ) : Type 0 where
-  pub sum : o ≡ n + taken (f x)
-
-module _ {A : Type 0} {f : ℕ → Letter A} {s : List ℕ} where
-  -- where a tree begins, it alone is owed
-  pub all_owed : (at : ℕ) → 0 < count (forest f (drop at s)) → Owing f s at 1 at
-  all_owed at h = record { further = omega arith; inside = omega (arith, letter_inside f s at h); enough = h; behind = refl }
-
+module _ {X : Type 0} {outs : List ℕ} {number : X → ℕ} {s : List X} {at : ℕ} where
   -- while something is owed, the letters have not ended
-  pub owing_inside : {at n p : ℕ} → Owing f s at n p → 0 < n → p < length s
-  owing_inside {p = p} O h = letter_inside f s p (omega (arith, O.enough))
+  pub owing_inside : {n p : ℕ} → Owing outs number s at n p → 0 < n → p < length s
+  owing_inside {n} {p} O h = omega (arith, few_owed _ n p (drop p s) (ap is_some O.same ∙ O.some), length-drop p s)
 
   -- one letter further, and the sum is not large
-  pub owing_next : {at n o p : ℕ} → Owing f s at n p → 0 < n → Counted f (get_or s p 0) n o → Owing f s at (o - 1) (p + 1) × (o ≤ length s)
-  owing_next {n = ℕ.zero} O h C = absurd (omega arith)
-  owing_next {n = suc n} {o} {p} O h C =
-      let e = letter_put f s p (omega (arith, O.enough)) in
-      let G = forest f (drop (p + 1) s) in
-      let q : o - 1 ≡ taken (f (get_or s p 0)) + n = omega (arith, C.sum) in
-      let w = letter_behind (f (get_or s p 0)) G n (omega (arith, O.enough, ap count e)) in
-      let i = owing_inside O h in (
-        record {
-          further = omega (arith, O.further);
-          inside = omega arith;
-          enough = omega (arith, w.0);
-          behind = ap (λ k. rests k G) q ∙ w.1 ∙ sym (ap (rests (suc n)) e) ∙ O.behind;
-        },
-        omega (arith, w.0, count_letters f (drop (p + 1) s), length-drop (p + 1) s),
-      )
+  pub owing_next : {n o p : ℕ} {x : X} → Owing outs number s at n p → 0 < n → x ≡ get_or s p x → o ≡ n + get_or outs (number x) 0 → Owing outs number s at (o - 1) (p + 1) × (o ≤ length s)
+  unfolding trees_end
+  owing_next {n = ℕ.zero} O h e q = absurd (omega arith)
+  owing_next {n = suc n} {o} {p} {x} O h e q =
+      let r : X → ℕ = λ x. get_or outs (number x) 0 in
+      let k : o - 1 ≡ r x + n = omega (arith, q) in
+      let d : drop p s ≡ x ∷ drop (suc p) s = drop-cons s p x (owing_inside O h) ∙ ap (λ y. y ∷ drop (suc p) s) (sym e) in
+      let g : trees_end r (o - 1) (p + 1) (drop (p + 1) s) ≡ end_of outs number s at = rw (k, add-one) (sym (ap (trees_end r (suc n) p) d) ∙ O.same) in
+      (record { some = O.some; same = g }, omega (arith, owing_inside O h, few_owed r (o - 1) (p + 1) (drop (p + 1) s) (ap is_some g ∙ O.some), length-drop (p + 1) s))
 
   -- nothing is owed: the tree has ended
-  pub owing_done : {at n p : ℕ} → Owing f s at n p → n ≡ 0 → Ended f s at p
-  unfolding rests
-  owing_done {at} {n} {p} O z = record { further = omega (arith, O.further); inside = O.inside; behind = sym (ap (λ k. rests k (forest f (drop p s))) z) ∙ O.behind }
+  pub owing_done : {n p : ℕ} → Owing outs number s at n p → n ≡ 0 → end_of outs number s at ≡ Some p
+  unfolding trees_end
+  owing_done {p = p} O z = sym O.same ∙ ap (λ n. trees_end (λ x. get_or outs (number x) 0) n p (drop p s)) z
 
--- ---- ranks
--- a number below the length of outs takes as many trees as its rank there says, and another number none
+-- ---- trees, by letters that take so many of those behind them
+module _ {A X : Type 0} (f : X → Letter A) (r : X → ℕ) (ranks : (x : X) → taken (f x) ≡ r x) where
+  -- the first n trees end behind k letters
+  ends_behind : (n p : ℕ) (s : List X) → n ≤ count (forest f s) → (k : ℕ) × (trees_end r n p s ≡ Some (p + k)) × (n ≤ k) × (k ≤ length s) × (forest f (drop k s) ≡ rests n (forest f s))
+  unfolding trees_end forest count rests
+  ends_behind ℕ.zero p s h = (0, ap Some (omega arith), omega arith, omega arith, refl)
+  ends_behind (suc n) p [] h = absurd (omega arith)
+  ends_behind (suc n) p (x ∷ s) h =
+      let w = letter_behind (f x) (forest f s) n h in
+      let e : r x + n ≡ taken (f x) + n = omega (arith, ranks x) in
+      let b = ends_behind (r x + n) (suc p) s (omega (arith, e, w.0)) in
+      (suc b.0, b.1 ∙ ap Some (omega arith), omega (arith, b.2), omega (arith, b.3), b.4 ∙ ap (λ m. rests m (forest f s)) e ∙ w.1)
+
+-- a letter takes as many trees as its number's rank says, and a number without a rank none
 pub record Ranks {A : Type 0} (f : ℕ → Letter A) (outs : List ℕ) : Type 0 where
-  pub named : (x : ℕ) → x < length outs → taken (f x) ≡ get_or outs x 0
-  pub free : (x : ℕ) → length outs ≤ x → taken (f x) ≡ 0
+  pub takes : (x : ℕ) → taken (f x) ≡ get_or outs x 0
 
-module _ {A : Type 0} {f : ℕ → Letter A} {outs : List ℕ} (R : Ranks f outs) where
-  -- the letter, read as the number y, is a symbol, and its rank r was added
-  pub counted_named : {x y n o r : ℕ} → y ≡ x → y < length outs → r ≡ get_or outs y 0 → o ≡ n + r → Counted f x n o
-  counted_named {x} {y} e h g q = record { sum = omega (arith, R.named y h, ap (λ k. taken (f k)) e) }
+module _ {A : Type 0} {f : ℕ → Letter A} {outs : List ℕ} (R : Ranks f outs) (s : List ℕ) (at : ℕ) (there : 0 < count (forest f (drop at s))) where
+  -- the tree there has an end by the ranks
+  pub end_there : is_some (end_of outs (λ x. x) s at) ≡ true
+  end_there = let b = ends_behind f (λ x. get_or outs x 0) R.takes 1 at (drop at s) there in ap is_some b.1
 
-  -- the letter is no symbol, and nothing was added
-  pub counted_free : {x y n o : ℕ} → y ≡ x → length outs ≤ y → o ≡ n → Counted f x n o
-  counted_free {x} {y} e h q = record { sum = omega (arith, R.free y h, ap (λ k. taken (f k)) e) }
+  -- and there it ends
+  pub end_right : {e : ℕ} → end_of outs (λ x. x) s at ≡ Some e → Ended f s at e
+  end_right {e} h =
+      let b = ends_behind f (λ x. get_or outs x 0) R.takes 1 at (drop at s) there in
+      let q : e ≡ at + b.0 = some_same (sym h ∙ b.1) in
+      record { further = omega (arith, b.2); inside = omega (arith, b.3, letter_inside f s at there, length-drop at s); behind = rw q (sym (ap (forest f) (drop-drop b.0 at s)) ∙ b.4) }
+    where
+      some_same : {m n : ℕ} → Some m ≡ Some n → m ≡ n
+      some_same e = cc

@@ -8,6 +8,7 @@ use mathlib.Core.Logic.{◌↔◌}
 use mathlib.Core.Path.{◌≡◌, refl, sym, ap, ap₂, ◌∙◌}
 use mathlib.Core.List.{List, [], ◌∷◌, ◌++◌, append_assoc, append-nil}
 use Rattle.std.proofs.Math.Bool.{or-true, or-false}
+use Rattle.std.proofs.lemmas.List.{get_or_past}
 use lib.Dec.{leb, ltb, eqb}
 use lib.ListN.{length, get_or, drop, take, set, length-drop, length-set, drop_of_length-le}
 use lib.Seq.{drop-drop, drop-set-lt, take-suc-set}
@@ -59,11 +60,12 @@ byte_at outs s p there =
 -- a symbol takes as many patterns as its rank says, and ⊤ none
 pub top_ranks : (outs : List ℕ) → Ranks (top_of outs) outs
 unfolding top_of
-top_ranks outs = record { named = λ x h. simp (lt-ltb x (length outs) h); free = λ x h. simp (le-ltb x (length outs) h) (other x (eqb x top)) }
+top_ranks outs = record { takes = λ x. by_test x (ltb x (length outs)) (eqb x top) refl }
   where
-    other : (x : ℕ) (b : Bool) → taken (top_if false b x (get_or outs x 0)) ≡ 0
-    other x true = refl
-    other x false = refl
+    by_test : (x : ℕ) (a b : Bool) → ltb x (length outs) ≡ a → taken (top_if a b x (get_or outs x 0)) ≡ get_or outs x 0
+    by_test x true b e = refl
+    by_test x false true e = sym (get_or_past outs x 0 (ltb-false _ _ e))
+    by_test x false false e = sym (get_or_past outs x 0 (ltb-false _ _ e))
 
 -- ---- what some patterns share, one after the other
 abbrev pub pattern_codes : Patterns → List ℕ

@@ -1,24 +1,46 @@
 // Patterns as bytes: a symbol, or 255 for ⊤, where anything may stand; in preorder, one byte each.
-ghost use Rattle.std.specs.Prelude.{◌*◌, ◌+◌, ◌≤◌, ◌<◌, true, ◌≡◌, length, drop, is_some};
-ghost use Rattle.theory.specs.Term.{count};
-ghost use Rattle.trees.specs.Inner.Decode.{forest};
-ghost use Rattle.prefixes.specs.Inner.Patterns.{top_of, IsPattern, Ended, CutPattern, size_after, Begins, Graftable, grafted};
+ghost use Rattle.std.specs.Prelude.{ℕ, ◌*◌, ◌+◌, ◌≤◌, ◌<◌, true, ◌≡◌, length, Some, is_some};
+ghost use Rattle.prefixes.specs.Inner.Patterns.{IsPattern, end_of, CutPattern, size_after, Begins, Graftable, grafted};
 
 use formats::file::copy_at;
 
 // How many bytes of the table of patterns each state has: that of state q stands from byte SLOT * q on.
 pub const SLOT: usize = 64;
 
-// The end of the pattern at `at`.
-fn pattern_end(outs: &[u8], s: &[u8], at: usize) -> usize
-    requires { 0 < count (forest (top_of outs.now) (drop at s.now)) }
-    ensures { Ended (top_of outs.now) s.now at result }
+// A letter of a word, read as a number.
+pub trait Letter: Copy {
+    ghost number: { Self → ℕ };
+
+    fn number(self) -> usize
+        ensures { result ≡ number self };
+}
+
+impl Letter for u8 {
+    ghost number = { λ x. x };
+
+    fn number(self) -> usize {
+        usize::from(self)
+    }
+}
+
+impl Letter for u32 {
+    ghost number = { λ x. x };
+
+    fn number(self) -> usize {
+        self as usize
+    }
+}
+
+// The end of the tree at `at`: a letter below the number of ranks takes as many of the trees behind it as its rank says, and another none.
+pub fn tree_end<L: Letter>(outs: &[u8], s: &[L], at: usize) -> usize
+    requires { is_some (end_of outs.now L.number s.now at) ≡ true }
+    ensures { end_of outs.now L.number s.now at ≡ Some result }
 {
     let mut owed = 1;
     let mut p = at;
     // Stays: a `while`, which ends where nothing is owed any more, not after a count.
     while owed > 0 {
-        let x = usize::from(s[p]);
+        let x = s[p].number();
         if x < outs.len() {
             owed += usize::from(outs[x]);
         }
@@ -46,8 +68,8 @@ pub(crate) fn cut_pattern(outs: &[u8], x: &mut [u8], y: &[u8]) -> Option<usize>
             j += 1;
         } else {
             cut |= usize::from(k) < outs.len();
-            i = pattern_end(outs, x, i);
-            j = pattern_end(outs, y, j);
+            i = tree_end(outs, x, i);
+            j = tree_end(outs, y, j);
             x[w] = 255;
         }
         w += 1;

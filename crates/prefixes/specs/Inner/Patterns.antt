@@ -1,5 +1,5 @@
 -- Patterns as bytes, and what is done with them: the end of one, what two share, the grafting of a right-hand side.
-use Rattle.std.specs.Prelude.{ℕ, ◌+◌, ◌*◌, ◌≤◌, ◌<◌, Bool, true, false, List, [], ◌∷◌, ◌≡◌, ltb, eqb, length, get_or, drop, take, Option, None, Some}
+use Rattle.std.specs.Prelude.{ℕ, suc, ◌+◌, ◌*◌, ◌≤◌, ◌<◌, Bool, true, false, List, [], ◌∷◌, ◌≡◌, ltb, eqb, length, get_or, drop, take, Option, None, Some}
 use Rattle.std.proofs.Math.Seq.{slice}
 use Rattle.theory.specs.Lcp.{lcp}
 use Rattle.theory.specs.Prefix.{Pattern}
@@ -38,6 +38,16 @@ pub record Ended {A : Type 0} (f : ℕ → Letter A) (s : List ℕ) (at e : ℕ)
   pub further : at < e
   pub inside : e ≤ length s
   pub behind : forest f (drop e s) ≡ rests 1 (forest f (drop at s))
+
+-- where the first n trees of a word end, if they do: the word begins at position p, and r says of each letter how many of the trees behind it it takes
+unfoldable pub trees_end : {X : Type 0} → (X → ℕ) → ℕ → ℕ → List X → Option ℕ
+trees_end r ℕ.zero p s = Some p
+trees_end r (suc n) p [] = None
+trees_end r (suc n) p (x ∷ s) = trees_end r (r x + n) (suc p) s
+
+-- where the tree at position at ends: a letter takes as many trees as the rank of its number says, and a number without a rank none
+abbrev pub end_of : {X : Type 0} → List ℕ → (X → ℕ) → List X → ℕ → Option ℕ
+end_of outs number s at = trees_end (λ x. get_or outs (number x) 0) 1 at (drop at s)
 
 -- the pattern x was cut to what it shares with y; cut says whether that took anything away
 pub record CutPattern (outs x y after : List ℕ) (size : ℕ) (cut : Bool) : Type 0 where

@@ -3,7 +3,8 @@ use native.Mathlib.Omega.{arith}
 use Prim.Native.Nat.{◌<◌}
 use mathlib.Core.Path.{◌∙◌}
 use lib.Seq.{length-take-le, get_or-take}
-use Rattle.earliest.proofs.Locating.{locating_start, tree_there, tree_inside, locating_done, next_symbol, next_top}
+use Rattle.prefixes.proofs.Ends.{end_there, end_right}
+use Rattle.earliest.proofs.Locating.{letter_ranks, locating_start, tree_there, tree_inside, locating_done, next_symbol, next_top}
 use Rattle.earliest.proofs.expand.locate.Goals as goal
 use Rattle.earliest.proofs.expand.locate.Goals.{then-from-outs, else-from-outs}
 
@@ -13,8 +14,8 @@ loop-x-init c = locating_start c.requires
 pub overflow_add-p : goal.overflow_add-p
 overflow_add-p c = omega (arith, tree_inside c.requires c.loop-x.invariant)
 
-pub letter_end-p-requires : goal.letter_end-p-requires
-letter_end-p-requires c = tree_there c.requires c.loop-x.invariant
+pub tree_end-p-requires : goal.tree_end-p-requires
+tree_end-p-requires c = end_there (letter_ranks _) _ _ (tree_there c.requires c.loop-x.invariant)
 
 pub loop-x-preserved : goal.loop-x-preserved
 loop-x-preserved c =
@@ -25,7 +26,7 @@ loop-x-preserved c =
     let here = c.from.ensures ∙ get_or-take c.args.m c.args.head.now i 0 there in
     elim c.if-from-outs.branch [
       | then-from-outs w ↦ next_symbol L W there here w.if-from-outs.true w.p-is
-      | else-from-outs w ↦ next_top L W there here (omega arith) w.letter_end-p.ensures w.p-is
+      | else-from-outs w ↦ next_top L W there here (omega arith) (end_right (letter_ranks _) _ _ (tree_there L W) w.tree_end-p.ensures) w.p-is
     ]
 
 pub returns : goal.returns

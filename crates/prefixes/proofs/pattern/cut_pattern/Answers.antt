@@ -2,9 +2,9 @@
 use Prim.Native.Nat.{◌<◌}
 use native.Mathlib.Omega.{arith}
 use lib.ListN.{length}
-use Rattle.prefixes.proofs.Ends.{letter_inside}
+use Rattle.prefixes.proofs.Ends.{letter_inside, end_there, end_right}
 use Rattle.prefixes.proofs.Grafts.{cut_answer}
-use Rattle.prefixes.proofs.Patterns.{cutting_start, cutting_done, first_there, second_there, same_turn, other_turn}
+use Rattle.prefixes.proofs.Patterns.{cutting_start, cutting_done, first_there, second_there, same_turn, other_turn, top_ranks}
 use Rattle.prefixes.proofs.pattern.cut_pattern.Goals as goal
 use Rattle.prefixes.proofs.pattern.cut_pattern.Goals.{then-k-y, else-k-y}
 
@@ -21,11 +21,11 @@ overflow_add-j c =
 pub loop-i-init : goal.loop-i-init
 loop-i-init c = cutting_start _ _ _ c.requires.0 c.requires.1
 
-pub pattern_end-i-requires : goal.pattern_end-i-requires
-pattern_end-i-requires c = first_there c.loop-i.invariant c.loop-i-test.true
+pub tree_end-i-requires : goal.tree_end-i-requires
+tree_end-i-requires c = end_there (top_ranks _) _ _ (first_there c.loop-i.invariant c.loop-i-test.true)
 
-pub pattern_end-j-requires : goal.pattern_end-j-requires
-pattern_end-j-requires c = second_there c.loop-i.invariant c.loop-i-test.true
+pub tree_end-j-requires : goal.tree_end-j-requires
+tree_end-j-requires c = end_there (top_ranks _) _ _ (second_there c.loop-i.invariant c.loop-i-test.true)
 
 pub loop-i-preserved : goal.loop-i-preserved
 loop-i-preserved c =
@@ -33,7 +33,16 @@ loop-i-preserved c =
     let t = c.loop-i-test.true in
     elim c.if-k-y.branch [
       | then-k-y w ↦ rw (w.x-is, w.i-is, w.j-is, w.cut-is) (same_turn M t w.if-k-y.true)
-      | else-k-y w ↦ rw (w.x-is, w.i-is, w.j-is, w.cut-is, w.from.ensures) (other_turn M t w.if-k-y.false w.pattern_end-i.ensures w.pattern_end-j.ensures)
+      | else-k-y w ↦ rw (w.x-is, w.i-is, w.j-is, w.cut-is, w.from.ensures) (other_turn M t w.if-k-y.false (end_right (top_ranks _) _ _ (first_there M t) w.tree_end-i.ensures) (end_right (top_ranks _) _ _ (second_there M t) w.tree_end-j.ensures))
+    ]
+
+pub loop-i-smaller : goal.loop-i-smaller
+loop-i-smaller c =
+    let M = c.loop-i.invariant in
+    let t = c.loop-i-test.true in
+    elim c.if-k-y.branch [
+      | then-k-y w ↦ omega (arith, w.i-is, t, M.long)
+      | else-k-y w ↦ omega (arith, w.i-is, t, M.long, (end_right (top_ranks _) _ _ (first_there M t) w.tree_end-i.ensures).further)
     ]
 
 pub returns : goal.returns

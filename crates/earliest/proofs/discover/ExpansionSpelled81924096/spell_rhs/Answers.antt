@@ -3,6 +3,8 @@ use native.Mathlib.Omega.{arith}
 use borrow.Author.Rules.{rules}
 use Rattle.forms.proofs.Files.{number_fits}
 use Rattle.discovery.proofs.Spelling.{spells_found}
+use Rattle.prefixes.proofs.Ends.{end_there, end_right}
+use Rattle.earliest.proofs.Locating.{letter_ranks}
 use Rattle.earliest.proofs.Finding.{rhs_expandable, rhs_lent, rhs_locatable, finds_rhs}
 use Rattle.earliest.proofs.discover.ExpansionSpelled81924096.spell_rhs.Goals as goal
 
@@ -45,8 +47,11 @@ slice_bounds-locate-end-2 c = omega (arith, rhs_lent c.requires.0 c.requires.1 c
 pub locate-at-requires : goal.locate-at-requires
 locate-at-requires c = rhs_locatable c.requires.0 c.requires.1 c.requires.2 (search rules) c.from-from.ensures c.from-to.ensures c.expand-len.ensures c.from.ensures
 
-pub slice_bounds-letter_end-end : goal.slice_bounds-letter_end-end
-slice_bounds-letter_end-end c = omega (arith, rhs_lent c.requires.0 c.requires.1 c.requires.2 (search rules) c.from-from.ensures c.from-to.ensures c.expand-len.ensures c.from.ensures, c.expand-len.auto)
+pub slice_bounds-tree_end-end : goal.slice_bounds-tree_end-end
+slice_bounds-tree_end-end c = omega (arith, rhs_lent c.requires.0 c.requires.1 c.requires.2 (search rules) c.from-from.ensures c.from-to.ensures c.expand-len.ensures c.from.ensures, c.expand-len.auto)
+
+pub tree_end-stop-requires : goal.tree_end-stop-requires
+tree_end-stop-requires c = end_there (letter_ranks _) _ _ c.locate-at.ensures.some
 
 pub returns : goal.returns
-returns c = spells_found (finds_rhs c.requires.0 c.requires.1 c.requires.2 (search rules) c.from-from.ensures c.from-to.ensures c.expand-len.ensures c.from.ensures c.locate-at.ensures c.letter_end-stop.ensures)
+returns c = spells_found (finds_rhs c.requires.0 c.requires.1 c.requires.2 (search rules) c.from-from.ensures c.from-to.ensures c.expand-len.ensures c.from.ensures c.locate-at.ensures (end_right (letter_ranks _) _ _ c.locate-at.ensures.some c.tree_end-stop.ensures))
