@@ -6,13 +6,6 @@ ghost use Rattle.discovery.specs.Inner.Bodies.{AddsBody};
 // The letters of the calls on a child.
 pub const CALL: usize = 65536;
 
-// A letter as a number. Stays: `earliest` calls it.
-pub fn letter(x: u32) -> usize
-    ensures { result ≡ x }
-{
-    x as usize
-}
-
 // Gives state c the next number, unless it has one, and says how many states have one.
 // Stays: `list`, `place` and `met` are in the contracts of `earliest`, `join` and `queries`; a place is 0 for a state without one.
 pub fn enter(list: &mut [u16], place: &mut [u8], met: usize, c: usize) -> usize
