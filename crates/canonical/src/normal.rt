@@ -1,15 +1,12 @@
 // The normal form of the transducer of a file, as a file.
 ghost use Rattle.std.specs.Prelude.{◌≤◌, ◌≡◌, length};
-ghost use Rattle.formats.specs.Sheet.{longest};
-ghost use Rattle.transducer.specs.Inner.Machine.{Machine};
-ghost use Rattle.earliest.specs.Inner.Loaded.{FormsFile};
-ghost use Rattle.canonical.specs.Answers.{Cleans};
-ghost use Rattle.canonical.specs.Inner.Normal.{Reducible, Reduces, NormalOf, NormalBy};
+ghost use Rattle.canonical.specs.Answers.{NormalFile, Cleans};
+ghost use Rattle.canonical.specs.Inner.Normal.{Reducible, Reduces, NormalOf, normal_whole};
 
 use crate::quotient::merge;
 use earliest::earliest::form_of_parts;
-use formats::file::{counts_end, read_transducer};
-use forms::write::{Form, write_found};
+use earliest::kinds::{FormKind, form_of_file};
+use forms::write::Form;
 use merging::refining::settle_classes;
 use trees::alphabet::{input_ranks, output_ranks};
 use trees::refusal::Refusal;
@@ -63,51 +60,36 @@ fn reduce(
     )
 }
 
-// The normal form of the transducer whose n, counts and marks these are.
-pub(crate) fn normal_by(
-    stock: &[u8],
-    n: usize,
-    counts: &[u8],
-    marks: &[u8],
-    starts: &mut [u16],
-    out: &mut [u8],
-) -> Option<usize>
-    requires { Machine stock.now n counts.now marks.now × (2050 ≤ length starts.old) × (length out.old ≡ 16384) }
-    ensures { NormalBy stock.now n counts.now marks.now starts.new out.new result }
-{
-    let mut from = [0u16; 2050];
-    let mut early = [0u8; 16384];
-    let states = form_of_parts(stock, n, counts, marks, &mut from, &mut early)?;
-    let ins = input_ranks(stock);
-    let outs = output_ranks(stock);
-    Some(reduce(ins, outs, &from, &early, states, starts, out))
-}
+// The normal form, as a kind of form.
+struct Normal;
 
-// The file of the normal form of the transducer whose n, counts and marks these are.
-fn clean_file(
-    stock: &[u8],
-    n: usize,
-    counts: &[u8],
-    marks: &[u8],
-    area: &mut [u8],
-) -> Result<Form, Refusal>
-    requires { Machine stock.now n counts.now marks.now × (longest ≤ length area.old) }
-    ensures { FormsFile (NormalOf stock.now n counts.now marks.now) stock.now n counts.now marks.now area.old area.new result }
-{
-    let mut starts = [0u16; 2050];
-    let mut out = [0u8; 16384];
-    let found = normal_by(stock, n, counts, marks, &mut starts, &mut out);
-    write_found(stock, found, &starts, &out, area)
+impl FormKind for Normal {
+    ghost parts = { NormalOf };
+
+    ghost file = { NormalFile };
+
+    fn make(
+        stock: &[u8],
+        n: usize,
+        counts: &[u8],
+        marks: &[u8],
+        starts: &mut [u16],
+        out: &mut [u8],
+    ) -> Option<usize> {
+        let mut from = [0u16; 2050];
+        let mut early = [0u8; 16384];
+        let states = form_of_parts(stock, n, counts, marks, &mut from, &mut early)?;
+        let ins = input_ranks(stock);
+        let outs = output_ranks(stock);
+        Some(reduce(ins, outs, &from, &early, states, starts, out))
+    }
+
+    ghost whole = { normal_whole };
 }
 
 // Writes the file of the normal form of the transducer of the file `sheet` (01: the clean sheet).
 pub fn clean(stock: &[u8], sheet: &[u8], area: &mut [u8]) -> Result<Form, Refusal>
     ensures { Cleans stock.now sheet.now area.old area.new result }
 {
-    if area.len() < 20483 {
-        return Err(Refusal::ShortArea);
-    }
-    let n = read_transducer(stock, sheet)?;
-    let from = counts_end(stock, n);
-    clean_file(stock, n, &sheet[1..from], &sheet[from..], area)
+    form_of_file::<Normal>(stock, sheet, area)
 }

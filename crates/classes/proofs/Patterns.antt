@@ -6,7 +6,7 @@ use native.Mathlib.Numerals.{add-one}
 use native.Mathlib.Omega.{arith}
 use mathlib.Core.List.{List, [], ◌∷◌, ◌++◌, map-append}
 use mathlib.Core.Logic.{by_cases}
-use mathlib.Core.Path.{◌≡◌, refl, sym, ap, ap₂, ◌∙◌}
+use mathlib.Core.Path.{◌≡◌, sym, ap, ap₂, ◌∙◌}
 use lib.ListN.{length, set, length-set, take, drop, take-append-drop}
 use lib.Seq.{get_or-set_same, get_or-set_other, length-take-le, drop-append-le, take-take, slice, slice_empty, slice-cons}
 use Rattle.trees.specs.Code.{Mark}
@@ -22,9 +22,6 @@ use Rattle.classes.proofs.Keys.{key_symbol, key_call}
 pub record PatternLoop (bytes : List ℕ) (from to h j : ℕ) : Type 0 where
   pub byte : h < 256
   pub rest : mixed h (keyed [] (part bytes j to)) ≡ pattern_byte bytes from to
-
-pub pattern_start : {bytes : List ℕ} {from to : ℕ} → PatternLoop bytes from to 0 from
-pattern_start = record { byte = omega arith; rest = refl }
 
 module _ {bytes : List ℕ} {from to h j : ℕ} (L : PatternLoop bytes from to h j) (inside : 2 * to ≤ length bytes) (l : j < to) where
   first_key : keyed [] (part bytes j to) ≡ key_of [] (at bytes (2 * j), at bytes (2 * j + 1)) ∷ keyed [] (part bytes (suc j) to)

@@ -44,6 +44,7 @@ use Rattle.comparison.specs.Answers.{Differ, Found, Compares, pair_check, HandsS
 use Rattle.pairs.specs.Inner.Pairs.{sides, Forms, Searches}
 use Rattle.comparison.specs.Inner.Verdicts.{ComparesForms, FoundParts, ComparesParts, EarlyForm, ComparesWith}
 use Rattle.pairs.specs.declared.pairs.Clash.{Clash}
+use Rattle.pairs.specs.declared.pairs.Pair.{Pair}
 
 -- ---- of two earliest forms
 -- with a byte for each state in a part of an array
@@ -54,11 +55,11 @@ module _ {ins outs starts bytes starts' bytes' : List ℕ} {k k' : ℕ} (C : Com
   pub forms_searchable : Forms (sides ins starts bytes starts' bytes') (length (take (k - 0) (replicate {A = ℕ} 128 0))) (length (take (k' - 0) (replicate {A = ℕ} 128 0)))
   forms_searchable = rw (zeros_long k C.left.few_states, zeros_long k' C.right.few_states) (record { outs = outs; left = C.left; right = C.right })
 
-  pub forms_searched : {P : List ℕ} {v : Result (Unit {0}) Clash} → Searches (sides ins starts bytes starts' bytes') (length (take (k - 0) (replicate {A = ℕ} 128 0))) (length (take (k' - 0) (replicate {A = ℕ} 128 0))) P v → Searches (sides ins starts bytes starts' bytes') k k' P v
+  pub forms_searched : {P : List Pair} {v : Result (Unit {0}) Clash} → Searches (sides ins starts bytes starts' bytes') (length (take (k - 0) (replicate {A = ℕ} 128 0))) (length (take (k' - 0) (replicate {A = ℕ} 128 0))) P v → Searches (sides ins starts bytes starts' bytes') k k' P v
   forms_searched S = rw (zeros_long k C.left.few_states, zeros_long k' C.right.few_states) at S
 
   -- the search ends with all pairs joined
-  pub forms_same : {P tree address : List ℕ} {v : Result (Unit {0}) Clash} → Searches (sides ins starts bytes starts' bytes') k k' P v → v ≡ Ok tt → ComparesForms ins outs starts bytes k starts' bytes' k' tree tree address address (Ok None)
+  pub forms_same : {P : List Pair} {tree address : List ℕ} {v : Result (Unit {0}) Clash} → Searches (sides ins starts bytes starts' bytes') k k' P v → v ≡ Ok tt → ComparesForms ins outs starts bytes k starts' bytes' k' tree tree address address (Ok None)
   forms_same S e = record {
     same = λ z. ((λ l. S.same e outs l C.left C.right (machine_wf l C.left.wholes) (machine_wf l C.right.wholes)), refl, refl);
     differ = λ v z. conflict (cc);

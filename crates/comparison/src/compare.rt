@@ -7,7 +7,7 @@ ghost use Rattle.comparison.specs.Inner.Verdicts.{ComparesForms, EarlyForm, Comp
 
 use earliest::earliest::form_of_parts;
 use formats::file::{counts_end, read_transducer};
-use pairs::pairs::search;
+use pairs::pairs::{Pair, search};
 use trees::alphabet::{input_ranks, output_ranks};
 use trees::refusal::Refusal;
 use witness::witness::{Shown, show};
@@ -30,7 +30,7 @@ fn compare_forms(
 {
     let mut classes1 = [0u8; 128];
     let mut classes2 = [0u8; 128];
-    let mut pairs = [0u8; 1536];
+    let mut pairs = [Pair::default(); 256];
     match search(
         ins,
         starts1,
@@ -44,20 +44,7 @@ fn compare_forms(
         Ok(()) => Ok(None),
         Err(clash) => {
             let shown = show(
-                ins,
-                outs,
-                starts1,
-                marks1,
-                n1,
-                starts2,
-                marks2,
-                n2,
-                &pairs,
-                clash.parent,
-                clash.symbol,
-                clash.mark,
-                tree,
-                address,
+                ins, outs, starts1, marks1, n1, starts2, marks2, n2, &pairs, clash, tree, address,
             );
             Ok(Some(shown))
         }

@@ -1,6 +1,6 @@
 -- Laws of the states met: entering a state, writing letters as marks, and the letters of a term.
 -- Assumes nothing.
-use Rattle.std.specs.Prelude.{None, Some}
+use Rattle.std.specs.Prelude.{None}
 use Prim.Native.Nat.{ℕ, suc, ◌+◌, ◌-◌, ◌*◌, ◌/◌, ◌%◌, ◌≤◌, ◌<◌}
 use native.Mathlib.Decide.{ℕ_discrete, dec_lt}
 use native.Mathlib.Numerals.{add-one}
@@ -13,7 +13,7 @@ use mathlib.Core.Option.{some, some-injective}
 use borrow.Author.Tests.{lt-ltb, le-ltb, ltb-false}
 use lib.Dec.{ltb}
 use lib.ListN.{length, get_or, get_elem?, take, set, replicate, length-set, length-replicate, length-append, get_or-append, length-map}
-use lib.Seq.{sets, get_or-set_same, get_or-set_other, take-suc, take-suc-set, take_all, length-take-le, length-sets, get_or-append-add}
+use lib.Seq.{sets, get_or-set_same, get_or-set_other, take-suc, take-suc-set, length-take-le, get_or-append-add}
 use Rattle.theory.specs.Inner.ReadCalls.{ReadCalls, no_call, one_call}
 use Rattle.theory.specs.Registry.{found, added}
 use Rattle.theory.specs.Term.{Term, var, node, Terms, none, more, bind, binds, mapT}
@@ -138,10 +138,6 @@ module _ {list place : List ℕ} {met : ℕ} (Q : Queue list place met) where
     }
 
 -- ---- one letter as a mark
--- a letter that is no call is a symbol
-pub symbol_small : {w : ℕ} (x : ℕ) → Sayable w (x ∷ []) → x < 65536 → x < 64
-symbol_small x S h = ⊎_elim (λ g. g) (λ g. absurd (omega arith)) (S 0 (omega arith))
-
 -- the child of a call fits a byte
 pub child_small : {w : ℕ} (x : ℕ) → Sayable w (x ∷ []) → x / 65536 < 256
 child_small x S = ⊎_elim (λ g. omega arith) (λ g. omega arith) (S 0 (omega arith))
@@ -247,29 +243,13 @@ copied_none s Q = record {
   wrote = refl;
 }
 
--- one letter of them
-pub sayable_one : {w : ℕ} (s : List ℕ) (j x : ℕ) → Sayable w s → j < length s → x ≡ get_or s j 0 → Sayable w (x ∷ [])
-sayable_one s j x S h e i l = let z : i ≡ 0 = omega arith in rw (z, e) (S j h)
-
--- writing keeps the length of the area
-pub copied_length : {s list place out list' place' out' : List ℕ} {met at met' : ℕ} → Copied s list place met out at list' place' met' out' → length out' ≡ length out
-copied_length {s} {out = out} {place' = place'} {at = at} C = ap length C.wrote ∙ length-sets out (2 * at) (mark_bytes (marks_by place' s))
-
 module _ {list place out list' place' out' : List ℕ} {met at met' : ℕ} (s : List ℕ) (j : ℕ) (C : Copied (take j s) list place met out at list' place' met' out') where
-  -- at most one state is met for each letter
-  pub copied_few : j ≤ length s → met' ≤ met + j
-  copied_few h = omega (arith, C.few, length-take-le j s h)
-
   -- one letter more
   pub copied_next : {list'' place'' out'' : List ℕ} {met'' x : ℕ} → j < length s → x ≡ get_or s j 0 → Copied (x ∷ []) list' place' met' out' (at + j) list'' place'' met'' out'' → Copied (take (j + 1) s) list place met out at list'' place'' met'' out''
   copied_next {x = x} h e D =
       let l : length (take j s) ≡ j = length-take-le j s (omega arith) in
       let t : take (j + 1) s ≡ take j s ++ x ∷ [] = ap (λ k. take k s) (add-one j) ∙ take-suc s j 0 h ∙ rw e in
       rw t (copied_more C (rw l D))
-
-  -- no letter is left
-  pub copied_all : length s ≤ j → Copied s list place met out at list' place' met' out'
-  copied_all h = rw (take_all j s h) at C
 
 -- ---- a body more
 -- it is over the limits
@@ -290,20 +270,6 @@ module _ {s out list place out' list' place' : List ℕ} {met at n : ℕ} (C : C
   -- there are more states than a file has
   pub over_states : 128 < n → (L : List ℕ) × (ReadCalls (letter_calls s) (met_of list met) L × (128 < length L))
   over_states h = (met_of list' n, (C.read, omega (arith, length-take-le n list' (omega (arith, C.queue.few, C.queue.long)))))
-
-  -- it is within them
-  pub adds_body : {starts : List ℕ} {b : ℕ} → at ≡ get_or starts b 0 → length s ≤ 64 → at + length s ≤ 8192 → n ≤ 128 → AddsBody s b starts out list place met (set starts (b + 1) (at + length s)) out' list' place' (Some n)
-  adds_body e h g l = record {
-    over = λ r. conflict (cc);
-    short = λ m r. let z : n ≡ m = cc in (h, omega arith, omega arith);
-    queue = λ m r. let z : n ≡ m = cc in rw (← z) C.queue;
-    wide = λ m r. C.wide;
-    read = λ m r. let z : n ≡ m = cc in rw (← z) C.read;
-    kept = λ m r. C.kept;
-    told = λ m r. C.told;
-    wrote = λ m r. rw (← e) C.wrote;
-    ended = λ m r. rw e;
-  }
 
 -- ---- the letters of a term
 -- a call is got back from its letter

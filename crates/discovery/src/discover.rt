@@ -26,36 +26,37 @@ pub trait Spelled<const W: usize, const L: usize> {
         ensures { result ≡ length (ins self.now) };
 
     // Spells the initial term: where its letters stand, or that they are more than a body has.
-    fn spell_initial(&self, letters: &mut [u32]) -> Option<Span>
-        requires { ready self.now × (L ≤ length letters.old) }
+    fn spell_initial(&self, letters: &mut [u32; L]) -> Option<Span>
+        requires { ready self.now }
         ensures { Spells (transducer self.now).initial letters.new result };
 
     // Spells the right-hand side of state c for symbol a likewise.
-    fn spell_rhs(&self, c: usize, a: usize, letters: &mut [u32]) -> Option<Span>
-        requires { ready self.now × (L ≤ length letters.old) × valid self.now c × (a < length (ins self.now)) }
+    fn spell_rhs(&self, c: usize, a: usize, letters: &mut [u32; L]) -> Option<Span>
+        requires { ready self.now × valid self.now c × (a < length (ins self.now)) }
         ensures { Spells ((transducer self.now).rhs c a) letters.new result };
 }
 
 // Adds the initial term.
 fn add_initial<S: Spelled<W, L>, const W: usize, const L: usize>(
     source: &S,
-    letters: &mut [u32],
+    letters: &mut [u32; L],
     starts: &mut [u16],
     out: &mut [u8],
     list: &mut [u16],
     place: &mut [u8],
 ) -> Option<usize>
-    requires { S.ready source.now × Numbered (S.ins source.now) (S.outs source.now) W (S.transducer source.now) (S.valid source.now) × (L ≤ length letters.old) × Empty W starts.old out.old list.old place.old }
+    requires { S.ready source.now × Numbered (S.ins source.now) (S.outs source.now) W (S.transducer source.now) (S.valid source.now) × Empty W starts.old out.old list.old place.old }
     ensures { Adds (S.ins source.now) (S.outs source.now) (S.transducer source.now) W 0 starts.new out.new list.new place.new result }
 {
     let span = source.spell_initial(letters)?;
-    add_body(&letters[span.from..span.to], 0, starts, out, list, place, 0)
+    let spelt = &letters[..];
+    add_body(&spelt[span.from..span.to], 0, starts, out, list, place, 0)
 }
 
 // Adds the right-hand sides of the state number p.
 fn add_state<S: Spelled<W, L>, const W: usize, const L: usize>(
     source: &S,
-    letters: &mut [u32],
+    letters: &mut [u32; L],
     p: usize,
     starts: &mut [u16],
     out: &mut [u8],
@@ -63,7 +64,7 @@ fn add_state<S: Spelled<W, L>, const W: usize, const L: usize>(
     place: &mut [u8],
     met: usize,
 ) -> Option<usize>
-    requires { S.ready source.now × Numbered (S.ins source.now) (S.outs source.now) W (S.transducer source.now) (S.valid source.now) × (L ≤ length letters.old) × Found (S.ins source.now) (S.transducer source.now) W p starts.old out.old list.old place.old met × (p < met) }
+    requires { S.ready source.now × Numbered (S.ins source.now) (S.outs source.now) W (S.transducer source.now) (S.valid source.now) × Found (S.ins source.now) (S.transducer source.now) W p starts.old out.old list.old place.old met × (p < met) }
     ensures { Adds (S.ins source.now) (S.outs source.now) (S.transducer source.now) W (p + 1) starts.new out.new list.new place.new result }
 {
     let symbols = source.symbols();
@@ -72,7 +73,8 @@ fn add_state<S: Spelled<W, L>, const W: usize, const L: usize>(
     for a in 0..symbols {
         let span = source.spell_rhs(c, a, letters)?;
         let b = 1 + p * symbols + a;
-        n = add_body(&letters[span.from..span.to], b, starts, out, list, place, n)?;
+        let spelt = &letters[..];
+        n = add_body(&spelt[span.from..span.to], b, starts, out, list, place, n)?;
     }
     Some(n)
 }
@@ -80,14 +82,14 @@ fn add_state<S: Spelled<W, L>, const W: usize, const L: usize>(
 // Adds the right-hand sides of every state that is met; the list of these grows meanwhile.
 fn add_states<S: Spelled<W, L>, const W: usize, const L: usize>(
     source: &S,
-    letters: &mut [u32],
+    letters: &mut [u32; L],
     starts: &mut [u16],
     out: &mut [u8],
     list: &mut [u16],
     place: &mut [u8],
     met: usize,
 ) -> Option<usize>
-    requires { S.ready source.now × Numbered (S.ins source.now) (S.outs source.now) W (S.transducer source.now) (S.valid source.now) × (L ≤ length letters.old) × Found (S.ins source.now) (S.transducer source.now) W 0 starts.old out.old list.old place.old met }
+    requires { S.ready source.now × Numbered (S.ins source.now) (S.outs source.now) W (S.transducer source.now) (S.valid source.now) × Found (S.ins source.now) (S.transducer source.now) W 0 starts.old out.old list.old place.old met }
     ensures { AddsAll (S.ins source.now) (S.outs source.now) (S.transducer source.now) W starts.new out.new list.new place.new result }
 {
     let mut n = met;
@@ -113,5 +115,13 @@ pub fn discover<S: Spelled<W, L>, const W: usize, const L: usize>(
     let mut place = [0u8; W];
     starts[0] = 0;
     let met = add_initial(source, &mut letters, starts, out, &mut list, &mut place)?;
-    add_states(source, &mut letters, starts, out, &mut list, &mut place, met)
+    add_states(
+        source,
+        &mut letters,
+        starts,
+        out,
+        &mut list,
+        &mut place,
+        met,
+    )
 }

@@ -3,12 +3,10 @@ ghost use Rattle.std.specs.Prelude.{◌+◌, ◌*◌, ◌≤◌, ◌<◌, [], �
 ghost use Rattle.discovery.specs.Inner.Queue.{Queue, Entered, Sayable, Copied};
 ghost use Rattle.discovery.specs.Inner.Bodies.{AddsBody};
 
-use trees::bytes::number;
-
 // The letters of the calls on a child.
 pub const CALL: usize = 65536;
 
-// A letter as a number.
+// A letter as a number. Stays: `earliest` calls it.
 pub fn letter(x: u32) -> usize
     ensures { result ≡ x }
 {
@@ -16,6 +14,7 @@ pub fn letter(x: u32) -> usize
 }
 
 // Gives state c the next number, unless it has one, and says how many states have one.
+// Stays: `list`, `place` and `met` are in the contracts of `earliest`, `join` and `queries`; a place is 0 for a state without one.
 pub fn enter(list: &mut [u16], place: &mut [u8], met: usize, c: usize) -> usize
     requires { Queue list.old place.old met × (met < 192) × (c < length place.old) × (c < 65536) }
     ensures { Entered list.old place.old met c list.new place.new result }
@@ -65,10 +64,8 @@ fn copy_marks(
     ensures { Copied s.now list.old place.old met out.old at list.new place.new result out.new }
 {
     let mut n = met;
-    let mut j = 0;
-    while j < s.len() {
-        n = copy_mark(letter(s[j]), list, place, n, out, at + j);
-        j += 1;
+    for (j, x) in s.iter().enumerate() {
+        n = copy_mark(*x as usize, list, place, n, out, at + j);
     }
     n
 }
@@ -86,7 +83,7 @@ pub fn add_body(
     requires { Queue list.old place.old met × (met ≤ 128) × Sayable (length place.old) s.now × (b + 1 < length starts.old) × (get_or starts.old b 0 ≤ 8192) × (length out.old ≡ 16384) }
     ensures { AddsBody s.now b starts.old out.old list.old place.old met starts.new out.new list.new place.new result }
 {
-    let at = number(starts[b]);
+    let at = usize::from(starts[b]);
     if s.len() > 64 {
         return None;
     }

@@ -1,4 +1,4 @@
--- The earliest form from its ends: what is read from the table of the common prefixes is the trimmed form of the transducer; of the parts of a file, and of a file.
+-- The earliest form from its ends: what is read from the table of the common prefixes is the trimmed form of the transducer, and of the parts of a file. Any form of such parts, as a file.
 -- Assumes nothing.
 use Rattle.std.specs.Prelude.{Err, None, Ok, Option, Result, Some}
 use Rattle.trees.specs.declared.refusal.Refusal.{Refusal}
@@ -31,15 +31,16 @@ use Rattle.forms.specs.Alphabet.{alphabet}
 use Rattle.prefixes.specs.Inner.Heads.{head_of, Prefixable, Prefixes}
 use Rattle.forms.specs.Inner.Tables.{machine, Layout}
 use Rattle.forms.proofs.Files.{machine_wf}
+use Rattle.forms.proofs.Filing.{packed_encoded}
 use Rattle.forms.specs.Answers.{FileOf}
 use Rattle.discovery.specs.Inner.Discovering.{Discovers}
 use Rattle.discovery.proofs.Stages.{numbers_wf}
-use Rattle.earliest.specs.Answers.{form_check, EarliestFile, MakesForm, MakesEarliest}
-use Rattle.forms.specs.Inner.Writing.{WritesForm, WritesFound}
+use Rattle.earliest.specs.Answers.{form_check, EarliestFile, MakesForm}
+use Rattle.forms.specs.Inner.Writing.{WritesFound}
 use Rattle.earliest.specs.Inner.Discovering.{Formable, FormOfTable}
 use Rattle.discovery.specs.Inner.Bodies.{AllFollow}
 use Rattle.earliest.specs.Inner.Letters.{earliest, Expanding}
-use Rattle.earliest.specs.Inner.Loaded.{EarliestOf, FormOfParts, FormsFile}
+use Rattle.earliest.specs.Inner.Loaded.{EarliestOf, FormOfParts, FormMade, FormsFile, Whole, earliest_whole}
 use Rattle.earliest.proofs.Expanding.{pair}
 use Rattle.forms.proofs.Loading.{encoded_layout, encoded_same}
 use Rattle.earliest.proofs.Numbers.{prefixed_by, pair_injective, by_numbers, earliest_maps, pair_sort}
@@ -140,40 +141,39 @@ module _ {stock counts bytes : List ℕ} {n : ℕ} (X : Machine stock n counts b
   pub form_by : {starts out : List ℕ} {r : Option ℕ} → FormOfTable ins outs from bytes n starts out r → FormOfParts stock n counts bytes starts out r
   form_by G = form_parts (rw (i, o) at G)
 
--- ---- the file of the form that was found
--- a form with a property is answered, where no form is over the limits but one whose earliest form is
-module _ (Good : ℕ → List ℕ → List ℕ → Type 0) {stock counts bytes starts out before after : List ℕ} {n : ℕ} where
-  pub found_file : (found : Option ℕ) {r : Result Form Refusal} → WritesFound stock found starts out before after r
-      → (found ≡ None → (k : ℕ) (counts' bytes' : List ℕ) → EarliestOf stock n counts bytes k counts' bytes' → ⊥)
-      → ((k : ℕ) → found ≡ Some k → (size : ℕ) (W : WritesForm stock starts out k before after size) → Good k W.counts W.marks × ((k' : ℕ) × ((counts' : List ℕ) × ((bytes' : List ℕ) × EarliestOf stock n counts bytes k' counts' bytes'))))
-      → FormsFile Good stock n counts bytes before after r
-  found_file (Some k) W over form =
-      let w = W.form k refl in
-      let f = w.written in
-      let g = form k refl w.size f in
-      rw w.answer (pass g.1 (accept (f.counts, (f.marks, (g.0, record { marks = omega (arith, w.many, f.long); size = f.size; wrote = f.wrote })))))
-  found_file None W over form = let w = W.over refl in rw w.0 (refuse (λ x. over refl x.0 x.1.0 x.1.1.0 x.1.1.1) w.1)
-
--- the trimmed form
+-- ---- the table of a kind's form
+-- the earliest form that was found as a file
 module _ {stock counts bytes starts out : List ℕ} {n : ℕ} {found : Option ℕ} (B : FormOfParts stock n counts bytes starts out found) (X : Machine stock n counts bytes) where
-  form_of_lem : {k : ℕ} → found ≡ Some k → {before after : List ℕ} {size : ℕ} (W : WritesForm stock starts out k before after size) → EarliestOf stock n counts bytes k W.counts W.marks
-  form_of_lem {k} e W = record {
+  earliest_of : (k : ℕ) → found ≡ Some k → (counts' bytes' : List ℕ) (N : Transducer ℕ) → Encodes (inputs stock) (outputs stock) k counts' bytes' N → ((l : Leaf (inputs stock)) → Identical (alphabet (inputs stock) l) N (machine (inputs stock) (outputs stock) starts out k) k k) → EarliestOf stock n counts bytes k counts' bytes'
+  earliest_of k e counts' bytes' N E same = record {
     alphabets = X.alphabets;
     machine = X.machine;
     machine_coded = X.encodes;
-    form = W.form;
-    trimmed = trimmed_form (identical_sym (W.same X.alphabets.leaf)) (B.trimmed k e X.machine X.encodes X.alphabets.leaf);
-    form_coded = W.encodes;
+    form = N;
+    trimmed = trimmed_form (identical_sym (same X.alphabets.leaf)) (B.trimmed k e X.machine X.encodes X.alphabets.leaf);
+    form_coded = E;
   }
 
-  -- the contract of `form_file`
-  pub form_file : {before after : List ℕ} {r : Result Form Refusal} → WritesFound stock found starts out before after r → FormsFile (EarliestOf stock n counts bytes) stock n counts bytes before after r
-  form_file W = found_file (EarliestOf stock n counts bytes) found W B.over (λ k e size f. (form_of_lem e f, (k, (f.counts, (f.marks, form_of_lem e f)))))
+  pub early_file : (k : ℕ) → found ≡ Some k → (k' : ℕ) × ((counts' : List ℕ) × ((bytes' : List ℕ) × EarliestOf stock n counts bytes k' counts' bytes'))
+  early_file k e = let w = packed_encoded X.alphabets (B.layout k e) (B.packed k e) in (k, (w.0, (w.1, earliest_of k e w.0 w.1 w.2 w.3 w.4)))
+
+  -- the contract of `Earliest::make`
+  pub earliest_made : FormMade EarliestOf stock n counts bytes starts out found
+  earliest_made = record { over = B.over; within = early_file; layout = B.layout; packed = B.packed; made = earliest_of }
+
+-- ---- the file of the form that was found
+-- the contract of `form_file`
+pub form_file : {Parts : List ℕ → ℕ → List ℕ → List ℕ → ℕ → List ℕ → List ℕ → Type 0} {stock counts bytes starts out before after : List ℕ} {n : ℕ} (found : Option ℕ) {r : Result Form Refusal} → FormMade Parts stock n counts bytes starts out found → WritesFound stock found starts out before after r → FormsFile (Parts stock n counts bytes) stock n counts bytes before after r
+form_file (Some k) B W =
+    let w = W.form k refl in
+    let f = w.written in
+    rw w.answer (pass (B.within k refl) (accept (f.counts, (f.marks, (B.made k refl f.counts f.marks f.form f.encodes f.same, record { marks = omega (arith, w.many, f.long); size = f.size; wrote = f.wrote })))))
+form_file None B W = let w = W.over refl in rw w.0 (refuse (λ x. B.over refl x.0 x.1.0 x.1.1.0 x.1.1.1) w.1)
 
 -- ---- of a file: what is answered of its parts is answered of it
 module _ {stock sheet ins counts bytes : List ℕ} {n : ℕ} (O : Opened stock sheet n ins counts bytes) where
   pub from_parts : {k : ℕ} {counts' bytes' : List ℕ} → EarliestOf stock n counts bytes k counts' bytes' → EarliestFile stock sheet k counts' bytes'
-  from_parts K = record { alphabets = K.alphabets; states = n; machine = K.machine; sheet = record { counts = counts; bytes = bytes; coded = O.coded; encodes = K.machine_coded }; form = K.form; trimmed = K.trimmed; encodes = K.form_coded }
+  from_parts {k} {counts'} {bytes'} K = earliest_whole stock sheet n counts bytes O.coded k counts' bytes' K
 
   pub to_parts : {k : ℕ} {counts' bytes' : List ℕ} → EarliestFile stock sheet k counts' bytes' → EarliestOf stock n counts bytes k counts' bytes'
   to_parts F =
@@ -187,18 +187,15 @@ module _ {stock sheet ins counts bytes : List ℕ} {n : ℕ} (O : Opened stock s
         form_coded = F.encodes;
       }
 
-  pub file_made : {Parts File : ℕ → List ℕ → List ℕ → Type 0} → ((k : ℕ) (counts' bytes' : List ℕ) → Parts k counts' bytes' → File k counts' bytes') → {before after : List ℕ} → longest ≤ length before → (r : Result Form Refusal) → FormsFile Parts stock n counts bytes before after r → MakesForm File stock sheet before after r
+  -- the contract of `form_of_file`
+  pub file_made : {Parts : List ℕ → ℕ → List ℕ → List ℕ → ℕ → List ℕ → List ℕ → Type 0} {File : List ℕ → List ℕ → ℕ → List ℕ → List ℕ → Type 0} → Whole Parts File → {before after : List ℕ} → longest ≤ length before → (r : Result Form Refusal) → FormsFile (Parts stock n counts bytes) stock n counts bytes before after r → MakesForm (File stock sheet) stock sheet before after r
   unfolding IsJudged Holds
   file_made {Parts} {File} whole {before} {after} long r J = go r J.verdict
     where
-      start : (r : Result Form Refusal) → Judged (after ≡ before) (λ (v : Form). (counts' : List ℕ) × ((bytes' : List ℕ) × (File v.states counts' bytes' × FileOf v counts' bytes' before after))) (form_check stock sheet done) (outcome_of r) → MakesForm File stock sheet before after r
+      start : (r : Result Form Refusal) → Judged (after ≡ before) (λ (v : Form). (counts' : List ℕ) × ((bytes' : List ℕ) × (File stock sheet v.states counts' bytes' × FileOf v counts' bytes' before after))) (form_check stock sheet done) (outcome_of r) → MakesForm (File stock sheet) stock sheet before after r
       start r j = let w = O.holds in pass long (pass w.0 (pass w.1.0 (pass w.1.1.0 j)))
 
-      go : (r : Result Form Refusal) → IsJudged (after ≡ before) (λ (v : Form). (counts' : List ℕ) × ((bytes' : List ℕ) × (Parts v.states counts' bytes' × FileOf v counts' bytes' before after))) (check 7 ((k : ℕ) × ((counts' : List ℕ) × ((bytes' : List ℕ) × EarliestOf stock n counts bytes k counts' bytes'))) done) (outcome_of r) → MakesForm File stock sheet before after r
+      go : (r : Result Form Refusal) → IsJudged (after ≡ before) (λ (v : Form). (counts' : List ℕ) × ((bytes' : List ℕ) × (Parts stock n counts bytes v.states counts' bytes' × FileOf v counts' bytes' before after))) (check 7 ((k : ℕ) × ((counts' : List ℕ) × ((bytes' : List ℕ) × EarliestOf stock n counts bytes k counts' bytes'))) done) (outcome_of r) → MakesForm (File stock sheet) stock sheet before after r
       go r (inl (h, q, kept)) = start r (rw q (refuse (λ w. h (w.0, (w.1.0, (w.1.1.0, to_parts w.1.1.1)))) kept))
-      go (Ok v) (inr (R, (counts', (bytes', (P, f))))) = start (Ok v) (pass (R.0, (R.1.0, (R.1.1.0, from_parts R.1.1.1))) (accept (counts', (bytes', (whole v.states counts' bytes' P, f)))))
+      go (Ok v) (inr (R, (counts', (bytes', (P, f))))) = start (Ok v) (pass (R.0, (R.1.0, (R.1.1.0, from_parts R.1.1.1))) (accept (counts', (bytes', (whole stock sheet n counts bytes O.coded v.states counts' bytes' P, f)))))
       go (Err x) (inr (R, u)) = absurd u
-
-  -- the contract of `earliest_form`
-  pub file_formed : {before after : List ℕ} → longest ≤ length before → (r : Result Form Refusal) → FormsFile (EarliestOf stock n counts bytes) stock n counts bytes before after r → MakesEarliest stock sheet before after r
-  file_formed = file_made (λ k counts' bytes' K. from_parts K)

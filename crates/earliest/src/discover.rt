@@ -37,7 +37,7 @@ impl Spelled<8192, 4096> for Expansion<'_> {
         self.ins.len()
     }
 
-    fn spell_initial(&self, letters: &mut [u32]) -> Option<Span> {
+    fn spell_initial(&self, letters: &mut [u32; 4096]) -> Option<Span> {
         let from = usize::from(self.starts[0]);
         let to = usize::from(self.starts[1]);
         let len = expand(self.heads, self.sizes, self.marks, from, to, letters);
@@ -45,7 +45,7 @@ impl Spelled<8192, 4096> for Expansion<'_> {
     }
 
     // That of state c stands in the expanded right-hand side of state c / SLOT, where the prefix has its ⊤ number c % SLOT.
-    fn spell_rhs(&self, c: usize, a: usize, letters: &mut [u32]) -> Option<Span> {
+    fn spell_rhs(&self, c: usize, a: usize, letters: &mut [u32; 4096]) -> Option<Span> {
         let q = c / SLOT;
         let b = 1 + q * self.ins.len() + a;
         let from = usize::from(self.starts[b]);

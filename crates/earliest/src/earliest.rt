@@ -1,14 +1,13 @@
 // The earliest form of the transducer of a file, as a file.
 ghost use Rattle.std.specs.Prelude.{◌≤◌, ◌≡◌, length};
-ghost use Rattle.formats.specs.Sheet.{longest};
 ghost use Rattle.transducer.specs.Inner.Machine.{Machine};
-ghost use Rattle.earliest.specs.Answers.{MakesEarliest};
-ghost use Rattle.earliest.specs.Inner.Loaded.{EarliestOf, FormOfParts, FormsFile};
+ghost use Rattle.earliest.specs.Answers.{EarliestFile, MakesEarliest};
+ghost use Rattle.earliest.specs.Inner.Loaded.{EarliestOf, FormOfParts, earliest_whole};
 
 use crate::discover::form_of_table;
+use crate::kinds::{FormKind, form_of_file};
 use formats::bodies::fill_starts;
-use formats::file::{counts_end, read_transducer};
-use forms::write::{Form, write_found};
+use forms::write::Form;
 use trees::alphabet::{input_ranks, output_ranks};
 use trees::refusal::Refusal;
 
@@ -31,31 +30,31 @@ pub fn form_of_parts(
     form_of_table(ins, output_ranks(stock), &from, marks, n, starts, out)
 }
 
-// The file of the earliest form of the transducer whose n, counts and marks these are.
-fn form_file(
-    stock: &[u8],
-    n: usize,
-    counts: &[u8],
-    marks: &[u8],
-    area: &mut [u8],
-) -> Result<Form, Refusal>
-    requires { Machine stock.now n counts.now marks.now × (longest ≤ length area.old) }
-    ensures { FormsFile (EarliestOf stock.now n counts.now marks.now) stock.now n counts.now marks.now area.old area.new result }
-{
-    let mut starts = [0u16; 2050];
-    let mut out = [0u8; 16384];
-    let found = form_of_parts(stock, n, counts, marks, &mut starts, &mut out);
-    write_found(stock, found, &starts, &out, area)
+// The earliest form, as a kind of form.
+struct Earliest;
+
+impl FormKind for Earliest {
+    ghost parts = { EarliestOf };
+
+    ghost file = { EarliestFile };
+
+    fn make(
+        stock: &[u8],
+        n: usize,
+        counts: &[u8],
+        marks: &[u8],
+        starts: &mut [u16],
+        out: &mut [u8],
+    ) -> Option<usize> {
+        form_of_parts(stock, n, counts, marks, starts, out)
+    }
+
+    ghost whole = { earliest_whole };
 }
 
 // Writes the file of the earliest form of the transducer of the file `sheet` (01: the trimmed sheet).
 pub fn earliest_form(stock: &[u8], sheet: &[u8], area: &mut [u8]) -> Result<Form, Refusal>
     ensures { MakesEarliest stock.now sheet.now area.old area.new result }
 {
-    if area.len() < 20483 {
-        return Err(Refusal::ShortArea);
-    }
-    let n = read_transducer(stock, sheet)?;
-    let from = counts_end(stock, n);
-    form_file(stock, n, &sheet[1..from], &sheet[from..], area)
+    form_of_file::<Earliest>(stock, sheet, area)
 }

@@ -4,3 +4,4 @@
 pub mod discover;
 pub mod earliest;
 pub mod expand;
+pub mod kinds;

@@ -3,11 +3,12 @@
 use Rattle.std.specs.Prelude.{Err, Ok, Option, Result, Some}
 use Rattle.forms.specs.declared.write.Form.{Form}
 use Prim.Native.Nat.{ℕ, ◌≤◌}
-use mathlib.Core.Bool.{Bool}
 use mathlib.Core.List.{List}
 use mathlib.Core.Logic.{inl, inr}
 use mathlib.Core.Path.{◌≡◌, refl}
 use lib.ListN.{length, take}
+use Rattle.std.specs.Str.{bytes_eq}
+use Rattle.std.proofs.lemmas.Slice.Eq.{bytes_eq-Decides}
 use Rattle.trees.specs.Alphabets.{Alphabets, inputs, outputs}
 use Rattle.trees.specs.Refusal.{Decides, Outcome, Checks, done, check, Holds, IsJudged, Judged}
 use Rattle.trees.specs.declared.refusal.Refusal.{Refusal}
@@ -66,5 +67,8 @@ unfolding Holds
 second_refused stock stock' s s' before J e A' J' e' = let w = (accepted_holds (rw e at J)).0 in pass w.1.0 (pass w.1.1.0 (passed A' (not_opened stock' s' (join_check stock stock' s s' done) refl J' e')))
 
 -- two lists of ranks are the same exactly if those that were read are
-pub same_ranks : {outs ins outs' ins' : List ℕ} {b : Bool} → outs ≡ outs' → ins ≡ ins' → Decides (outs ≡ ins) b → Decides (outs' ≡ ins') b
-same_ranks o i D = rw (o, i) at D
+pub same_ranks : {outs ins outs' ins' : List ℕ} → outs ≡ outs' → ins ≡ ins' → Decides (outs' ≡ ins') (bytes_eq outs ins)
+same_ranks {outs} {ins} o i =
+    let D = bytes_eq-Decides outs ins in
+    let e : Decides (outs ≡ ins) (bytes_eq outs ins) = record { sound = D.0; complete = D.1 } in
+    rw (← o, ← i) e

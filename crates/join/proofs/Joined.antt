@@ -101,9 +101,6 @@ module _ {stock stock' starts bytes starts' bytes' : List ℕ} (T : Tables stock
     rhs_less : body_number (inputs stock) (c / 128) a < 1 + T.first.states * length (inputs stock)
     rhs_less = number_less (inputs stock) (c / 128) T.first.states a P.first there
 
-    pub rhs_start : {f : ℕ} → f ≡ get_or starts b 0 → 2 * f ≤ length bytes
-    rhs_start g = let z = g ∙ ap (λ n. get_or starts n 0) e in rw z (T.first.layout.bounds.inside (body_number (inputs stock) (c / 128) a) (omega (arith, rhs_less)))
-
     module _ {f t : ℕ} (g : f ≡ get_or starts b 0) (h : t ≡ get_or starts (b + 1) 0) where
       rhs_from : f ≡ get_or starts (body_number (inputs stock) (c / 128) a) 0
       rhs_from = g ∙ ap (λ n. get_or starts n 0) e
@@ -141,9 +138,6 @@ module _ {stock stock' starts bytes starts' bytes' : List ℕ} (T : Tables stock
           ap (λ u. spelt (paired (run N u (c % 128)))) (sym z)
 
   -- ---- the initial term
-  pub initial_start : {f : ℕ} → f ≡ get_or starts 0 0 → 2 * f ≤ length bytes
-  initial_start g = rw g (T.first.layout.bounds.inside 0 (omega arith))
-
   module _ {f t : ℕ} (g : f ≡ get_or starts 0 0) (h : t ≡ get_or starts 1 0) where
     pub initial_ordered : f ≤ t
     initial_ordered = rw (g, h) (T.first.layout.bounds.ordered 0 (omega arith))

@@ -12,7 +12,7 @@ use Rattle.theory.specs.Joined.{OutputsIn}
 use Rattle.theory.specs.Term.{Term, var, mapT}
 use Rattle.theory.specs.Transducer.{Transducer, run, renamed}
 use Rattle.theory.specs.Wf.{Wf}
-use Rattle.theory.proofs.Terms.{bind_bind}
+use Rattle.theory.proofs.Terms.{bind_bind, bind_var}
 use Rattle.trees.specs.Alphabets.{Leaf, inputs, outputs}
 use Rattle.trees.specs.Code.{Ranked, Call}
 use Rattle.formats.specs.Inner.Layout.{transducer}
@@ -20,7 +20,7 @@ use Rattle.formats.specs.Sheet.{OverAlphabets}
 use Rattle.forms.specs.Alphabet.{alphabet, children_inside}
 use Rattle.discovery.specs.Inner.Discovering.{ValidCall, ByNumbers}
 use Rattle.discovery.proofs.Ranks.{ranked_open, ranked_bind, run_ranked}
-use Rattle.join.specs.Inner.Pairs.{product, Pair, Tables}
+use Rattle.join.specs.Inner.Pairs.{product, Pair, IsPair, Tables}
 use Rattle.runs.specs.Inner.Walked.{paired, tabled}
 use Rattle.runs.proofs.Wider.{tabled_over, tabled_wf}
 
@@ -94,3 +94,26 @@ module _ {stock stock' starts bytes starts' bytes' : List ℕ} (T : Tables stock
     initial = pair_initial;
     rhs = λ c a P h. pair_rhs (c / 128) (c % 128) a P.first P.second h;
   }
+
+-- the same where each state is one with tables of its own
+module _ {stock stock' starts bytes starts' bytes' : List ℕ} (T : Tables stock stock' starts bytes starts' bytes') where
+  abbrev Paired : ℕ → Type 0
+  Paired = IsPair stock stock' starts bytes starts' bytes'
+
+  with_tables : (n : ℕ) (X : Tables stock stock' starts bytes starts' bytes') (t : Term (ℕ × ℕ)) → Ranked (ValidCall (Pair X.first.states X.second.states) n) (outputs stock') t → Ranked (ValidCall Paired n) (outputs stock') t
+  unfolding Ranked
+  with_tables n X t h = rw (bind_var t) at (ranked_bind (ValidCall (Pair X.first.states X.second.states) n) (outputs stock') (ValidCall Paired n) (λ e. var e) (λ e k. record { from_one = k.from_one; child = k.child; state = record { tables = X; pair = k.state } }) t h)
+
+  pub pair_numbers : ByNumbers (inputs stock) (outputs stock') 16384 (product stock stock' starts bytes starts' bytes') Paired
+  pair_numbers =
+      let N = by_numbers T in
+      record {
+        few_symbols = N.few_symbols;
+        few_inputs = N.few_inputs;
+        ranks = N.ranks;
+        narrow = N.narrow;
+        small = λ c P. (by_numbers P.tables).small c P.pair;
+        sort = N.sort;
+        initial = with_tables 1 T _ N.initial;
+        rhs = λ c a P h. with_tables (get_or (inputs stock) a 0) P.tables _ ((by_numbers P.tables).rhs c a P.pair h);
+      }

@@ -13,7 +13,7 @@ use Rattle.std.specs.Prelude.{Option, None}
 use Rattle.theory.proofs.Terms.{conflict}
 use Rattle.classes.specs.Inner.Classes.{at}
 use Rattle.merging.specs.declared.refining.Row.{Row}
-use Rattle.merging.specs.Inner.Refining.{Placed, standing, Moved, Flagged, flag, pending_count, Queue, AllPending}
+use Rattle.merging.specs.Inner.Refining.{Placed, standing, Flagged, flag, pending_count, Queue, AllPending}
 
 -- ---- how many states are pending
 one_flag : (b : Bool) → flag b ≤ 1
@@ -135,7 +135,3 @@ pub record MovedLoop (callers : List Row) (old₀ new moved : List ℕ) (m : ℕ
   pub queue : Queue pending list (length old₀) len
   pub left : (q : ℕ) → q < length old₀ → (at new q ≡ at old q) ⊎ ((i : ℕ) × ((j ≤ i) × (i < m) × (at moved i ≡ q)))
   pub passed : (i : ℕ) → i < j → (q : ℕ) → q < length old₀ → Flagged callers (at moved i) q → Placed pending q → ⊥
-
-module _ {callers : List Row} {old₀ new moved : List ℕ} {m : ℕ} {old : List ℕ} {pending : List Bool} {list : List ℕ} {len j p : ℕ} (L : MovedLoop callers old₀ new moved m old pending list len j) (M : Moved old₀ new moved m) (h : j < m) (e : p ≡ at moved j) where
-  pub moved_state : p < length old₀
-  moved_state = rw e (M.states j h)

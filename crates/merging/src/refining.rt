@@ -2,9 +2,8 @@
 // the same right-hand sides, up to the classes of the states called.
 // A state is looked at again only if a state that it calls has another class than before.
 ghost use Rattle.std.specs.Prelude.{ℕ, Option, Some, ◌+◌, ◌*◌, ◌≤◌, ◌<◌, ◌≡◌, length, get_or, set};
-ghost use Rattle.classes.specs.Inner.Classes.{Classed};
 ghost use Rattle.trees.specs.Refusal.{Decides};
-ghost use Rattle.classes.specs.Inner.Classes.{SameStates};
+ghost use Rattle.classes.specs.Inner.Classes.{Classed, SameStates};
 ghost use Rattle.merging.specs.Inner.Refining.{of_bodies, standing, Placed, FindsPlaced, PlacedMember, Member, Represents, FindsClass, Round, Places, Listed, Rounded, Flagged, StillFlagged, FlaggedCalls, Callers, Queue, FlagsCallers, Moved, FlagsMoved, AllPending, Continues, Refined, Startable, Stable, Refines, Settles};
 ghost use Rattle.forms.specs.Inner.Tables.{Bounded};
 
@@ -29,14 +28,7 @@ impl Bodies<'_> {
     }
 }
 
-// Which states are to be placed, and which placed state stands for each class.
-#[derive(Drop)]
-struct Placing {
-    pending: [bool; 128],
-    reps: [Option<u8>; 128],
-}
-
-// A list of states.
+// A list of states. Stays: fixed arrays here and below, since the library allocates nothing.
 #[derive(Drop)]
 struct States {
     bytes: [u8; 128],
@@ -59,37 +51,6 @@ impl States {
     }
 }
 
-// The first placed state of class c from number `from` on and below `to`.
-fn find_placed(
-    classes: &[u8],
-    pending: &[bool; 128],
-    c: u8,
-    from: usize,
-    to: usize,
-) -> Option<usize>
-    requires { (to ≤ length classes.now) × (length classes.now ≤ 128) }
-    ensures { FindsPlaced classes.now pending.now c from to result }
-{
-    for q in from..to {
-        if classes[q] == c && !pending[q] {
-            return Some(q);
-        }
-    }
-    None
-}
-
-// A placed state of class c, looked for from `start` on and then from 0 on.
-fn placed_member(classes: &[u8], pending: &[bool; 128], c: u8, start: usize) -> Option<usize>
-    requires { (length classes.now ≤ 128) × (start ≤ length classes.now) }
-    ensures { PlacedMember classes.now pending.now c result }
-{
-    let behind = find_placed(classes, pending, c, start, classes.len());
-    if behind.is_some() {
-        return behind;
-    }
-    find_placed(classes, pending, c, 0, start)
-}
-
 // The first state of class c from number `from` on and below `to`.
 fn find_member(classes: &[u8], c: u8, from: usize, to: usize) -> Option<usize>
     requires { to ≤ length classes.now }
@@ -110,81 +71,128 @@ fn middle(p: usize, n: usize) -> usize
     (p + n) / 2
 }
 
-// The representative of class c, of which p is: a placed state; where there is none, the first of those from the middle behind p on, which is placed from now on.
-fn represent(classes: &[u8], placing: &mut Placing, c: u8, p: usize) -> usize
-    requires { Member classes.now c p × (length classes.now ≤ 128) × (c < 128) × ((s : ℕ) → standing placing.old.reps c ≡ Some s → s < length classes.now) }
-    ensures { Represents classes.now placing.old.pending placing.old.reps c placing.new.pending placing.new.reps result }
-{
-    let n = classes.len();
-    let placed = match placing.reps[usize::from(c)] {
-        Some(r) => placed_member(classes, &placing.pending, c, usize::from(r)),
-        None => None,
-    };
-    let q = match placed {
-        Some(q) => q,
-        None => {
-            let q = find_member(classes, c, middle(p, n), n).unwrap_or(p);
-            placing.pending[q] = false;
-            q
-        }
-    };
-    placing.reps[usize::from(c)] = Some(q as u8);
-    q
+// Which states are to be placed, and which placed state stands for each class.
+#[derive(Drop)]
+struct Placing {
+    pending: [bool; 128],
+    reps: [Option<u8>; 128],
 }
 
-// The first class from `base` on and below `count` whose state was in the old class of p and has the same right-hand sides up to old classes.
-fn find_class(
-    bodies: &Bodies,
-    old: &[u8],
-    reps: &[Option<u8>; 128],
-    base: usize,
-    count: usize,
-    p: usize,
-) -> Option<usize>
-    requires { of_bodies Classed bodies.now old.now × (p < length old.now) × (count ≤ 128) × ((k s : ℕ) → standing reps.now k ≡ Some s → s < length old.now) }
-    ensures { of_bodies FindsClass bodies.now old.now reps.now base count p result }
-{
-    for k in base..count {
-        if let Some(rep) = reps[k] {
-            let q = usize::from(rep);
-            if old[q] == old[p] && bodies.same_states(old, q, p) {
-                return Some(k);
+impl Placing {
+    // Makes all of n states pending, with no state that stands for a class.
+    fn all_pending(&mut self, list: &mut States, n: usize)
+        requires { n ≤ 128 }
+        ensures { AllPending self.new.pending self.new.reps list.new.bytes n × (list.new.len ≡ n) }
+    {
+        list.len = 0;
+        for q in 0..n {
+            self.pending[q] = true;
+            list.push(q);
+        }
+        self.reps = [None; 128];
+    }
+
+    // The first placed state of class c from number `from` on and below `to`.
+    fn find_placed(&self, classes: &[u8], c: u8, from: usize, to: usize) -> Option<usize>
+        requires { (to ≤ length classes.now) × (length classes.now ≤ 128) }
+        ensures { FindsPlaced classes.now self.now.pending c from to result }
+    {
+        for q in from..to {
+            if classes[q] == c && !self.pending[q] {
+                return Some(q);
             }
         }
+        None
     }
-    None
-}
 
-// Places the pending state p: with the state that stands for its class, or in a class made in this round, or in one of its own. Says how many classes there are then.
-fn place(
-    bodies: &Bodies,
-    old: &[u8],
-    new: &mut [u8],
-    placing: &mut Placing,
-    base: usize,
-    count: usize,
-    p: usize,
-) -> usize
-    requires { of_bodies Classed bodies.now old.now × of_bodies Round bodies.now old.now new.old placing.old.pending placing.old.reps base count × (p < length old.now) × (Placed placing.old.pending p → ⊥) }
-    ensures { of_bodies Places bodies.now old.now new.old placing.old.pending base count p new.new placing.new.pending placing.new.reps result }
-{
-    let rep = represent(new, placing, old[p], p);
-    if !placing.pending[p] {
-        return count;
-    }
-    placing.pending[p] = false;
-    if bodies.same_states(old, rep, p) {
-        return count;
-    }
-    match find_class(bodies, old, &placing.reps, base, count, p) {
-        Some(k) => {
-            new[p] = k as u8;
-            count
+    // A placed state of class c, looked for from `start` on and then from 0 on.
+    fn placed_member(&self, classes: &[u8], c: u8, start: usize) -> Option<usize>
+        requires { (length classes.now ≤ 128) × (start ≤ length classes.now) }
+        ensures { PlacedMember classes.now self.now.pending c result }
+    {
+        let behind = self.find_placed(classes, c, start, classes.len());
+        if behind.is_some() {
+            return behind;
         }
-        None => {
-            new[p] = count as u8;
-            placing.reps[count] = Some(p as u8);
-            count + 1
+        self.find_placed(classes, c, 0, start)
+    }
+
+    // The representative of class c, of which p is: a placed state; where there is none, the first of those from the middle behind p on, which is placed from now on.
+    fn represent(&mut self, classes: &[u8], c: u8, p: usize) -> usize
+        requires { Member classes.now c p × (length classes.now ≤ 128) × (c < 128) × ((s : ℕ) → standing self.old.reps c ≡ Some s → s < length classes.now) }
+        ensures { Represents classes.now self.old.pending self.old.reps c self.new.pending self.new.reps result }
+    {
+        let n = classes.len();
+        let placed = match self.reps[usize::from(c)] {
+            Some(r) => self.placed_member(classes, c, usize::from(r)),
+            None => None,
+        };
+        let q = match placed {
+            Some(q) => q,
+            None => {
+                let q = find_member(classes, c, middle(p, n), n).unwrap_or(p);
+                self.pending[q] = false;
+                q
+            }
+        };
+        self.reps[usize::from(c)] = Some(q as u8);
+        q
+    }
+
+    // The first class from `base` on and below `count` whose state was in the old class of p and has the same right-hand sides up to old classes.
+    fn find_class(
+        &self,
+        bodies: &Bodies,
+        old: &[u8],
+        base: usize,
+        count: usize,
+        p: usize,
+    ) -> Option<usize>
+        requires { of_bodies Classed bodies.now old.now × (p < length old.now) × (count ≤ 128) × ((k s : ℕ) → standing self.now.reps k ≡ Some s → s < length old.now) }
+        ensures { of_bodies FindsClass bodies.now old.now self.now.reps base count p result }
+    {
+        for k in base..count {
+            if let Some(rep) = self.reps[k] {
+                let q = usize::from(rep);
+                if old[q] == old[p] && bodies.same_states(old, q, p) {
+                    return Some(k);
+                }
+            }
+        }
+        None
+    }
+
+    // Places the pending state p: with the state that stands for its class, or in a class made in this round, or in one of its own. Says how many classes there are then.
+    fn place(
+        &mut self,
+        bodies: &Bodies,
+        old: &[u8],
+        new: &mut [u8],
+        base: usize,
+        count: usize,
+        p: usize,
+    ) -> usize
+        requires { of_bodies Classed bodies.now old.now × of_bodies Round bodies.now old.now new.old self.old.pending self.old.reps base count × (p < length old.now) × (Placed self.old.pending p → ⊥) }
+        ensures { of_bodies Places bodies.now old.now new.old self.old.pending base count p new.new self.new.pending self.new.reps result }
+    {
+        let rep = self.represent(new, old[p], p);
+        if !self.pending[p] {
+            return count;
+        }
+        self.pending[p] = false;
+        if bodies.same_states(old, rep, p) {
+            return count;
+        }
+        match self.find_class(bodies, old, base, count, p) {
+            Some(k) => {
+                new[p] = k as u8;
+                count
+            }
+            None => {
+                new[p] = count as u8;
+                self.reps[count] = Some(p as u8);
+                count + 1
+            }
         }
     }
 }
@@ -207,7 +215,7 @@ fn refine_round(
     for i in 0..list.len {
         let p = usize::from(list.bytes[i]);
         if placing.pending[p] {
-            count = place(bodies, old, new, placing, base, count, p);
+            count = placing.place(bodies, old, new, base, count, p);
             if new[p] != old[p] {
                 moved.push(p);
             }
@@ -308,19 +316,6 @@ fn flag_moved(
     }
 }
 
-// Makes all of n states pending, with no state that stands for a class.
-fn all_pending(placing: &mut Placing, list: &mut States, n: usize)
-    requires { n ≤ 128 }
-    ensures { AllPending placing.new.pending placing.new.reps list.new.bytes n × (list.new.len ≡ n) }
-{
-    list.len = 0;
-    for q in 0..n {
-        placing.pending[q] = true;
-        list.push(q);
-    }
-    placing.reps = [None; 128];
-}
-
 // The callers of moved states are placed alone where they are at most 1 in 4 states (without this limit the worst time is 12.6 times that of the independent version).
 const LISTED: usize = 4;
 
@@ -339,7 +334,7 @@ fn next_round(
     let n = old.len();
     flag_moved(callers, old, new, &mut placing.pending, list, moved);
     if LISTED * list.len > n {
-        all_pending(placing, list, n);
+        placing.all_pending(list, n);
     }
 }
 
@@ -377,7 +372,7 @@ fn refine_classes(bodies: &Bodies, old: &mut [u8], new: &mut [u8], count: usize)
     };
     let mut list = NO_STATES;
     let mut moved = NO_STATES;
-    all_pending(&mut placing, &mut list, old.len());
+    placing.all_pending(&mut list, old.len());
     let classes = refine_round(bodies, old, new, &mut placing, &list, &mut moved, count);
     if moved.len == 0 {
         return false;

@@ -1,53 +1,35 @@
 -- Classes of the states of two transducers, joined pair by pair: each class has the number of a state in it, so that at most 255 pairs are joined, and states of one class are connected by pairs.
 -- Assumes nothing.
-use Prim.Native.Nat.{ℕ, suc, ◌+◌, ◌-◌, ◌*◌, ◌≤◌, ◌<◌}
+use Prim.Native.Nat.{ℕ, suc, ◌+◌, ◌-◌, ◌≤◌, ◌<◌}
 use native.Mathlib.Decide.{ℕ_discrete, dec_lt}
 use native.Mathlib.Omega.{arith}
 use mathlib.Core.List.{List}
 use mathlib.Core.Logic.{inl, inr, by_cases, if_pos, if_neg, Equivalence}
 use mathlib.Core.Path.{◌≡◌, refl, sym, ap, ◌∙◌}
-use lib.ListN.{length, get_or, set, length-set}
+use lib.ListN.{length, set, length-set}
 use lib.Seq.{get_or-set_same, get_or-set_other}
 use borrow.Author.Tests.{lt-ltb, le-ltb}
 use Rattle.theory.proofs.Partition.{ForcedBy, merged, merged_hit, merged_miss, forced_merge, forced_ext}
 use Rattle.classes.specs.Inner.Classes.{at}
-use Rattle.pairs.specs.Inner.Pairs.{pair_left, pair_right, Added, Joined, Member, class_of, roots, Connected, pair, itself, back, onward, Table, table, Merging, Later, JoinsStates}
+use Rattle.pairs.specs.declared.pairs.Pair.{Pair}
+use Rattle.pairs.specs.Inner.Pairs.{no_pair, pair_at, pair_left, pair_right, Added, Joined, Member, class_of, roots, Connected, pair, itself, back, onward, Table, table, Merging, Later, JoinsStates}
 
 -- ---- a pair is listed
-module _ (P : List ℕ) (count q a m c x y : ℕ) (room : 6 * count + 6 ≤ length P) where
-  abbrev written : List ℕ
-  written = set (set (set (set (set (set P (6 * count + 0) x) (6 * count + 1) y) (6 * count + 2) q) (6 * count + 3) a) (6 * count + 4) m) (6 * count + 5) c
-
-  pub added : Added P written count q a m c x y
-  added =
-      let b = 6 * count in
-      let A = set P (b + 0) x in
-      let B = set A (b + 1) y in
-      let C = set B (b + 2) q in
-      let D = set C (b + 3) a in
-      let F = set D (b + 4) m in
-      let la = length-set P (b + 0) x in
-      let lb = length-set A (b + 1) y in
-      let lc = length-set B (b + 2) q in
-      let ld = length-set C (b + 3) a in
-      let lf = length-set D (b + 4) m in
-      let from-f : (k : ℕ) → k < b + 5 → get_or written k 0 ≡ get_or F k 0 = λ k h. get_or-set_other F (b + 5) k c 0 (omega arith) in
-      let from-d : (k : ℕ) → k < b + 4 → get_or written k 0 ≡ get_or D k 0 = λ k h. from-f k (omega arith) ∙ get_or-set_other D (b + 4) k m 0 (omega arith) in
-      let from-c : (k : ℕ) → k < b + 3 → get_or written k 0 ≡ get_or C k 0 = λ k h. from-d k (omega arith) ∙ get_or-set_other C (b + 3) k a 0 (omega arith) in
-      let from-b : (k : ℕ) → k < b + 2 → get_or written k 0 ≡ get_or B k 0 = λ k h. from-c k (omega arith) ∙ get_or-set_other B (b + 2) k q 0 (omega arith) in
-      let from-a : (k : ℕ) → k < b + 1 → get_or written k 0 ≡ get_or A k 0 = λ k h. from-b k (omega arith) ∙ get_or-set_other A (b + 1) k y 0 (omega arith) in
-      record {
-        long = length-set F (b + 5) c ∙ lf ∙ ld ∙ lc ∙ lb ∙ la;
-        keeps = λ k h. from-a k (omega arith) ∙ get_or-set_other P (b + 0) k x 0 (omega arith);
-        entry = record {
-          left = from-a (b + 0) (omega arith) ∙ get_or-set_same P (b + 0) x 0 (omega arith);
-          right = from-b (b + 1) (omega arith) ∙ get_or-set_same A (b + 1) y 0 (omega arith);
-          parent = from-c (b + 2) (omega arith) ∙ get_or-set_same B (b + 2) q 0 (omega arith);
-          symbol = from-d (b + 3) (omega arith) ∙ get_or-set_same C (b + 3) a 0 (omega arith);
-          mark = from-f (b + 4) (omega arith) ∙ get_or-set_same D (b + 4) m 0 (omega arith);
-          child = get_or-set_same F (b + 5) c 0 (omega arith);
-        };
-      }
+pub added : (P : List Pair) (count : ℕ) (r : Pair) → count < length P → Added P (set P count r) count r.parent r.symbol r.mark r.child r.left r.right
+added P count r room =
+    let e : pair_at (set P count r) count ≡ r = get_or-set_same P count r no_pair room in
+    record {
+      long = length-set P count r;
+      keeps = λ p h. get_or-set_other P count p r no_pair (omega arith);
+      entry = record {
+        left = ap (λ (z : Pair). z.left) e;
+        right = ap (λ (z : Pair). z.right) e;
+        parent = ap (λ (z : Pair). z.parent) e;
+        symbol = ap (λ (z : Pair). z.symbol) e;
+        mark = ap (λ (z : Pair). z.mark) e;
+        child = ap (λ (z : Pair). z.child) e;
+      };
+    }
 
 -- ---- one side is joined
 -- the states below x have come into class d, if they were in class c
@@ -56,9 +38,6 @@ pub record JoinLoop (l₀ l : List ℕ) (c d x : ℕ) : Type 0 where
   pub hit : (y : ℕ) → y < x → at l₀ y ≡ c → at l y ≡ d
   pub miss : (y : ℕ) → (y < length l₀ → at l₀ y ≡ c → ⊥) → at l y ≡ at l₀ y
   pub rest : (y : ℕ) → x ≤ y → at l y ≡ at l₀ y
-
-pub join_start : (l : List ℕ) (c d : ℕ) → JoinLoop l l c d 0
-join_start l c d = record { long = refl; hit = λ y h e. absurd (omega arith); miss = λ y h. refl; rest = λ y h. refl }
 
 module _ {l₀ l : List ℕ} {c d x : ℕ} (J : JoinLoop l₀ l c d x) (h : x < length l) where
   pub join_hit : at l x ≡ c → JoinLoop l₀ (set l x d) c d (x + 1)
@@ -175,17 +154,17 @@ module _ {C D C' D' : List ℕ} {c d : ℕ} (few : length C ≤ 128) (J : Joined
 
 -- ---- connected states
 -- pairs stay where the list keeps them
-pub connected_more : {P P' : List ℕ} {count count' : ℕ} {s t : ℕ} → count ≤ count' → ((k : ℕ) → k < 6 * count → get_or P' k 0 ≡ get_or P k 0) → Connected P count s t → Connected P' count' s t
-connected_more {P} {P'} {count} {count'} g k (pair p h) = rw (← k (6 * p + 0) (omega arith), ← k (6 * p + 1) (omega arith)) (pair p (omega arith))
+pub connected_more : {P P' : List Pair} {count count' : ℕ} {s t : ℕ} → count ≤ count' → ((p : ℕ) → p < count → pair_at P' p ≡ pair_at P p) → Connected P count s t → Connected P' count' s t
+connected_more {P} {P'} {count} {count'} g k (pair p h) = let e = k p h in rw (← ap (λ (z : Pair). z.left) e, ← ap (λ (z : Pair). z.right) e) (pair p (omega arith))
 connected_more g k (itself s) = itself s
 connected_more g k (back x) = back (connected_more g k x)
 connected_more g k (onward x y) = onward (connected_more g k x) (connected_more g k y)
 
-connected_equivalence : (P : List ℕ) (count : ℕ) → Equivalence (Connected P count)
+connected_equivalence : (P : List Pair) (count : ℕ) → Equivalence (Connected P count)
 connected_equivalence P count = record { refl = itself; symm = λ x y p. back p; trans = λ x y z p q. onward p q }
 
 -- ---- each state in a class of its own
-module _ (C D P : List ℕ) (few_left : length C ≤ 128) (few_right : length D ≤ 128) (room : 1536 ≤ length P) (own : (x : ℕ) → x < length C → at C x ≡ x) (own' : (y : ℕ) → y < length D → at D y ≡ 128 + y) where
+module _ (C D : List ℕ) (P : List Pair) (few_left : length C ≤ 128) (few_right : length D ≤ 128) (room : 256 ≤ length P) (own : (x : ℕ) → x < length C → at C x ≡ x) (own' : (y : ℕ) → y < length D → at D y ≡ 128 + y) where
   own_class : (e : ℕ) → Member (length C) (length D) e → class_of C D e ≡ e
   own_class e (inl h) = class_left C D e (omega arith) ∙ own e h
   own_class e (inr h) = class_far C D e h.0 ∙ own' (e - 128) (omega (arith, h.0, h.1)) ∙ omega (arith, h.0)
@@ -202,7 +181,7 @@ module _ (C D P : List ℕ) (few_left : length C ≤ 128) (few_right : length D 
   }
 
 -- ---- a pair of states in two classes
-module _ {C D P : List ℕ} {count : ℕ} (M : Merging (table C D P count)) {x y : ℕ} (hx : x < length C) (hy : y < length D) (new : at C x ≡ at D y → ⊥) where
+module _ {C D : List ℕ} {P : List Pair} {count : ℕ} (M : Merging (table C D P count)) {x y : ℕ} (hx : x < length C) (hy : y < length D) (new : at C x ≡ at D y → ⊥) where
   x_state : Member (length C) (length D) x
   x_state = inl hx
 
@@ -225,7 +204,7 @@ module _ {C D P : List ℕ} {count : ℕ} (M : Merging (table C D P count)) {x y
   pub pair_room : count ≤ 254
   pair_room = omega (arith, M.few_roots, roots_two (class_of C D) 256 (at C x) (at D y) left_small (member_small M.few_left M.few_right right_root.0) left_root.1 right_root.1 new)
 
-  module _ {C' D' P' : List ℕ} (J : Joined C C' (at C x) (at D y)) (J' : Joined D D' (at C x) (at D y)) {q a m c : ℕ} (A : Added P P' count q a m c x y) where
+  module _ {C' D' : List ℕ} {P' : List Pair} (J : Joined C C' (at C x) (at D y)) (J' : Joined D D' (at C x) (at D y)) {q a m c : ℕ} (A : Added P P' count q a m c x y) where
     hit : (e : ℕ) → Member (length C) (length D) e → class_of C D e ≡ at C x → class_of C' D' e ≡ at D y
     hit = class_hit M.few_left J J'
 

@@ -23,7 +23,10 @@ use Rattle.formats.proofs.Pairs.{number_less}
 use Rattle.forms.specs.Alphabet.{alphabet, children_inside}
 use Rattle.forms.specs.Inner.Tables.{Layout, machine}
 use Rattle.classes.specs.Inner.Classes.{at}
-use Rattle.pairs.specs.Inner.Pairs.{Sides, Forms, FirstClash, InStep, pair_left, pair_right, pair_parent, pair_symbol, Entry, body_of, left_body, right_body, Linked, Table, table, Merging, Later, JoinsStates, Joinable, Listed, JoinsMarks, Searching, Goes, Alike, Walkable, Walks, WalksPair, WalksAll, Searches, Connected, pair, itself, back, onward}
+use Rattle.pairs.specs.declared.pairs.Pair.{Pair}
+use Rattle.pairs.specs.declared.pairs.Side.{Side}
+use Rattle.pairs.specs.declared.pairs.Side.TheVariants.{Left, Right}
+use Rattle.pairs.specs.Inner.Pairs.{state_of, Sides, Forms, FirstClash, InStep, pair_left, pair_right, pair_parent, pair_symbol, Entry, body_of, left_body, right_body, Linked, Table, table, Later, JoinsStates, Joinable, Listed, JoinsMarks, Searching, Goes, Alike, Walkable, Walks, WalksPair, WalksAll, Searches, Connected, pair, itself, back, onward}
 use Rattle.pairs.specs.declared.pairs.Clash.{Clash}
 use Rattle.std.specs.Prelude.{Option, Some, None, Result, Ok, Err}
 use Rattle.pairs.proofs.Joining.{later_self, class_left, class_right, merging_start}
@@ -43,18 +46,15 @@ later_then L M = record {
 -- a pair stays what it is
 entry_kept : {T T' : Table} → Later T T' → {p q a m c x y : ℕ} → p < T.count → Entry T.list p q a m c x y → Entry T'.list p q a m c x y
 entry_kept L {p = p} h E = record {
-  left = L.keeps (6 * p + 0) (omega arith) ∙ E.left;
-  right = L.keeps (6 * p + 1) (omega arith) ∙ E.right;
-  parent = L.keeps (6 * p + 2) (omega arith) ∙ E.parent;
-  symbol = L.keeps (6 * p + 3) (omega arith) ∙ E.symbol;
-  mark = L.keeps (6 * p + 4) (omega arith) ∙ E.mark;
-  child = L.keeps (6 * p + 5) (omega arith) ∙ E.child;
+  left = ap (λ (z : Pair). z.left) (L.keeps p (omega arith)) ∙ E.left;
+  right = ap (λ (z : Pair). z.right) (L.keeps p (omega arith)) ∙ E.right;
+  parent = ap (λ (z : Pair). z.parent) (L.keeps p (omega arith)) ∙ E.parent;
+  symbol = ap (λ (z : Pair). z.symbol) (L.keeps p (omega arith)) ∙ E.symbol;
+  mark = ap (λ (z : Pair). z.mark) (L.keeps p (omega arith)) ∙ E.mark;
+  child = ap (λ (z : Pair). z.child) (L.keeps p (omega arith)) ∙ E.child;
 }
 
 -- ---- the marks of two bodies in step
-pub joins_none : {T : Table} {bytes bytes' : List ℕ} {i j q a : ℕ} → Merging T → JoinsMarks T T bytes bytes' i j 0 q a
-joins_none {T} M = record { merging = M; later = later_self T; together = λ k h. absurd (omega arith); listed = λ p h g. absurd (omega arith) }
-
 module _ {T₀ T : Table} {bytes bytes' : List ℕ} {i j : ℕ} where
   module _ {k q a : ℕ} (A : JoinsMarks T₀ T bytes bytes' i j k q a) where
     more_listed : {p : ℕ} → Listed T.list p q a bytes bytes' i j k → Listed T.list p q a bytes bytes' i j (k + 1)
@@ -125,26 +125,26 @@ module _ {S : Sides} {T : Table} (F : Searching S T) where
 
 -- ---- the list stays linked
 module _ {T T' : Table} (L : Later T T') where
-  pub body_kept : (ins : List ℕ) (side q a : ℕ) → side ≤ 5 → q ≤ T.count → body_of ins T'.list side q a ≡ body_of ins T.list side q a
+  pub body_kept : (ins : List ℕ) (side : Side) (q a : ℕ) → q ≤ T.count → body_of ins T'.list side q a ≡ body_of ins T.list side q a
   unfolding body_of
-  body_kept ins side ℕ.zero a i h = refl
-  body_kept ins side (suc p) a i h = ap (λ x. body_number ins x a) (L.keeps (6 * p + side) (omega arith))
+  body_kept ins side ℕ.zero a h = refl
+  body_kept ins side (suc p) a h = ap (λ x. body_number ins x a) (ap (λ (z : Pair). state_of z side) (L.keeps p (omega arith)))
 
   linked_kept : {S : Sides} {n n' p : ℕ} → p < T.count → Linked S n n' T.list p → Linked S n n' T'.list p
   linked_kept {S} {n} {n'} {p} h K =
-      let e = L.keeps (6 * p + 0) (omega arith) in
-      let f = L.keeps (6 * p + 1) (omega arith) in
-      let q = L.keeps (6 * p + 2) (omega arith) in
-      let a = L.keeps (6 * p + 3) (omega arith) in
-      let m = L.keeps (6 * p + 4) (omega arith) in
-      let c = L.keeps (6 * p + 5) (omega arith) in
+      let e = ap (λ (z : Pair). z.left) (L.keeps p (omega arith)) in
+      let f = ap (λ (z : Pair). z.right) (L.keeps p (omega arith)) in
+      let q = ap (λ (z : Pair). z.parent) (L.keeps p (omega arith)) in
+      let a = ap (λ (z : Pair). z.symbol) (L.keeps p (omega arith)) in
+      let m = ap (λ (z : Pair). z.mark) (L.keeps p (omega arith)) in
+      let c = ap (λ (z : Pair). z.child) (L.keeps p (omega arith)) in
       let i : pair_parent T.list p ≤ T.count = omega (arith, K.parent) in
       record {
         left = rw e K.left;
         right = rw f K.right;
         parent = rw q K.parent;
         symbol = rw (q, a) K.symbol;
-        calls = rw (q, a, m, c, e, f, body_kept S.ins 0 (pair_parent T.list p) (pair_symbol T.list p) (omega arith) i, body_kept S.ins 1 (pair_parent T.list p) (pair_symbol T.list p) (omega arith) i) K.calls;
+        calls = rw (q, a, m, c, e, f, body_kept S.ins Left (pair_parent T.list p) (pair_symbol T.list p) i, body_kept S.ins Right (pair_parent T.list p) (pair_symbol T.list p) i) K.calls;
       }
 
 -- ---- a walk along two bodies
@@ -214,7 +214,7 @@ module _ {S : Sides} {T : Table} {q a j j' : ℕ} (W : Walkable S T q a j j') wh
       sizes : at S.starts (j + 1) - at S.starts j ≡ at S.starts' (j' + 1) - at S.starts' j'
       sizes = same_size walk_bodies.1.left walk_bodies.1.right (λ k h g. step_on k (omega arith))
 
-      module _ {C D P : List ℕ} {r : ℕ} (A : JoinsMarks T (table C D P r) S.bytes S.bytes' (at S.starts j) (at S.starts' j') n q a) where
+      module _ {C D : List ℕ} {P : List Pair} {r : ℕ} (A : JoinsMarks T (table C D P r) S.bytes S.bytes' (at S.starts j) (at S.starts' j') n q a) where
         -- a new pair is linked
         new_linked : (p : ℕ) → T.count ≤ p → p < r → Linked S lefts rights P p
         new_linked p h g =
@@ -230,7 +230,7 @@ module _ {S : Sides} {T : Table} {q a j j' : ℕ} (W : Walkable S T q a j j') wh
               right = rw F.right t.1;
               parent = omega (arith, F.parent);
               symbol = rw (F.parent, F.symbol) W.known;
-              calls = rw (F.parent, F.symbol, F.mark, F.child, F.left, F.right, body_kept A.later S.ins 0 q a (omega arith) i, body_kept A.later S.ins 1 q a (omega arith) i, W.left, W.right) (record {
+              calls = rw (F.parent, F.symbol, F.mark, F.child, F.left, F.right, body_kept A.later S.ins Left q a i, body_kept A.later S.ins Right q a i, W.left, W.right) (record {
                 agree = record { inside = omega (arith, walk_ordered.0); inside' = omega (arith, walk_ordered.1); step = λ x y. step_on x (omega arith) };
                 left = record { from_one = o; child = refl; state = refl };
                 right = record { from_one = o; child = sym s.first; state = refl };
@@ -277,7 +277,7 @@ AlikeAt S T p a = Alike S T (body_number S.ins (pair_left T.list p) a) (body_num
 
 alike_at_later : {S : Sides} {T T' : Table} → Searching S T → Later T T' → (p a : ℕ) → p < T.count → a < length S.ins → AlikeAt S T p a → AlikeAt S T' p a
 unfolding body_of
-alike_at_later F L p a h g A = rw (L.keeps (6 * p + 0) (omega arith), L.keeps (6 * p + 1) (omega arith)) (alike_later (parent_bodies F (suc p) a (omega arith) (λ o. g)).1 L A)
+alike_at_later F L p a h g A = rw (ap (λ (z : Pair). z.left) (L.keeps p (omega arith)), ap (λ (z : Pair). z.right) (L.keeps p (omega arith))) (alike_later (parent_bodies F (suc p) a (omega arith) (λ o. g)).1 L A)
 
 -- the symbols below a are done
 pub record PairLoop (S : Sides) (T₀ T : Table) (p a : ℕ) : Type 0 where
@@ -288,22 +288,12 @@ pub record PairLoop (S : Sides) (T₀ T : Table) (p a : ℕ) : Type 0 where
 goes_self : {S : Sides} {T : Table} → Searching S T → Goes S T T
 goes_self {T = T} F = record { searching = F; later = later_self T }
 
-pub pair_start : {S : Sides} {T : Table} (p : ℕ) → Searching S T → PairLoop S T T p 0
-pair_start p F = record { small = omega arith; goes = goes_self F; alike = λ b h. absurd (omega arith) }
-
 module _ {S : Sides} {T₀ T : Table} {p a : ℕ} (L : PairLoop S T₀ T p a) (h : p < T₀.count) where
   pub pair_kept : {x y : ℕ} → x ≡ pair_left T₀.list p → y ≡ pair_right T₀.list p → (pair_left T.list p ≡ x) × (pair_right T.list p ≡ y)
-  pair_kept e f = (L.goes.later.keeps (6 * p + 0) (omega arith) ∙ sym e, L.goes.later.keeps (6 * p + 1) (omega arith) ∙ sym f)
+  pair_kept e f = (ap (λ (z : Pair). z.left) (L.goes.later.keeps p (omega arith)) ∙ sym e, ap (λ (z : Pair). z.right) (L.goes.later.keeps p (omega arith)) ∙ sym f)
 
   pair_inside : p < T.count
   pair_inside = omega (arith, L.goes.later.longer)
-
-  -- their numbers are those of bodies
-  pub pair_bodies : a < length S.ins → {x y : ℕ} → x ≡ pair_left T₀.list p → y ≡ pair_right T₀.list p → (body_number S.ins x a < body_count S.ins (length T.left)) × (body_number S.ins y a < body_count S.ins (length T.right))
-  pair_bodies g e f =
-      let k = pair_kept e f in
-      let K = L.goes.searching.linked p pair_inside in
-      (number_less S.ins _ _ a (rw k.0 at K.left) g, number_less S.ins _ _ a (rw k.1 at K.right) g)
 
   pub pair_walkable : a < length S.ins → {x y : ℕ} → x ≡ pair_left T₀.list p → y ≡ pair_right T₀.list p → Walkable S T (p + 1) a (body_number S.ins x a) (body_number S.ins y a)
   unfolding body_of
@@ -318,9 +308,9 @@ module _ {S : Sides} {T₀ T : Table} {p a : ℕ} (L : PairLoop S T₀ T p a) (h
         right = rw (add-one p, k.1);
       }
 
-  module _ {C D P : List ℕ} {x y : ℕ} (e : x ≡ pair_left T₀.list p) (f : y ≡ pair_right T₀.list p) (g : a < length S.ins) {w : Result ℕ Clash} (K : Walks S T C D P (body_number S.ins x a) (body_number S.ins y a) w) where
+  module _ {C D : List ℕ} {P : List Pair} {x y : ℕ} (e : x ≡ pair_left T₀.list p) (f : y ≡ pair_right T₀.list p) (g : a < length S.ins) {w : Result ℕ Clash} (K : Walks S T C D P (body_number S.ins x a) (body_number S.ins y a) w) where
     after_kept : {r : ℕ} → Goes S T (table C D P r) → (pair_left P p ≡ x) × (pair_right P p ≡ y)
-    after_kept G = let k = pair_kept e f in (G.later.keeps (6 * p + 0) (omega (arith, pair_inside)) ∙ k.0, G.later.keeps (6 * p + 1) (omega (arith, pair_inside)) ∙ k.1)
+    after_kept G = let k = pair_kept e f in (ap (λ (z : Pair). z.left) (G.later.keeps p (omega (arith, pair_inside))) ∙ k.0, ap (λ (z : Pair). z.right) (G.later.keeps p (omega (arith, pair_inside))) ∙ k.1)
 
     pub pair_next : (r : ℕ) → w ≡ Ok r → PairLoop S T₀ (table C D P r) p (a + 1)
     pair_next r z =
@@ -332,15 +322,7 @@ module _ {S : Sides} {T₀ T : Table} {p a : ℕ} (L : PairLoop S T₀ T p a) (h
           alike = below_more (λ b. AlikeAt S (table C D P r) p b) a (λ b i. alike_at_later L.goes.searching k.0.later p b pair_inside (omega arith) (L.alike b i)) (rw (q.0, q.1) k.1);
         }
 
-    pub pair_clash : (f : Clash) → w ≡ Err f → WalksPair S T₀ C D P p (Err f)
-    pair_clash f z = record {
-      alike = λ r y. conflict (cc);
-      clash = λ d y.
-          let i : f ≡ d = cc in
-          rw (← i, ← L.goes.later.same_left, ← L.goes.later.same_right) (K.clash f z);
-    }
-
-pub pair_end : {S : Sides} {T₀ : Table} {C D P : List ℕ} {n p a : ℕ} → PairLoop S T₀ (table C D P n) p a → length S.ins ≤ a → WalksPair S T₀ C D P p (Ok n)
+pub pair_end : {S : Sides} {T₀ : Table} {C D : List ℕ} {P : List Pair} {n p a : ℕ} → PairLoop S T₀ (table C D P n) p a → length S.ins ≤ a → WalksPair S T₀ C D P p (Ok n)
 pair_end {n = n} L h = record {
   alike = λ r y. let i : n ≡ r = cc in rw (← i) (L.goes, λ a g. L.alike a (omega arith));
   clash = λ d y. conflict (cc);
@@ -353,10 +335,7 @@ pub record AllLoop (S : Sides) (T₀ T : Table) (p : ℕ) : Type 0 where
   pub goes : Goes S T₀ T
   pub alike : (o : ℕ) → o < p → (a : ℕ) → a < length S.ins → AlikeAt S T o a
 
-pub all_start : {S : Sides} {T : Table} → Searching S T → AllLoop S T T 0
-all_start F = record { done = omega arith; goes = goes_self F; alike = λ o h. absurd (omega arith) }
-
-module _ {S : Sides} {T₀ T : Table} {p : ℕ} (L : AllLoop S T₀ T p) (h : p < T.count) {C D P : List ℕ} {w : Result ℕ Clash} (K : WalksPair S T C D P p w) where
+module _ {S : Sides} {T₀ T : Table} {p : ℕ} (L : AllLoop S T₀ T p) (h : p < T.count) {C D : List ℕ} {P : List Pair} {w : Result ℕ Clash} (K : WalksPair S T C D P p w) where
   pub all_next : (r : ℕ) → w ≡ Ok r → AllLoop S T₀ (table C D P r) (p + 1)
   all_next r z =
       let k = K.alike r z in
@@ -366,15 +345,7 @@ module _ {S : Sides} {T₀ T : Table} {p : ℕ} (L : AllLoop S T₀ T p) (h : p 
         alike = below_more (λ o. (a : ℕ) → a < length S.ins → AlikeAt S (table C D P r) o a) p (λ o i a g. alike_at_later L.goes.searching k.0.later o a (omega arith) g (L.alike o i a g)) k.1;
       }
 
-  pub all_clash : (f : Clash) → w ≡ Err f → WalksAll S T₀ C D P (Err f)
-  all_clash f z = record {
-    alike = λ y. conflict (cc);
-    clash = λ d y.
-        let i : f ≡ d = cc in
-        rw (← i, ← L.goes.later.same_left, ← L.goes.later.same_right) (K.clash f z);
-  }
-
-pub all_end : {S : Sides} {T₀ : Table} {C D P : List ℕ} {n p : ℕ} → AllLoop S T₀ (table C D P n) p → n ≤ p → WalksAll S T₀ C D P (Ok tt)
+pub all_end : {S : Sides} {T₀ : Table} {C D : List ℕ} {P : List Pair} {n p : ℕ} → AllLoop S T₀ (table C D P n) p → n ≤ p → WalksAll S T₀ C D P (Ok tt)
 all_end {n = n} L h = record { alike = λ y. (n, L.goes, λ o i a g. L.alike o (omega arith) a g); clash = λ d y. conflict (cc) }
 
 -- ---- equivalence
@@ -452,7 +423,7 @@ module _ {S : Sides} {T : Table} (F : Searching S T) where
 
 -- ---- the search
 -- it starts with each state in a class of its own
-pub search_start : {S : Sides} {C D P : List ℕ} → Forms S (length C) (length D) → 1536 ≤ length P → ((x : ℕ) → x < length C → at C x ≡ x) → ((y : ℕ) → y < length D → at D y ≡ 128 + y) → Walkable S (table C D P 0) 0 0 0 0
+pub search_start : {S : Sides} {C D : List ℕ} {P : List Pair} → Forms S (length C) (length D) → 256 ≤ length P → ((x : ℕ) → x < length C → at C x ≡ x) → ((y : ℕ) → y < length D → at D y ≡ 128 + y) → Walkable S (table C D P 0) 0 0 0 0
 unfolding body_of
 search_start {C = C} {D} {P} F room own own' = record {
   searching = record { forms = F; merging = merging_start C D P F.left.few_states F.right.few_states room own own'; linked = λ p h. absurd (omega arith) };
@@ -463,7 +434,7 @@ search_start {C = C} {D} {P} F room own own' = record {
   right = refl;
 }
 
-module _ {S : Sides} {T : Table} {C D P : List ℕ} {w : Result ℕ Clash} (K : Walks S T C D P 0 0 w) {n n' : ℕ} where
+module _ {S : Sides} {T : Table} {C D : List ℕ} {P : List Pair} {w : Result ℕ Clash} (K : Walks S T C D P 0 0 w) {n n' : ℕ} where
   -- the initial terms clash
   pub search_clash : length T.left ≡ n → length T.right ≡ n' → (f : Clash) → w ≡ Err f → Searches S n n' P (Err f)
   search_clash g h f z = record {
@@ -474,7 +445,7 @@ module _ {S : Sides} {T : Table} {C D P : List ℕ} {w : Result ℕ Clash} (K : 
   }
 
   -- the listed pairs are walked
-  pub search_end : (r : ℕ) → w ≡ Ok r → {C' D' P' : List ℕ} {v : Result (Unit {0}) Clash} → WalksAll S (table C D P r) C' D' P' v → length C' ≡ n → length D' ≡ n' → length C ≡ n → length D ≡ n' → Searches S n n' P' v
+  pub search_end : (r : ℕ) → w ≡ Ok r → {C' D' : List ℕ} {P' : List Pair} {v : Result (Unit {0}) Clash} → WalksAll S (table C D P r) C' D' P' v → length C' ≡ n → length D' ≡ n' → length C ≡ n → length D ≡ n' → Searches S n n' P' v
   unfolding body_of
   search_end r z {C'} {D'} {P'} A e f g h =
       let k = K.alike r z in

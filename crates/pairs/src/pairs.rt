@@ -1,24 +1,49 @@
 // The pair search of Hopcroft and Karp: states of two transducers are joined into classes, pair by pair, until all right-hand sides
 // agree up to classes, or two of them clash.
 ghost use Rattle.std.specs.Prelude.{ℕ, ◌+◌, ◌*◌, ◌≤◌, ◌<◌, ◌≡◌, length, get_or};
-ghost use Rattle.pairs.specs.Inner.Pairs.{sides, table, pair_byte, Forms, FirstClash, Joined, Added, Merging, JoinsStates, Joinable, JoinsMarks, Searching, Walkable, Walks, WalksPair, WalksAll, Searches};
+ghost use Rattle.pairs.specs.Inner.Pairs.{sides, sides_of, table, state_of, Forms, FirstClash, Joined, Merging, JoinsStates, Joinable, JoinsMarks, Searching, Walkable, Walks, WalksPair, WalksAll, Searches};
 
-// A pair in the list has six bytes: its two states, its parent, the symbol and the mark at which it was found, and the child called there.
-pub const PAIR: usize = 6;
+// A transducer in tables: where its bodies start, their marks, and how many states it has.
+#[derive(Clone, Copy)]
+pub struct Tables<'a> {
+    pub starts: &'a [u16],
+    pub marks: &'a [u8],
+    pub states: usize,
+}
 
-pub const LEFT: usize = 0;
+// One of the two transducers.
+#[derive(Clone, Copy, Debug, PartialEq, Eq)]
+pub enum Side {
+    Left,
+    Right,
+}
 
-pub const RIGHT: usize = 1;
+// Two states that are joined; their parent (0: the initial terms; p + 1: pair p), the symbol and the mark at which they were found, and the child called there.
+// Bytes, since the list is a fixed array: nothing is allocated.
+#[derive(Clone, Copy, Debug, Default, PartialEq, Eq)]
+pub struct Pair {
+    pub left: u8,
+    pub right: u8,
+    pub parent: u8,
+    pub symbol: u8,
+    pub mark: u8,
+    pub child: u8,
+}
 
-pub const PARENT: usize = 2;
+impl Pair {
+    // Its state on one side.
+    pub fn state(self, side: Side) -> u8
+        ensures { result ≡ state_of self side }
+    {
+        match side {
+            Side::Left => self.left,
+            Side::Right => self.right,
+        }
+    }
+}
 
-pub const SYMBOL: usize = 3;
-
-pub const MARK: usize = 4;
-
-pub const CHILD: usize = 5;
-
-// Two bodies that clash: those of a parent (0: the initial terms; p + 1: pair p) for a symbol, at a mark.
+// Two bodies that clash: those of a parent for a symbol, at a mark.
+// Stays: 0 for the initial terms as a parent, p + 1 for pair p, since the bytes of a pair say it so.
 #[derive(Clone, Copy, Debug, PartialEq, Eq)]
 pub struct Clash {
     pub parent: usize,
@@ -47,58 +72,24 @@ fn join(classes: &mut [u8], c: u8, d: u8)
     }
 }
 
-// Lists the pair number `count`.
-fn add_pair(
-    pairs: &mut [u8; 1536],
-    count: usize,
-    parent: usize,
-    a: usize,
-    m: usize,
-    child: u8,
-    left: u8,
-    right: u8,
-)
-    requires { (count ≤ 255) × (1536 ≤ length pairs.old) × (parent < 256) × (a < 256) × (m < 256) }
-    ensures { Added pairs.old pairs.new count parent a m child left right }
-{
-    pairs[PAIR * count + LEFT] = left;
-    pairs[PAIR * count + RIGHT] = right;
-    pairs[PAIR * count + PARENT] = parent as u8;
-    pairs[PAIR * count + SYMBOL] = a as u8;
-    pairs[PAIR * count + MARK] = m as u8;
-    pairs[PAIR * count + CHILD] = child;
-}
-
-// Byte k of pair p.
-pub fn pair_byte(pairs: &[u8; 1536], p: usize, k: usize) -> usize
-    requires { (p < 256) × (k < 6) }
-    ensures { result ≡ pair_byte pairs.now k p }
-{
-    usize::from(pairs[PAIR * p + k])
-}
-
-// Joins the classes of x and y, if they are two, and lists the pair.
+// Joins the classes of the pair's states, if they are two, and lists it.
+// Stays: classes, pairs and count side by side here and below. They are lent by the caller, and each contract with a struct of `&mut` has to speak of its borrows.
 fn join_states(
     classes1: &mut [u8],
     classes2: &mut [u8],
-    pairs: &mut [u8; 1536],
+    pairs: &mut [Pair; 256],
     count: usize,
-    parent: usize,
-    a: usize,
-    m: usize,
-    child: u8,
-    x: u8,
-    y: u8,
+    pair: Pair,
 ) -> usize
-    requires { Merging (table classes1.old classes2.old pairs.old count) × (x < length classes1.old) × (y < length classes2.old) × (parent < 256) × (a < 256) × (m < 256) }
-    ensures { JoinsStates (table classes1.old classes2.old pairs.old count) (table classes1.new classes2.new pairs.new result) parent a m child x y }
+    requires { Merging (table classes1.old classes2.old pairs.old count) × (pair.left < length classes1.old) × (pair.right < length classes2.old) }
+    ensures { JoinsStates (table classes1.old classes2.old pairs.old count) (table classes1.new classes2.new pairs.new result) pair.parent pair.symbol pair.mark pair.child pair.left pair.right }
 {
-    let c = classes1[usize::from(x)];
-    let d = classes2[usize::from(y)];
+    let c = classes1[usize::from(pair.left)];
+    let d = classes2[usize::from(pair.right)];
     if c == d {
         return count;
     }
-    add_pair(pairs, count, parent, a, m, child, x, y);
+    pairs[count] = pair;
     join(classes1, c, d);
     join(classes2, c, d);
     count + 1
@@ -130,7 +121,7 @@ fn join_marks(
     n: usize,
     classes1: &mut [u8],
     classes2: &mut [u8],
-    pairs: &mut [u8; 1536],
+    pairs: &mut [Pair; 256],
     count: usize,
     parent: usize,
     a: usize,
@@ -142,9 +133,15 @@ fn join_marks(
     for k in 0..n {
         let c = marks1[2 * (i + k)];
         if c > 0 {
-            let x = marks1[2 * (i + k) + 1];
-            let y = marks2[2 * (j + k) + 1];
-            r = join_states(classes1, classes2, pairs, r, parent, a, k, c, x, y);
+            let pair = Pair {
+                left: marks1[2 * (i + k) + 1],
+                right: marks2[2 * (j + k) + 1],
+                parent: parent as u8,
+                symbol: a as u8,
+                mark: k as u8,
+                child: c,
+            };
+            r = join_states(classes1, classes2, pairs, r, pair);
         }
     }
     r
@@ -153,27 +150,25 @@ fn join_marks(
 // Walks body i of the first and body j of the second, those of a parent for symbol a.
 fn walk_pair(
     ins: &[u8],
-    starts1: &[u16],
-    marks1: &[u8],
+    left: Tables,
     i: usize,
-    starts2: &[u16],
-    marks2: &[u8],
+    right: Tables,
     j: usize,
     classes1: &mut [u8],
     classes2: &mut [u8],
-    pairs: &mut [u8; 1536],
+    pairs: &mut [Pair; 256],
     count: usize,
     parent: usize,
     a: usize,
 ) -> Result<usize, Clash>
-    requires { Walkable (sides ins.now starts1.now marks1.now starts2.now marks2.now) (table classes1.old classes2.old pairs.old count) parent a i j }
-    ensures { Walks (sides ins.now starts1.now marks1.now starts2.now marks2.now) (table classes1.old classes2.old pairs.old count) classes1.new classes2.new pairs.new i j result }
+    requires { Walkable (sides_of ins.now left right) (table classes1.old classes2.old pairs.old count) parent a i j }
+    ensures { Walks (sides_of ins.now left.entry right.entry) (table classes1.old classes2.old pairs.old count) classes1.new classes2.new pairs.new i j result }
 {
-    let from = usize::from(starts1[i]);
-    let other = usize::from(starts2[j]);
-    let size = usize::from(starts1[i + 1]) - from;
-    let n = size.min(usize::from(starts2[j + 1]) - other);
-    let clash = first_clash(marks1, from, marks2, other, n);
+    let from = usize::from(left.starts[i]);
+    let other = usize::from(right.starts[j]);
+    let size = usize::from(left.starts[i + 1]) - from;
+    let n = size.min(usize::from(right.starts[j + 1]) - other);
+    let clash = first_clash(left.marks, from, right.marks, other, n);
     match clash {
         Some(mark) => Err(Clash {
             parent,
@@ -182,7 +177,17 @@ fn walk_pair(
         }),
         None => {
             let r = join_marks(
-                marks1, from, marks2, other, n, classes1, classes2, pairs, count, parent, a,
+                left.marks,
+                from,
+                right.marks,
+                other,
+                n,
+                classes1,
+                classes2,
+                pairs,
+                count,
+                parent,
+                a,
             );
             Ok(r)
         }
@@ -192,32 +197,28 @@ fn walk_pair(
 // Walks the right-hand sides of pair p, symbol by symbol.
 fn walk_symbols(
     ins: &[u8],
-    starts1: &[u16],
-    marks1: &[u8],
-    starts2: &[u16],
-    marks2: &[u8],
+    left: Tables,
+    right: Tables,
     classes1: &mut [u8],
     classes2: &mut [u8],
-    pairs: &mut [u8; 1536],
+    pairs: &mut [Pair; 256],
     count: usize,
     p: usize,
 ) -> Result<usize, Clash>
-    requires { Searching (sides ins.now starts1.now marks1.now starts2.now marks2.now) (table classes1.old classes2.old pairs.old count) × (p < count) }
-    ensures { WalksPair (sides ins.now starts1.now marks1.now starts2.now marks2.now) (table classes1.old classes2.old pairs.old count) classes1.new classes2.new pairs.new p result }
+    requires { Searching (sides_of ins.now left right) (table classes1.old classes2.old pairs.old count) × (p < count) }
+    ensures { WalksPair (sides_of ins.now left.entry right.entry) (table classes1.old classes2.old pairs.old count) classes1.new classes2.new pairs.new p result }
 {
-    let x = usize::from(pairs[PAIR * p + LEFT]);
-    let y = usize::from(pairs[PAIR * p + RIGHT]);
+    let x = usize::from(pairs[p].left);
+    let y = usize::from(pairs[p].right);
     let mut n = count;
     for a in 0..ins.len() {
         let i = 1 + x * ins.len() + a;
         let j = 1 + y * ins.len() + a;
         n = walk_pair(
             ins,
-            starts1,
-            marks1,
+            left,
             i,
-            starts2,
-            marks2,
+            right,
             j,
             classes1,
             classes2,
@@ -233,25 +234,21 @@ fn walk_symbols(
 // Walks the right-hand sides of the listed pairs, from the first on.
 fn walk_pairs(
     ins: &[u8],
-    starts1: &[u16],
-    marks1: &[u8],
-    starts2: &[u16],
-    marks2: &[u8],
+    left: Tables,
+    right: Tables,
     classes1: &mut [u8],
     classes2: &mut [u8],
-    pairs: &mut [u8; 1536],
+    pairs: &mut [Pair; 256],
     count: usize,
 ) -> Result<(), Clash>
-    requires { Searching (sides ins.now starts1.now marks1.now starts2.now marks2.now) (table classes1.old classes2.old pairs.old count) }
-    ensures { WalksAll (sides ins.now starts1.now marks1.now starts2.now marks2.now) (table classes1.old classes2.old pairs.old count) classes1.new classes2.new pairs.new result }
+    requires { Searching (sides_of ins.now left right) (table classes1.old classes2.old pairs.old count) }
+    ensures { WalksAll (sides_of ins.now left.entry right.entry) (table classes1.old classes2.old pairs.old count) classes1.new classes2.new pairs.new result }
 {
     let mut n = count;
     let mut p = 0;
     // Stays `while`: walking a pair lists more pairs.
     while p < n {
-        n = walk_symbols(
-            ins, starts1, marks1, starts2, marks2, classes1, classes2, pairs, n, p,
-        )?;
+        n = walk_symbols(ins, left, right, classes1, classes2, pairs, n, p)?;
         p += 1;
     }
     Ok(())
@@ -266,17 +263,23 @@ pub fn search(
     marks2: &[u8],
     classes1: &mut [u8],
     classes2: &mut [u8],
-    pairs: &mut [u8; 1536],
+    pairs: &mut [Pair; 256],
 ) -> Result<(), Clash>
-    requires { Forms (sides ins.now starts1.now marks1.now starts2.now marks2.now) (length classes1.old) (length classes2.old) × (1536 ≤ length pairs.old) }
+    requires { Forms (sides ins.now starts1.now marks1.now starts2.now marks2.now) (length classes1.old) (length classes2.old) × (256 ≤ length pairs.old) }
     ensures { Searches (sides ins.now starts1.now marks1.now starts2.now marks2.now) (length classes1.old) (length classes2.old) pairs.new result }
 {
     start_classes(classes1, 0);
     start_classes(classes2, 128);
-    let n = walk_pair(
-        ins, starts1, marks1, 0, starts2, marks2, 0, classes1, classes2, pairs, 0, 0, 0,
-    )?;
-    walk_pairs(
-        ins, starts1, marks1, starts2, marks2, classes1, classes2, pairs, n,
-    )
+    let left = Tables {
+        starts: starts1,
+        marks: marks1,
+        states: classes1.len(),
+    };
+    let right = Tables {
+        starts: starts2,
+        marks: marks2,
+        states: classes2.len(),
+    };
+    let n = walk_pair(ins, left, 0, right, 0, classes1, classes2, pairs, 0, 0, 0)?;
+    walk_pairs(ins, left, right, classes1, classes2, pairs, n)
 }

@@ -258,9 +258,6 @@ pub record Grafting (heads sizes bytes : List ℕ) (from to : ℕ) (area₀ area
   pub same : length area ≡ length area₀
   pub so_far : take w area ++ grafted heads sizes bytes j to ≡ grafted heads sizes bytes from to
 
-pub graft_start : {heads sizes bytes area : List ℕ} {from to : ℕ} → Graftable heads sizes bytes from to area → Grafting heads sizes bytes from to area area 0 from
-graft_start G = record { first = omega arith; last = G.ordered; short = omega arith; same = refl; so_far = refl }
-
 -- a word written behind the first w bytes: they stay, and it stands behind them
 take_word : (area word : List ℕ) (w : ℕ) → w + length word ≤ length area → take (w + length word) (sets area w word) ≡ take w area ++ word
 take_word area word w fits =

@@ -160,10 +160,6 @@ top_kept {outs = outs} {heads = heads} {sizes} B leaf q state e =
     let t : head_of outs heads sizes q ≡ var tt = head_top B.table B.layout.few_symbols q state e in
     record { table = B.table; cuts = no_cut _; fixed = λ z a h n. rw t }
 
--- bodies, with another table of the same length
-pub other_table : {ins outs starts bytes heads₀ sizes₀ other₀ : List ℕ} → Bodies ins outs starts bytes heads₀ sizes₀ other₀ → {heads sizes other : List ℕ} → Heads outs heads sizes → length sizes ≡ length sizes₀ → length other ≡ length other₀ → Bodies ins outs starts bytes heads sizes other
-other_table B T e f = record { table = T; layout = rw e B.layout; room = omega (arith, B.room) }
-
 -- ---- the loop over the right-hand sides of q: those before a are passed
 pub record StateLoop (ins outs starts bytes : List ℕ) (leaf q : ℕ) (p₀ : Patterns) (other₀ : List ℕ) (p : Patterns) (other : List ℕ) (any : Bool) (a : ℕ) : Type 0 where
   pub inside : a ≤ length ins
@@ -178,9 +174,6 @@ state_start leaf q T = record { inside = omega arith; table = T; stays = stays_s
 
 module _ {ins outs starts bytes other₀ : List ℕ} {p₀ : Patterns} (B : Bodies ins outs starts bytes p₀.heads.now p₀.sizes.now other₀) {leaf q : ℕ}
     {p : Patterns} {other : List ℕ} {any : Bool} {a : ℕ} (L : StateLoop ins outs starts bytes leaf q p₀ other₀ p other any a) where
-  pub state_bodies : Bodies ins outs starts bytes p.heads.now p.sizes.now other
-  state_bodies = other_table B L.table L.stays.long_sizes L.same_other
-
   module _ (there : a < length ins) {p' : Patterns} {b : Bool} (C : CutRhs ins outs starts bytes leaf q a p.heads.now p.sizes.now p'.heads.now p'.sizes.now b) (s : Stays p p') where
     rhs_here : Cuts ins (machine ins outs starts bytes (length p₀.sizes.now)) (length p₀.sizes.now) (head_of outs p.heads.now p.sizes.now) (head_of outs p'.heads.now p'.sizes.now) b
     rhs_here = rw (← L.stays.long_sizes) C.cuts
@@ -212,9 +205,6 @@ sweep_start leaf T = record { inside = omega arith; table = T; stays = stays_sel
 
 module _ {ins outs starts bytes other₀ : List ℕ} {p₀ : Patterns} (B : Bodies ins outs starts bytes p₀.heads.now p₀.sizes.now other₀) {leaf : ℕ}
     {p : Patterns} {other : List ℕ} {any : Bool} {k : ℕ} (L : SweepLoop ins outs starts bytes leaf p₀ other₀ p other any k) where
-  pub sweep_bodies : Bodies ins outs starts bytes p.heads.now p.sizes.now other
-  sweep_bodies = other_table B L.table L.stays.long_sizes L.same_other
-
   module _ (some : 0 < k) {p' : Patterns} {b : Bool} (C : CutState ins outs starts bytes leaf (k - 1) p.heads.now p.sizes.now p'.heads.now p'.sizes.now b) (s : Stays p p') where
     cuts_here : Cuts ins (machine ins outs starts bytes (length p₀.sizes.now)) (length p₀.sizes.now) (head_of outs p.heads.now p.sizes.now) (head_of outs p'.heads.now p'.sizes.now) b
     cuts_here = rw (← L.stays.long_sizes) C.cuts
@@ -237,7 +227,7 @@ module _ {ins outs starts bytes other₀ : List ℕ} {p₀ : Patterns} (B : Bodi
 abbrev pub ahead : List ℕ → List ℕ → List ℕ → ℕ → ℕ → ℕ
 ahead outs heads sizes n flags = 2 ^ 129 * total (head_of outs heads sizes) n + flags
 
--- the table was cut, and no area has another length
+-- the loops of `follow` and `settle`: the table was cut, and stays where it is
 pub record FollowLoop (ins outs starts bytes : List ℕ) (p₀ : Patterns) (other₀ : List ℕ) (p : Patterns) (other : List ℕ) : Type 0 where
   pub stays : Stays p₀ p
   pub same_other : length other ≡ length other₀
@@ -251,9 +241,6 @@ module _ {ins outs starts bytes other₀ : List ℕ} {p₀ : Patterns} (B : Bodi
   cuts_on : {h' : ℕ → Pattern} {b : Bool} → Cuts ins (machine ins outs starts bytes (length p.sizes.now)) (length p.sizes.now) (head_of outs p.heads.now p.sizes.now) h' b → Cuts ins (machine ins outs starts bytes (length p₀.sizes.now)) (length p₀.sizes.now) (head_of outs p.heads.now p.sizes.now) h' b
   cuts_on C = rw (← L.stays.long_sizes) C
 
-  pub follow_bodies : Bodies ins outs starts bytes p.heads.now p.sizes.now other
-  follow_bodies = other_table B L.followed.table L.stays.long_sizes L.same_other
-
   module _ {p' : Patterns} {b : Bool} (C : Cuts ins (machine ins outs starts bytes (length p.sizes.now)) (length p.sizes.now) (head_of outs p.heads.now p.sizes.now) (head_of outs p'.heads.now p'.sizes.now) b) where
     -- more cuts
     pub follow_next : Heads outs p'.heads.now p'.sizes.now → Stays p p' → {other' : List ℕ} → length other' ≡ length other → FollowLoop ins outs starts bytes p₀ other₀ p' other'
@@ -266,9 +253,6 @@ module _ {ins outs starts bytes other₀ : List ℕ} {p₀ : Patterns} (B : Bodi
   module _ {leaf q : ℕ} {p' : Patterns} {b : Bool} (C : CutState ins outs starts bytes leaf q p.heads.now p.sizes.now p'.heads.now p'.sizes.now b) (s : Stays p p') where
     pub less_cut : (k : ℕ) {k' : ℕ} → b ≡ true → k' < 2 ^ 129 → ahead outs p'.heads.now p'.sizes.now (length p₀.sizes.now) k' < ahead outs p.heads.now p.sizes.now (length p₀.sizes.now) k
     less_cut k e h = omega (arith, (cuts_on C.cuts).less e)
-
-    pub less_none : {k k' : ℕ} → b ≡ false → k' < k → ahead outs p'.heads.now p'.sizes.now (length p₀.sizes.now) k' < ahead outs p.heads.now p.sizes.now (length p₀.sizes.now) k
-    less_none e h = omega (arith, ap (λ k. total k (length p₀.sizes.now)) (same_patterns (cuts_on C.cuts) e))
 
 module _ {ins outs starts bytes other₀ : List ℕ} {p₀ : Patterns} (B : Bodies ins outs starts bytes p₀.heads.now p₀.sizes.now other₀)
     {p : Patterns} {other : List ℕ} (L : FollowLoop ins outs starts bytes p₀ other₀ p other) where

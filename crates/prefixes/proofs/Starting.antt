@@ -24,7 +24,7 @@ use Rattle.transducer.proofs.Meaning.{body_read}
 use Rattle.forms.specs.Alphabet.{alphabet}
 use Rattle.prefixes.specs.Inner.Patterns.{top, pattern_code, IsPattern, read_pattern, head_at}
 use Rattle.prefixes.specs.declared.pattern.Patterns.{Patterns}
-use Rattle.prefixes.proofs.Settling.{stays_self, stays_more}
+use Rattle.prefixes.proofs.Settling.{stays_more}
 use Rattle.prefixes.specs.Inner.Heads.{Stays, head_of, Bodies, AllAbove, UnderLeaf, Settled, names, Startable, Started, AllStartable, AllStarted, Prefixable, Prefixes}
 use Rattle.forms.specs.Inner.Tables.{machine, Layout}
 use Rattle.forms.proofs.Slices.{slice_from}
@@ -106,9 +106,6 @@ pub record StartLoop (ins starts bytes : List ℕ) (leaf : ℕ) (p₀ p : Patter
   pub inside : q ≤ length p₀.sizes.now
   pub stays : Stays p₀ p
   pub passed : (r : ℕ) → r < q → Stands ins starts bytes leaf p.heads.now p.sizes.now r
-
-pub start_none : {ins starts bytes : List ℕ} {leaf : ℕ} {p : Patterns} → StartLoop ins starts bytes leaf p p 0
-start_none = record { inside = omega arith; stays = stays_self _; passed = λ r h. absurd (omega arith) }
 
 -- one state: its names have room
 pub start_fits : {bytes : List ℕ} {from to : ℕ} {heads sizes : List ℕ} {q : ℕ} → Startable bytes from to heads sizes q → 64 * q + length (names bytes from to) ≤ length heads

@@ -16,7 +16,7 @@ fn pattern_end(outs: &[u8], s: &[u8], at: usize) -> usize
 {
     let mut owed = 1;
     let mut p = at;
-    // Stays a `while`: it ends where nothing is owed any more, not after a count.
+    // Stays: a `while`, which ends where nothing is owed any more, not after a count.
     while owed > 0 {
         let x = usize::from(s[p]);
         if x < outs.len() {
@@ -37,7 +37,7 @@ pub(crate) fn cut_pattern(outs: &[u8], x: &mut [u8], y: &[u8]) -> Option<usize>
     let mut j = 0;
     let mut w = 0;
     let mut cut = false;
-    // Stays a `while`: a pattern that differs is passed as a whole.
+    // Stays: a `while`, which passes a pattern that differs as a whole.
     while i < x.len() {
         let k = x[i];
         if k == y[j] {

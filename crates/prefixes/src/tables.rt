@@ -4,7 +4,7 @@ ghost use Rattle.formats.specs.Inner.Layout.{body_number};
 
 use trees::bytes::Span;
 
-// The ranks of its symbols, where its right-hand sides start, and their marks; and the leaf that its states have their first patterns of.
+// The ranks of its symbols, where its right-hand sides start, and their marks; and the leaf whose right-hand sides are the first patterns.
 #[derive(Clone, Copy)]
 pub(crate) struct Tables<'a> {
     pub ins: &'a [u8],

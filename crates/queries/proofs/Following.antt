@@ -1,6 +1,7 @@
 -- Laws of following an address through the output, which is never built.
 -- Assumes nothing.
 use Rattle.std.specs.Prelude.{Err, None, Ok, Option, Result, Some}
+use Rattle.std.specs.Option.{is_some}
 use Rattle.trees.specs.declared.refusal.Refusal.{Refusal}
 use Rattle.trees.specs.Refusal.{outcome_of, accepted, Holds}
 use Prim.Native.Nat.{ℕ, suc, ◌+◌, ◌-◌, ◌*◌, ◌≤◌, ◌<◌}
@@ -323,6 +324,11 @@ module _ {ins outs : List ℕ} {n : ℕ} {starts bytes s ends : List ℕ} (S : F
         }
 
 -- ---- from one term of marks to the next
+-- an answer that is not None is there
+pub some_there : {A : Type 0} {o : Option A} → (o ≡ None → ⊥) → is_some o ≡ true
+some_there {o = None} h = absurd (h refl)
+some_there {o = Some x} h = refl
+
 -- behind the first of the terms there is one less to pass
 pub next_mark : (f : Mark → Letter (ℕ × ℕ)) (L : List Mark) (room p left e l : ℕ) → 0 < left → left < count (forest f (drop p L)) → measured room p (forest f (drop p L)) ≡ some_extent e l
     → (left - 1 < count (forest f (drop e L))) × (rests (left - 1) (forest f (drop e L)) ≡ rests left (forest f (drop p L)))

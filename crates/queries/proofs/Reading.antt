@@ -7,7 +7,7 @@ use native.Mathlib.Numerals.{add-one}
 use native.Mathlib.Omega.{arith}
 use mathlib.Core.Bool.{true, false}
 use mathlib.Core.List.{List, []}
-use mathlib.Core.Logic.{inl, inr}
+use mathlib.Core.Logic.{inr}
 use mathlib.Core.Option.{some}
 use mathlib.Core.Path.{◌≡◌, sym, ap, ap₂, ◌∙◌}
 use lib.ListN.{length, get_or, get_elem?}
@@ -87,9 +87,6 @@ module _ {P : ℕ} {start : ℕ → ℕ} {bytes : List ℕ} where
   module _ {list place : List ℕ} {r : Option ℕ} (R : Reads (NotOnce start bytes 0 1) (ReadBodies start bytes 0 [] 1) list place r) where
     pub initial_read : {n : ℕ} → r ≡ Some n → StatesPassed P start bytes n 0 list place
     initial_read {n} x = record { read = read_initial (R.read n x); queue = R.queue n x }
-
-    pub initial_stop : r ≡ None → ReadsTable P start bytes false
-    initial_stop x = record { yes = λ e. conflict (cc); no = λ e. inl (R.stop x) }
 
   module _ {list place : List ℕ} {n p : ℕ} (T : StatesPassed P start bytes n p list place) where
     -- the bodies of the next state, which is q

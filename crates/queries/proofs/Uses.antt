@@ -8,7 +8,7 @@ use mathlib.Core.Bool.{Bool, true, false}
 use mathlib.Core.List.{List, [], ◌∷◌}
 use mathlib.Core.Path.{◌≡◌, refl, sym, ap, ◌∙◌}
 use lib.Dec.{eqb}
-use lib.ListN.{length, get_or, set, replicate, take, length-set, drop_of_length-le}
+use lib.ListN.{length, get_or, set, take, length-set, drop_of_length-le}
 use lib.Seq.{length-take-le, get_or-set_same, get_or-set_other}
 use borrow.Author.Tests.{eq-eqb, ne_eqb}
 use Rattle.theory.specs.Inner.ReadCalls.{ReadCalls, no_call, one_call}
@@ -60,15 +60,6 @@ pub record Passed (bytes : List ℕ) (from to : ℕ) (L : List ℕ) (seen : List
 pub at_most_one : (b : Bool) → one_if b ≤ 1
 at_most_one true = omega arith
 at_most_one false = omega arith
-
--- no flag is set at first
-none_seen : (n k : ℕ) → get_or (replicate n false) k false ≡ false
-none_seen ℕ.zero k = refl
-none_seen (suc n) ℕ.zero = refl
-none_seen (suc n) (suc k) = none_seen n k
-
-pub pass_none : {bytes list place : List ℕ} {from to n : ℕ} → Queue list place n → length place ≤ 128 → Low (length place) (part bytes from to) → Passed bytes from to (met_of list n) (replicate 5 false) n from list place
-pass_none Q h l = record { five = refl; flags = λ k p. omega (arith, ap one_if (none_seen 5 k)); low = l; few = h; queue = Q; rest = λ L' R. R }
 
 module _ {bytes list place L : List ℕ} {from to n j : ℕ} {seen : List Bool} (W : Passed bytes from to L seen n j list place) where
   -- a state more can be entered

@@ -1,4 +1,4 @@
--- What the linear test and the reader of one symbol answer: for each enum the values and numbers of document 01, and the promise about it.
+-- What the linear test and the reader of one symbol promise of their answers.
 use Rattle.std.specs.Prelude.{None, Option, Result, Some, ℕ, Bool, List, ◌≡◌}
 use Rattle.trees.specs.declared.refusal.Refusal.{Refusal}
 use Rattle.trees.specs.Refusal.{outcome_of, done, Judged, Decides}

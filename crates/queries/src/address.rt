@@ -15,7 +15,6 @@ use formats::bodies::{fill_starts, measure_marks};
 use formats::file::{counts_end, read_transducer};
 use transducer::children::{fill_ends, skip};
 use trees::alphabet::{input_ranks, output_ranks};
-use trees::bytes::{number, wide};
 use trees::refusal::Refusal;
 use trees::tree::measure_all;
 
@@ -33,17 +32,8 @@ fn skip_marks(
     ensures { forest (mark_of outs.now n r) (part marks.now result to) ≡ rests c (forest (mark_of outs.now n r) (part marks.now at to)) }
 {
     let mut p = at;
-    let mut left = c;
-    while left > 0 {
-        match measure_marks(outs, n, r, marks, p, to, to - p) {
-            Some(term) => {
-                p = term.end;
-                left -= 1;
-            }
-            None => {
-                return p;
-            }
-        }
+    for _ in 0..c {
+        p = measure_marks(outs, n, r, marks, p, to, to - p).unwrap().end;
     }
     p
 }
@@ -62,31 +52,32 @@ fn follow(
     requires { Followed ins.now outs.now n starts.now marks.now s.now ends.now }
     ensures { result ≡ placed (symbol_at (translate (transducer ins.now outs.now n (λ j. get_or starts.now j 0) marks.now) (tree ins.now s.now)) v.now) }
 {
-    let mut j = number(starts[0]);
-    let mut to = number(starts[1]);
+    let mut j = usize::from(starts[0]);
+    let mut to = usize::from(starts[1]);
     let mut r = 1;
     let mut below = 0;
     let mut k = 0;
+    // A call goes to the mark of another body, and an address may end early: no count says how far.
     loop {
-        let i = wide(marks[2 * j]);
-        let x = wide(marks[2 * j + 1]);
+        let i = usize::from(marks[2 * j]);
+        let x = usize::from(marks[2 * j + 1]);
         if i > 0 {
             let p = skip(ends, below, i - 1);
-            let a = wide(s[p]);
+            let a = usize::from(s[p]);
             let b = 1 + x * ins.len() + a;
-            j = number(starts[b]);
-            to = number(starts[b + 1]);
-            r = wide(ins[a]);
+            j = usize::from(starts[b]);
+            to = usize::from(starts[b + 1]);
+            r = usize::from(ins[a]);
             below = p + 1;
         } else {
             if k >= v.len() {
                 return Ok(Some(x));
             }
-            let c = wide(v[k]);
+            let c = usize::from(v[k]);
             if c == 0 {
                 return Ok(None);
             }
-            if c > wide(outs[x]) {
+            if c > usize::from(outs[x]) {
                 return Ok(None);
             }
             j = skip_marks(outs, n, r, marks, j + 1, to, c - 1);
@@ -96,7 +87,14 @@ fn follow(
 }
 
 // Follows the address through the output of the transducer whose n, counts and marks these are.
-fn symbol_by(stock: &[u8], n: usize, counts: &[u8], marks: &[u8], s: &[u8], address: &[u8]) -> Result<Option<usize>, Refusal>
+fn symbol_by(
+    stock: &[u8],
+    n: usize,
+    counts: &[u8],
+    marks: &[u8],
+    s: &[u8],
+    address: &[u8],
+) -> Result<Option<usize>, Refusal>
     requires { Machine stock.now n counts.now marks.now }
     ensures { FindsBy stock.now n counts.now marks.now s.now address.now result }
 {
@@ -119,7 +117,12 @@ fn symbol_by(stock: &[u8], n: usize, counts: &[u8], marks: &[u8], s: &[u8], addr
 }
 
 // The symbol at `address` in what the transducer of the file `sheet` gives on the tree of the file `design`.
-pub fn symbol_at(stock: &[u8], sheet: &[u8], design: &[u8], address: &[u8]) -> Result<Option<usize>, Refusal>
+pub fn symbol_at(
+    stock: &[u8],
+    sheet: &[u8],
+    design: &[u8],
+    address: &[u8],
+) -> Result<Option<usize>, Refusal>
     ensures { FindsSymbol stock.now sheet.now design.now address.now result }
 {
     let n = read_transducer(stock, sheet)?;

@@ -10,7 +10,6 @@ use discovery::queue::enter;
 use formats::bodies::fill_starts;
 use formats::file::{counts_end, read_transducer};
 use trees::alphabet::input_ranks;
-use trees::bytes::{number, wide};
 use trees::refusal::Refusal;
 
 // Reads the marks number `from` up to `to`: enters the states that they call, unless they call a child twice.
@@ -27,17 +26,15 @@ fn read_marks(
 {
     let mut seen = [false; 5];
     let mut n = met;
-    let mut j = from;
-    while j < to {
-        let i = wide(marks[2 * j]);
+    for j in from..to {
+        let i = usize::from(marks[2 * j]);
         if i > 0 {
             if seen[i] {
                 return None;
             }
             seen[i] = true;
-            n = enter(list, place, n, wide(marks[2 * j + 1]));
+            n = enter(list, place, n, usize::from(marks[2 * j + 1]));
         }
-        j += 1;
     }
     Some(n)
 }
@@ -56,12 +53,10 @@ fn read_bodies(
     ensures { Reads (NotOnce (λ j. get_or starts.now j 0) marks.now b k) (ReadBodies (λ j. get_or starts.now j 0) marks.now b (met_of list.old met) k) list.new place.new result }
 {
     let mut n = met;
-    let mut j = 0;
-    while j < k {
-        let from = number(starts[b + j]);
-        let to = number(starts[b + j + 1]);
+    for j in 0..k {
+        let from = usize::from(starts[b + j]);
+        let to = usize::from(starts[b + j + 1]);
         n = read_marks(marks, from, to, list, place, n)?;
-        j += 1;
     }
     Some(n)
 }
@@ -77,26 +72,17 @@ fn read_reached(
     requires { LowBodies (1 + length place.old * inputs) (length place.old) starts.now marks.now × Queue list.old place.old 0 }
     ensures { ReadsTable inputs (λ j. get_or starts.now j 0) marks.now result }
 {
-    let mut met = 0;
-    match read_bodies(0, 1, starts, marks, list, place, 0) {
-        Some(first) => {
-            met = first;
-        }
-        None => {
-            return false;
-        }
-    }
+    let Some(mut met) = read_bodies(0, 1, starts, marks, list, place, 0) else {
+        return false;
+    };
     let mut p = 0;
+    // The list grows while it is read.
     while p < met {
-        let q = number(list[p]);
-        match read_bodies(1 + q * inputs, inputs, starts, marks, list, place, met) {
-            Some(m) => {
-                met = m;
-            }
-            None => {
-                return false;
-            }
-        }
+        let q = usize::from(list[p]);
+        let Some(m) = read_bodies(1 + q * inputs, inputs, starts, marks, list, place, met) else {
+            return false;
+        };
+        met = m;
         p += 1;
     }
     true

@@ -110,9 +110,6 @@ module _ {stock starts bytes s ends : List ℕ} {p k : ℕ} (R : Ready stock sta
     call_here : CallFirst i x (terms_at (inputs stock) s (k + 1)) (terms_at (inputs stock) s k)
     call_here = rw (e, f) (call_at R.ended.body k R.place (rw e at some))
 
-    pub letter_bounds : (i ≤ 4) × (x < 128) × (p < 128)
-    letter_bounds = (call_here.child, call_here.state, ready_few.0)
-
     pub apply_call : applied stock starts bytes s p k ≡ (65536 * i + 128 * x + p) ∷ []
     unfolding applied run first preorder pair_code renamed mapT bind assoc
     apply_call =

@@ -9,7 +9,6 @@ use discovery::queue::CALL;
 use transducer::children::skip;
 use transducer::depth::children;
 use trees::alphabet::input_ranks;
-use trees::bytes::{number, wide};
 
 // The number of a pair of states is PAIR times the first's and the second's.
 pub const PAIR: usize = 128;
@@ -28,10 +27,8 @@ pub fn note_ends(stock: &[u8], s: &[u8], ends: &mut [u16; 64])
     ensures { Ended (inputs stock.now) s.now ends.new }
 {
     let ranks = input_ranks(stock);
-    let mut k = s.len() / 2;
-    while k > 0 {
-        k -= 1;
-        let n = wide(children(ranks, s[2 * k], s[2 * k + 1]));
+    for k in (0..s.len() / 2).rev() {
+        let n = usize::from(children(ranks, s[2 * k], s[2 * k + 1]));
         ends[k] = skip(ends, k + 1, n) as u16;
     }
 }
@@ -48,6 +45,7 @@ fn put(letters: &mut [u32; 64], at: usize, x: usize)
 
 // Writes what state p gives on the term at mark number k of the body `s`, from `at` on, and says where that ends, or 65 where there
 // are more than 64 letters: then no more is written.
+// Stay: the parameters and the answer 65, which are in the contracts that `join` and its proofs cite.
 #[cycle(apply_walk)]
 pub fn apply(
     stock: &[u8],
@@ -63,15 +61,15 @@ pub fn apply(
     requires { Ready stock.now starts.now marks.now s.now ends.now p k × Limits (length letters.old) at 64 }
     ensures { Wrote (applied stock.now starts.now marks.now s.now p k) at 64 letters.old letters.new result × (length letters.new ≡ length letters.old) }
 {
-    let i = wide(s[2 * k]);
-    let x = wide(s[2 * k + 1]);
+    let i = usize::from(s[2 * k]);
+    let x = usize::from(s[2 * k + 1]);
     if i > 0 {
         put(letters, at, CALL * i + PAIR * x + p);
         return at + 1;
     }
     let b = body_of(stock, p, x);
-    let from = number(starts[b]);
-    let to = number(starts[b + 1]);
+    let from = usize::from(starts[b]);
+    let to = usize::from(starts[b + 1]);
     walk(stock, starts, marks, s, ends, from, to, k + 1, letters, at)
 }
 
@@ -93,14 +91,12 @@ pub fn walk(
     ensures { Wrote (walked stock.now starts.now marks.now s.now below from to) at 64 letters.old letters.new result × (length letters.new ≡ length letters.old) }
 {
     let mut w = at;
-    let mut j = from;
-    while j < to {
+    for j in from..to {
         if w > 64 {
             return w;
         }
-        let i = wide(marks[2 * j]);
-        let x = wide(marks[2 * j + 1]);
-        j += 1;
+        let i = usize::from(marks[2 * j]);
+        let x = usize::from(marks[2 * j + 1]);
         if i == 0 {
             put(letters, w, x);
             w += 1;

@@ -2,7 +2,6 @@
 -- Assumes nothing.
 use Prim.Native.Nat.{ℕ, suc, ◌+◌, ◌-◌, ◌*◌, ◌≤◌, ◌<◌}
 use native.Mathlib.Decide.{ℕ_discrete}
-use native.Mathlib.Nat.{mul-le-mul}
 use native.Mathlib.Omega.{arith}
 use mathlib.Core.List.{List, [], ◌∷◌}
 use mathlib.Core.Logic.{◌≢◌, by_cases}
@@ -29,13 +28,15 @@ use Rattle.trees.specs.Alphabets.{Leaf}
 use Rattle.trees.specs.Code.{Mark, Ranked, AllRanked}
 use Rattle.formats.specs.Inner.Layout.{body_number, transducer}
 use Rattle.formats.specs.Inner.Marked.{part}
-use Rattle.formats.proofs.Pairs.{number_less, pairs_at}
+use Rattle.formats.proofs.Pairs.{pairs_at}
 use Rattle.forms.specs.Alphabet.{alphabet}
 use Rattle.forms.specs.Inner.Tables.{machine, Layout}
 use Rattle.forms.proofs.Files.{machine_wf}
-use Rattle.witness.specs.Inner.Bottoms.{Bodied, RootOnLeafAsked, PathFromFound, RootOnLeaf, BottomFound, no_path, second_path, first_path}
+use Rattle.witness.specs.Inner.Bottoms.{RootOnLeafAsked, PathFromFound, RootOnLeaf, BottomFound, no_path, second_path, first_path}
 use Rattle.witness.specs.Inner.Other.{first_mark}
-use Rattle.pairs.specs.Inner.Pairs.{pair_byte, body_of}
+use Rattle.pairs.specs.declared.pairs.Pair.{Pair}
+use Rattle.pairs.specs.declared.pairs.Side.{Side}
+use Rattle.pairs.specs.Inner.Pairs.{pair_state, body_of}
 use Rattle.witness.specs.Inner.Shown.{steps_tree}
 use Rattle.witness.proofs.Firsts.{First, first_symbol, first_call, first_mark_lem, mark_fits}
 use Rattle.pairs.proofs.Stepping.{Begin, Root, root_call}
@@ -213,9 +214,6 @@ bottom_few (first_path h A F) = F.path.few
 
 -- ---- the symbol that a call shows on a leaf
 module _ {ins starts bytes : List ℕ} {e c x : ℕ} (F : RootOnLeafAsked ins starts bytes e c x) (h : 0 < c) where
-  pub leaf_body_number : body_number ins x e < length starts
-  leaf_body_number = omega (arith, number_less ins x F.states e (F.state h) F.leaf, F.layout.bounds.long)
-
   pub leaf_mark_inside : {at : ℕ} → at ≡ get_or starts (body_number ins x e) 0 → 2 * at + 1 < length bytes
   leaf_mark_inside f = omega (arith, mark_fits F.layout (F.state h) F.leaf)
 
@@ -226,21 +224,13 @@ module _ {ins starts bytes : List ℕ} {e c x : ℕ} (F : RootOnLeafAsked ins st
   }
 
 -- ---- the number of a body
-module _ (ins P : List ℕ) (side a : ℕ) where
+module _ (ins : List ℕ) (P : List Pair) (side : Side) (a : ℕ) where
   pub body_top : (q : ℕ) → q ≡ 0 → 0 ≡ body_of ins P side q a
   unfolding body_of
   body_top ℕ.zero e = refl
   body_top (suc p) e = absurd (omega arith)
 
-  pub body_pair : (q : ℕ) → q ≢ 0 → {x : ℕ} → x ≡ pair_byte P side (q - 1) → body_number ins x a ≡ body_of ins P side q a
+  pub body_pair : (q : ℕ) → q ≢ 0 → {x : ℕ} → x ≡ pair_state P side (q - 1) → body_number ins x a ≡ body_of ins P side q a
   unfolding body_of
   body_pair ℕ.zero o f = absurd (o refl)
-  body_pair (suc p) o f = let z : suc p - 1 ≡ p = omega arith in ap (λ x. body_number ins x a) (f ∙ ap (λ k. pair_byte P side k) z)
-
-  -- it is small
-  pub body_small : {q x s : ℕ} → Bodied ins q a s → q ≢ 0 → x ≡ s → body_number ins x a ≤ 2064
-  body_small {q} {x} B o e =
-      let i = B.known (omega arith) in
-      let u : x ≤ 127 = omega (arith, B.state (omega arith)) in
-      let r : x * length ins ≤ 127 * 16 = mul-le-mul u B.few_inputs in
-      omega (arith, B.few_inputs)
+  body_pair (suc p) o f = let z : suc p - 1 ≡ p = omega arith in ap (λ x. body_number ins x a) (f ∙ ap (λ k. pair_state P side k) z)

@@ -139,7 +139,7 @@ module _ {ins starts bytes dist : List ℕ} {q b : ℕ} {steps₀ : List ℕ} (F
 
   module _ {steps : List ℕ} {count p k : ℕ} (L : PathLoop ins starts bytes dist q b steps₀ steps count p k) where
     pub decreasing_steppable : Steppable ins starts bytes dist p b × (2 * k + 1 < length steps)
-    decreasing_steppable = (record { at = L.ready.at; step = go (get_or dist p 0) refl }, omega (arith, L.few, L.less, L.same_length, F.room))
+    decreasing_steppable = (record { at = L.ready.at; found = λ z. omega (arith, L.here, L.less); step = go (get_or dist p 0) refl }, omega (arith, L.few, L.less, L.same_length, F.room))
       where
         go : (d : ℕ) → get_or dist p 0 ≡ d → (a : ℕ) × (a < length ins) × (step_distance ins starts bytes dist b p a ≡ get_or dist p 0)
         go ℕ.zero e = absurd (omega (arith, L.here, L.less))

@@ -12,6 +12,7 @@ use lib.ListN.{length, get_or, set}
 use lib.Seq.{get_or-set_same, get_or-set_other}
 use borrow.Author.Count.{below_more}
 use borrow.Author.Tests.{eq-eqb, ne_eqb}
+use Rattle.std.specs.Prelude.{Option, Some, None}
 use Rattle.theory.specs.Term.{Term}
 use Rattle.theory.proofs.Bounded.{sum_lt}
 use Rattle.theory.proofs.OtherRoot.{dist_bound}
@@ -20,8 +21,8 @@ use Rattle.trees.specs.Code.{Mark}
 use Rattle.formats.specs.Inner.Layout.{body_number}
 use Rattle.formats.proofs.Pairs.{pairs_at}
 use Rattle.theory.specs.Weight.{one_if}
-use Rattle.forms.proofs.Files.{number_fits, machine_wf}
-use Rattle.witness.specs.Inner.Other.{other_distance, call_distance, mark_distance, first_mark, step_distance, Founded, NoneAt, Finished, missing, DistanceTable, DistanceTableAt, FindsDistance, Settable, NewDistance, SetsDistance, Sweepable, SweepsDistances, Fillable, FillsDistances, FindsStep, PutsStep}
+use Rattle.forms.proofs.Files.{machine_wf}
+use Rattle.witness.specs.Inner.Other.{IsDistance, other_distance, call_distance, mark_distance, first_mark, step_distance, Founded, NoneAt, Finished, missing, DistanceTable, DistanceTableAt, FindsDistance, Settable, NewDistance, SetsDistance, Sweepable, SweepsDistances, Fillable, FillsDistances, FindsStep, PutsStep}
 use Rattle.witness.proofs.Firsts.{First, Seen, seen_root, seen_call, seen, first_symbol, first_call, mark_fits, first_mark_lem, founded_sound, finished_complete}
 
 -- ---- the distance of one right-hand side
@@ -45,10 +46,6 @@ called_state (first_symbol h e) o = absurd (o refl)
 called_state (first_call c) o = (c.child, c.state)
 
 module _ {ins starts bytes dist : List ℕ} {q a : ℕ} (S : DistanceTableAt ins starts bytes dist q) (there : a < length ins) where
-  -- the number of the right-hand side is in the table of starts
-  pub number_there : (body_number ins q a < 2049) × (body_number ins q a + 1 < length starts)
-  number_there = number_fits S.table.layout S.state there
-
   module _ {from : ℕ} (f : from ≡ get_or starts (body_number ins q a) 0) where
     -- its first mark stands in the file
     pub mark_there : 2 * from + 1 < length bytes
@@ -134,11 +131,11 @@ module _ {ins starts bytes dist : List ℕ} {q b : ℕ} (S : Settable ins starts
       omega (arith, dist_bound (machine_wf T.leaf l.wholes) (founded_sound l T.leaf b dist S.founded) p h, l.few_states)
 
   -- so none that is found is above 129
-  pub found_low : (r : ℕ) → FindsDistance ins starts bytes dist q b r → r ≤ 129
-  found_low ℕ.zero F = omega arith
-  found_low (suc k) F =
-      let s = F.found (omega arith) in
-      go refl (seen dist b (first_mark_lem S.at.table.layout S.at.state s.1) s.2)
+  pub found_low : {r : Option ℕ} (d : ℕ) → FindsDistance ins starts bytes dist q b r → r ≡ Some d → d ≤ 129
+  found_low ℕ.zero F e = omega arith
+  found_low (suc k) F e =
+      let s = F.found (suc k) e in
+      go refl (seen dist b (first_mark_lem S.at.table.layout S.at.state s.2) s.3)
     where
       go : {outs : List ℕ} {r d : ℕ} {t : Term (ℕ × ℕ)} {m : Mark} → d ≡ suc k → Seen outs S.at.states r dist b t m d → suc k ≤ 129
       go e (seen_root h f o) = omega arith
@@ -149,26 +146,37 @@ pub record Passed (ins starts bytes dist : List ℕ) (q b a : ℕ) : Type 0 wher
   pub inside : a ≤ length ins
   pub none : (k : ℕ) → k < a → step_distance ins starts bytes dist b q k ≡ 0
 
-pub pass_start : {ins starts bytes dist : List ℕ} {q b : ℕ} → Passed ins starts bytes dist q b 0
-pass_start = record { inside = omega arith; none = λ k h. absurd (omega arith) }
+pub distance_here : {s d : ℕ} → d ≡ s → 0 < d → d ≤ 256 → IsDistance s (Some d)
+distance_here {d = d} e h g = record { found = λ x z. let y : d ≡ x = cc in rw (← y) (e, h, g); none = λ z. conflict (cc) }
 
-pub find_here : {ins starts bytes dist : List ℕ} {q b a r : ℕ} → a < length ins → r ≡ step_distance ins starts bytes dist b q a → 0 < r → FindsDistance ins starts bytes dist q b r
-find_here {a = a} h e p = record { found = λ z. (a, h, sym e); none = λ z. absurd (omega arith) }
+pub distance_none : {s : ℕ} → 0 ≡ s → IsDistance s None
+distance_none e = record { found = λ x z. conflict (cc); none = λ z. sym e }
+
+pub find_here : {ins starts bytes dist : List ℕ} {q b a : ℕ} {r : Option ℕ} → a < length ins → IsDistance (step_distance ins starts bytes dist b q a) r → (d : ℕ) → r ≡ Some d → FindsDistance ins starts bytes dist q b (Some d)
+find_here {a = a} h D d e = let f = D.found d e in record { found = λ x z. let y : d ≡ x = cc in rw (← y) (f.1, a, h, sym f.0); none = λ z. conflict (cc) }
 
 module _ {ins starts bytes dist : List ℕ} {q b a : ℕ} (P : Passed ins starts bytes dist q b a) where
-  pub find_none : length ins ≤ a → FindsDistance ins starts bytes dist q b 0
-  find_none h = record { found = λ z. absurd (z refl); none = λ z k l. P.none k (omega arith) }
+  pub find_none : length ins ≤ a → FindsDistance ins starts bytes dist q b None
+  find_none h = record { found = λ d z. conflict (cc); none = λ z k l. P.none k (omega arith) }
 
-  pub pass_next : {r : ℕ} → a < length ins → r ≡ step_distance ins starts bytes dist b q a → r ≤ 0 → Passed ins starts bytes dist q b (a + 1)
-  pass_next h e p = record { inside = omega arith; none = below_more (λ k. step_distance ins starts bytes dist b q k ≡ 0) a P.none (omega arith) }
+  pub pass_next : {r : Option ℕ} → a < length ins → IsDistance (step_distance ins starts bytes dist b q a) r → r ≡ None → Passed ins starts bytes dist q b (a + 1)
+  pass_next h D p = record { inside = omega arith; none = below_more (λ k. step_distance ins starts bytes dist b q k ≡ 0) a P.none (D.none p) }
 
 -- ---- the first that is as far as q: none for a symbol before a is
 pub record Ahead (ins starts bytes dist : List ℕ) (q b d a : ℕ) : Type 0 where
   pub ahead : (s : ℕ) → s < length ins → step_distance ins starts bytes dist b q s ≡ d → a ≤ s
 
-pub ahead_next : {ins starts bytes dist : List ℕ} {q b d a r : ℕ} → Ahead ins starts bytes dist q b d a → r ≡ step_distance ins starts bytes dist b q a → r ≢ d → Ahead ins starts bytes dist q b d (a + 1)
-ahead_next {ins} {starts} {bytes} {dist} {q} {b} {a = a} A e o = record {
-  ahead = λ s h g. by_cases (ℕ_discrete s a) (λ z. absurd (o (e ∙ ap (λ k. step_distance ins starts bytes dist b q k) (sym z) ∙ g))) (λ z. omega (arith, A.ahead s h g));
+-- a distance that is one is found
+pub is_given : {s d : ℕ} {r : Option ℕ} → IsDistance s r → s ≡ d → d ≢ 0 → r ≡ Some d
+is_given {s} {d} {r} D e o = go r D
+  where
+    go : (x : Option ℕ) → IsDistance s x → x ≡ Some d
+    go None E = absurd (o (sym e ∙ E.none refl))
+    go (Some y) E = ap Some ((E.found y refl).0 ∙ e)
+
+pub ahead_next : {ins starts bytes dist : List ℕ} {q b d a : ℕ} {r : Option ℕ} → Ahead ins starts bytes dist q b d a → IsDistance (step_distance ins starts bytes dist b q a) r → d ≢ 0 → r ≢ Some d → Ahead ins starts bytes dist q b d (a + 1)
+ahead_next {ins} {starts} {bytes} {dist} {q} {b} {d} {a} A D p o = record {
+  ahead = λ s h g. by_cases (ℕ_discrete s a) (λ z. absurd (o (is_given D (ap (λ k. step_distance ins starts bytes dist b q k) (sym z) ∙ g) p))) (λ z. omega (arith, A.ahead s h g));
 }
 
 -- ---- one state
@@ -176,15 +184,15 @@ module _ {ins starts bytes dist : List ℕ} {q b : ℕ} where
   pub set_kept : 0 < get_or dist q 0 → SetsDistance ins starts bytes dist q b dist false
   set_kept h = record { new = λ z. conflict (cc); same = λ z. refl; none = λ z e. absurd (omega arith) }
 
-  pub set_none : {r : ℕ} → FindsDistance ins starts bytes dist q b r → r ≡ 0 → SetsDistance ins starts bytes dist q b dist false
+  pub set_none : {r : Option ℕ} → FindsDistance ins starts bytes dist q b r → r ≡ None → SetsDistance ins starts bytes dist q b dist false
   set_none F e = record { new = λ z. conflict (cc); same = λ z. refl; none = λ z w. F.none e }
 
-  pub set_new : (r : ℕ) {dist' : List ℕ} → get_or dist q 0 ≤ 0 → FindsDistance ins starts bytes dist q b r → r ≢ 0 → dist' ≡ set dist q r → SetsDistance ins starts bytes dist q b dist' true
-  set_new ℕ.zero h F o e = absurd (o refl)
+  pub set_new : {r : Option ℕ} (d : ℕ) {dist' : List ℕ} → get_or dist q 0 ≤ 0 → FindsDistance ins starts bytes dist q b r → r ≡ Some d → dist' ≡ set dist q d → SetsDistance ins starts bytes dist q b dist' true
+  set_new ℕ.zero h F o e = let z = (F.found 0 o).0 in absurd (omega arith)
   set_new (suc k) h F o e =
-      let s = F.found o in
+      let s = F.found (suc k) o in
       record {
-        new = λ z. record { was = omega arith; symbol = s.0; there = s.1; before = k; distance = s.2; wrote = e };
+        new = λ z. record { was = omega arith; symbol = s.1; there = s.2; before = k; distance = s.3; wrote = e };
         same = λ z. conflict (cc);
         none = λ z. conflict (cc);
       }
@@ -254,14 +262,8 @@ pub record FillLoop (ins starts bytes : List ℕ) (n b : ℕ) (dist₀ dist : Li
 pub left : List ℕ → ℕ → Bool → ℕ
 left dist n again = missing dist n + one_if again
 
-pub fill_start : {ins starts bytes : List ℕ} {n b : ℕ} {dist : List ℕ} → Fillable ins starts bytes n dist → FillLoop ins starts bytes n b dist dist true
-fill_start F = record { same_length = refl; founded = record { step = λ q k v e. absurd (omega (arith, F.zeros q v)) }; finished = λ z. conflict (cc) }
-
 module _ {ins starts bytes : List ℕ} {n b : ℕ} {dist₀ : List ℕ} (F : Fillable ins starts bytes n dist₀)
     {dist : List ℕ} {again : Bool} (L : FillLoop ins starts bytes n b dist₀ dist again) where
-  pub fill_sweepable : Sweepable ins starts bytes n b dist
-  fill_sweepable = record { table = longer F.table L.same_length; founded = L.founded }
-
   module _ {dist' : List ℕ} {r : Bool} (D : SweepsDistances ins starts bytes n b dist dist' r) where
     pub fill_next : length dist' ≡ length dist → FillLoop ins starts bytes n b dist₀ dist' r
     fill_next e = record { same_length = e ∙ L.same_length; founded = D.founded; finished = λ z. rw (D.same z) (D.finished z) }

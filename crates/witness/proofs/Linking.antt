@@ -19,13 +19,14 @@ use Rattle.formats.specs.Inner.Layout.{body, transducer}
 use Rattle.forms.specs.Alphabet.{alphabet, children_of_lem}
 use Rattle.forms.specs.Inner.Tables.{machine, Layout}
 use Rattle.classes.specs.Inner.Classes.{at}
+use Rattle.pairs.specs.declared.pairs.Pair.{Pair}
 use Rattle.pairs.specs.Inner.Pairs.{Sides, Agree, CallAt, ClashesAt, pair_left, pair_right, pair_parent, pair_symbol, pair_mark, pair_child, body_of, left_body, right_body, Linked}
 use Rattle.witness.specs.Inner.Paths.{term_of, left_term, right_term, sorts_for, pair_place, tree_for, Path, path_end, path_on}
 use Rattle.earliest.specs.Inner.Places.{place}
 use Rattle.pairs.proofs.Searching.{initial_spelt, rhs_spelt}
 use Rattle.pairs.proofs.Stepping.{Begin, byte_mark, along_map, spelt_along, spelt_child, begin_calls, begin_differ}
 
-module _ (S : Sides) (n n' : ℕ) (outs : List ℕ) (l : Leaf S.ins) (L : Layout S.ins outs S.starts S.bytes n) (L' : Layout S.ins outs S.starts' S.bytes' n') (P : List ℕ) (count : ℕ) (linked : (p : ℕ) → p < count → Linked S n n' P p) where
+module _ (S : Sides) (n n' : ℕ) (outs : List ℕ) (l : Leaf S.ins) (L : Layout S.ins outs S.starts S.bytes n) (L' : Layout S.ins outs S.starts' S.bytes' n') (P : List Pair) (count : ℕ) (linked : (p : ℕ) → p < count → Linked S n n' P p) where
   abbrev G : Grammar
   G = alphabet S.ins l
 

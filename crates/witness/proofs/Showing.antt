@@ -36,40 +36,43 @@ use Rattle.earliest.specs.Inner.Places.{place}
 use Rattle.classes.specs.Inner.Classes.{at}
 use Rattle.canonical.proofs.Alike.{allowed_ranked}
 use Rattle.witness.specs.Difference.{address_area, Difference}
-use Rattle.witness.specs.Inner.Bottoms.{Bodied, BottomFound, RootAsked, RootFound, Stands, Leading, Roomy, StatesBelow, LedTo, TracesBack, Traces}
-use Rattle.pairs.specs.Inner.Pairs.{Sides, sides, ClashesAt, Clashes, pair_byte, pair_left, pair_right, pair_parent, pair_symbol, pair_mark, pair_child, left_body, right_body, Linked}
+use Rattle.witness.specs.Inner.Bottoms.{BottomFound, RootAsked, RootFound, Stands, Leading, Roomy, StatesBelow, LedTo, TracesBack, Traces}
+use Rattle.pairs.specs.declared.pairs.Pair.{Pair}
+use Rattle.pairs.specs.declared.pairs.Side.{Side}
+use Rattle.pairs.specs.declared.pairs.Side.TheVariants.{Left, Right}
+use Rattle.pairs.specs.Inner.Pairs.{Sides, sides, ClashesAt, Clashes, pair_state, pair_left, pair_right, pair_parent, pair_symbol, pair_mark, pair_child, left_body, right_body, Linked}
 use Rattle.witness.specs.Inner.Paths.{term_of, left_term, right_term, sorts_for, pair_place, tree_for, Path, path_end, path_on}
 use Rattle.witness.specs.Inner.Shown.{steps_tree, AddressAsked, EndsBefore, AddressWritten}
 use Rattle.witness.specs.Inner.Forms.{Comparable, Shows}
 use Rattle.witness.proofs.Bottoms.{RootsAre, Small, along_ended, Ends, Separates, separates}
 use Rattle.witness.proofs.Firsts.{allowed_here}
 use Rattle.witness.proofs.Linking.{agree_along, pair_along, top_child, Holds, shown_holds, path_witnessed}
-use Rattle.witness.proofs.WayBack.{body_start, mark_small, mark_inside, mark_state, mark_child, SideThere, side_there, left_address_asked, left_address, ends_before}
+use Rattle.witness.proofs.WayBack.{mark_small, mark_inside, mark_state, mark_child, SideThere, side_there, left_address_asked, left_address, ends_before}
 use Rattle.pairs.proofs.Stepping.{byte_mark, symbols_differ, children_differ}
 
 -- what parent q gives on d, on one side: the translation, or the output of a state of a pair
-unfoldable pub out_of : Transducer ℕ → List ℕ → ℕ → ℕ → Tree → Tree
+unfoldable pub out_of : Transducer ℕ → List Pair → Side → ℕ → Tree → Tree
 out_of M P side ℕ.zero d = translate M d
-out_of M P side (suc p) d = output M d (pair_byte P side p)
+out_of M P side (suc p) d = output M d (pair_state P side p)
 
 -- ---- what parent q gives on the tree that it reads is its term, filled
-module _ {G : Grammar} {M : Transducer ℕ} {Valid : ℕ → Type 0} (W : Wf G M Valid) (ins P : List ℕ) where
-  out_fill : (side q a c : ℕ) (d : Tree) → (q ≡ 0 → put G (0 ∷ []) c d ≡ more d none) → out_of M P side q (tree_for G ins q a c d) ≡ fill M (put G (sorts_for ins q a) c d) (term_of M P side q a)
+module _ {G : Grammar} {M : Transducer ℕ} {Valid : ℕ → Type 0} (W : Wf G M Valid) (ins : List ℕ) (P : List Pair) where
+  out_fill : (side : Side) (q a c : ℕ) (d : Tree) → (q ≡ 0 → put G (0 ∷ []) c d ≡ more d none) → out_of M P side q (tree_for G ins q a c d) ≡ fill M (put G (sorts_for ins q a) c d) (term_of M P side q a)
   unfolding out_of tree_for sorts_for term_of
   out_fill side ℕ.zero a c d alone = translate_fill M W d ∙ ap (λ ds. fill M ds M.initial) (sym (alone refl))
-  out_fill side (suc p) a c d alone = output_node M (pair_byte P side p) a _
+  out_fill side (suc p) a c d alone = output_node M (pair_state P side p) a _
 
 -- ---- the terms of a parent call on children of its sorts, and are ranked
-module _ {ins outs starts bytes : List ℕ} {n : ℕ} (L : Layout ins outs starts bytes n) (P : List ℕ) where
-  term_vars : (l : Leaf ins) (side q a : ℕ) → StatesBelow P side q n → (0 < q → a < length ins) → AllVars (Fits (machine ins outs starts bytes n) (λ x. x < n) (sorts_for ins q a)) (term_of (machine ins outs starts bytes n) P side q a)
+module _ {ins outs starts bytes : List ℕ} {n : ℕ} (L : Layout ins outs starts bytes n) (P : List Pair) where
+  term_vars : (l : Leaf ins) (side : Side) (q a : ℕ) → StatesBelow P side q n → (0 < q → a < length ins) → AllVars (Fits (machine ins outs starts bytes n) (λ x. x < n) (sorts_for ins q a)) (term_of (machine ins outs starts bytes n) P side q a)
   unfolding term_of sorts_for
   term_vars l side ℕ.zero a b g = (machine_wf l L.wholes).initial
-  term_vars l side (suc p) a b g = (machine_wf l L.wholes).rhs (pair_byte P side p) a (b p (omega arith)) (allowed_here L l (pair_byte P side p) (g (omega arith)))
+  term_vars l side (suc p) a b g = (machine_wf l L.wholes).rhs (pair_state P side p) a (b p (omega arith)) (allowed_here L l (pair_state P side p) (g (omega arith)))
 
-  term_ranked : (side q a : ℕ) → StatesBelow P side q n → (0 < q → a < length ins) → (r : ℕ) × Ranked (Call n r) outs (term_of (machine ins outs starts bytes n) P side q a)
+  term_ranked : (side : Side) (q a : ℕ) → StatesBelow P side q n → (0 < q → a < length ins) → (r : ℕ) × Ranked (Call n r) outs (term_of (machine ins outs starts bytes n) P side q a)
   unfolding term_of
   term_ranked side ℕ.zero a b g = (1, (transducer_over ins outs n (at starts) bytes L.wholes).initial)
-  term_ranked side (suc p) a b g = (get_or ins a 0, (transducer_over ins outs n (at starts) bytes L.wholes).rhs (pair_byte P side p) a (b p (omega arith)) (g (omega arith)))
+  term_ranked side (suc p) a b g = (get_or ins a 0, (transducer_over ins outs n (at starts) bytes L.wholes).rhs (pair_state P side p) a (b p (omega arith)) (g (omega arith)))
 
 -- symbols have at most four children
 children_few : {ins : List ℕ} → Ranks 16 ins → (l : Leaf ins) (s a : ℕ) (sorts : List ℕ) → (alphabet ins l).children s a ≡ some sorts → length sorts ≤ 4
@@ -88,7 +91,7 @@ unfolding sorts_for
 no_sorts ins ℕ.zero a e = refl
 no_sorts ins (suc p) a e = absurd (omega arith)
 
-module _ (S : Sides) (n n' : ℕ) (outs : List ℕ) (l : Leaf S.ins) (L : Layout S.ins outs S.starts S.bytes n) (L' : Layout S.ins outs S.starts' S.bytes' n') (P : List ℕ) (count : ℕ) (linked : (p : ℕ) → p < count → Linked S n n' P p) where
+module _ (S : Sides) (n n' : ℕ) (outs : List ℕ) (l : Leaf S.ins) (L : Layout S.ins outs S.starts S.bytes n) (L' : Layout S.ins outs S.starts' S.bytes' n') (P : List Pair) (count : ℕ) (linked : (p : ℕ) → p < count → Linked S n n' P p) where
   abbrev G : Grammar
   G = alphabet S.ins l
 
@@ -104,17 +107,17 @@ module _ (S : Sides) (n n' : ℕ) (outs : List ℕ) (l : Leaf S.ins) (L : Layout
   wf' : Wf G M' (λ q. q < n')
   wf' = machine_wf l L'.wholes
 
-  lefts_below : (q : ℕ) → q ≤ count → StatesBelow P 0 q n
+  lefts_below : (q : ℕ) → q ≤ count → StatesBelow P Left q n
   lefts_below q h p i = (linked p (omega arith)).left
 
-  rights_below : (q : ℕ) → q ≤ count → StatesBelow P 1 q n'
+  rights_below : (q : ℕ) → q ≤ count → StatesBelow P Right q n'
   rights_below q h p i = (linked p (omega arith)).right
 
   -- ---- the symbols, from a pair up to the initial terms
   module _ (b b' : ℕ) where
     -- parent q gives the two symbols on d at address v
     abbrev Gives : ℕ → Tree → List ℕ → Type 0
-    Gives q d v = Along (RootsAre outs b b') (out_of M P 0 q d) (out_of M' P 1 q d) v
+    Gives q d v = Along (RootsAre outs b b') (out_of M P Left q d) (out_of M' P Right q d) v
 
     gives_up : (p : ℕ) → p < count → (d : Tree) {v : List ℕ} → Gives (suc p) d v → Gives (pair_parent P p) (tree_for G S.ins (pair_parent P p) (pair_symbol P p) (pair_child P p) d) (pair_place M P p ++ v)
     unfolding bind put out_of
@@ -124,11 +127,11 @@ module _ (S : Sides) (n n' : ℕ) (outs : List ℕ) (l : Leaf S.ins) (L : Layout
         let c = pair_child P p in
         let K = linked p h in
         let m = pair_along S n n' outs l L L' P count linked p h in
-        let e = along_end m (term_vars L P l 0 q a (lefts_below q (omega (arith, K.parent))) K.symbol) (term_vars L' P l 1 q a (rights_below q (omega (arith, K.parent))) K.symbol) in
+        let e = along_end m (term_vars L P l Left q a (lefts_below q (omega (arith, K.parent))) K.symbol) (term_vars L' P l Right q a (rights_below q (omega (arith, K.parent))) K.symbol) in
         let f : Fits M (λ x. x < n) (sorts_for S.ins q a) (c, pair_left P p) = all_one (rw e.holds.0 at e.left_vars) in
         let f' : Fits M' (λ x. x < n') (sorts_for S.ins q a) (c, pair_right P p) = all_one (rw e.holds.1 at e.right_vars) in
         let alone : q ≡ 0 → put G (0 ∷ []) c d ≡ more d none = λ z. ap (λ i. put G (0 ∷ []) i d) (top_child S n n' outs l L L' P count linked p h z) in
-        rw (out_fill wf S.ins P 0 q a c d alone, out_fill wf' S.ins P 1 q a c d alone)
+        rw (out_fill wf S.ins P Left q a c d alone, out_fill wf' S.ins P Right q a c d alone)
         (along_bind _ _ (λ t u r. rw (r.0, r.1, call_put G d M (sorts_for S.ins q a) c (pair_left P p) f.sort, call_put G d M' (sorts_for S.ins q a) c (pair_right P p) f'.sort) w) m)
 
     path_gives : {q : ℕ} {d T : Tree} {v U : List ℕ} → Path G S.ins M P q d v T U → q ≤ count → Gives q d v → Gives 0 T U
@@ -138,10 +141,10 @@ module _ (S : Sides) (n n' : ℕ) (outs : List ℕ) (l : Leaf S.ins) (L : Layout
   -- ---- the clash
   module _ (q a m : ℕ) (low : q ≤ count) (known : 0 < q → a < length S.ins) (C : ClashesAt S (left_body S.ins P q a) (right_body S.ins P q a) m) where
     left_ranked : (r : ℕ) × Ranked (Call n r) outs (left_term M P q a)
-    left_ranked = term_ranked L P 0 q a (lefts_below q low) known
+    left_ranked = term_ranked L P Left q a (lefts_below q low) known
 
     right_ranked : (r : ℕ) × Ranked (Call n' r) outs (right_term M' P q a)
-    right_ranked = term_ranked L' P 1 q a (rights_below q low) known
+    right_ranked = term_ranked L' P Right q a (rights_below q low) known
 
     abbrev mark : ℕ × ℕ
     mark = byte_mark S.bytes (at S.starts (left_body S.ins P q a) + m)
@@ -153,7 +156,7 @@ module _ (S : Sides) (n n' : ℕ) (outs : List ℕ) (l : Leaf S.ins) (L : Layout
     spot = place (left_term M P q a) m
 
     clash_ended : Along (Ends L L' l (sorts_for S.ins q a) mark mark' (Call n left_ranked.0) (Call n' right_ranked.0)) (left_term M P q a) (right_term M' P q a) spot
-    clash_ended = along_ended outs (agree_along S n n' outs l L L' P count linked q a m low known C.agree) left_ranked.1 right_ranked.1 (term_vars L P l 0 q a (lefts_below q low) known) (term_vars L' P l 1 q a (rights_below q low) known)
+    clash_ended = along_ended outs (agree_along S n n' outs l L L' P count linked q a m low known C.agree) left_ranked.1 right_ranked.1 (term_vars L P l Left q a (lefts_below q low) known) (term_vars L' P l Right q a (rights_below q low) known)
 
     module _ {e : ℕ} (leaf : l.symbol ≡ e) {steps : List ℕ} {child step_count b b' : ℕ} (B : BottomFound S.ins S.starts S.bytes S.starts' S.bytes' e mark.0 mark.1 mark'.0 mark'.1 steps child step_count b b') where
       abbrev below : Tree
@@ -167,7 +170,7 @@ module _ (S : Sides) (n n' : ℕ) (outs : List ℕ) (l : Leaf S.ins) (L : Layout
 
       clash_gives : Gives b b' q (tree_for G S.ins q a child below) spot
       clash_gives =
-          rw (out_fill wf S.ins P 0 q a child below clash_alone, out_fill wf' S.ins P 1 q a child below clash_alone)
+          rw (out_fill wf S.ins P Left q a child below clash_alone, out_fill wf' S.ins P Right q a child below clash_alone)
           (subst (Along (RootsAre outs b b') _ _) (append-nil spot) (along_bind _ _ (λ t u E. here (clash_separates t u E).roots) clash_ended))
 
       clash_shown : Shown G M M' Small (sorts_for S.ins q a) (left_term M P q a) (right_term M' P q a) spot
@@ -209,33 +212,18 @@ module _ (S : Sides) (n n' : ℕ) (outs : List ℕ) (l : Leaf S.ins) (L : Layout
           }
 
 -- ---- what inner functions ask and answer, from a clash to a shown difference
-module _ {ins outs starts bytes : List ℕ} {n : ℕ} {starts' bytes' : List ℕ} {n' : ℕ} (C : Comparable ins outs starts bytes n starts' bytes' n') {P : List ℕ} {q a m : ℕ} (K : Clashes (sides ins starts bytes starts' bytes') n n' P q a m) where
-  lefts : StatesBelow P 0 q n
+module _ {ins outs starts bytes : List ℕ} {n : ℕ} {starts' bytes' : List ℕ} {n' : ℕ} (C : Comparable ins outs starts bytes n starts' bytes' n') {P : List Pair} {q a m : ℕ} (K : Clashes (sides ins starts bytes starts' bytes') n n' P q a m) where
+  lefts : StatesBelow P Left q n
   lefts p h = (K.linked p (omega (arith, K.parent))).left
 
-  rights : StatesBelow P 1 q n'
+  rights : StatesBelow P Right q n'
   rights p h = (K.linked p (omega (arith, K.parent))).right
 
-  left : SideThere ins outs starts bytes n P 0 q a
-  left = side_there C.left P 0 q a lefts K.known
+  left : SideThere ins outs starts bytes n P Left q a
+  left = side_there C.left P Left q a lefts K.known
 
-  right : SideThere ins outs starts' bytes' n' P 1 q a
-  right = side_there C.right P 1 q a rights K.known
-
-  show_bodied : {x : ℕ} → (0 < q → x < 128) → Bodied ins q a x
-  show_bodied h = record { long = omega (arith, K.parent, K.few); few_inputs = C.ins_ranks.few; known = K.known; state = h }
-
-  pub show_bodied_left : Bodied ins q a (pair_left P (q - 1))
-  show_bodied_left = show_bodied (λ o. omega (arith, lefts (q - 1) (omega arith), C.left.few_states))
-
-  pub show_bodied_right : Bodied ins q a (pair_right P (q - 1))
-  show_bodied_right = show_bodied (λ o. omega (arith, rights (q - 1) (omega arith), C.right.few_states))
-
-  pub show_left : left_body ins P q a < length starts
-  show_left = body_start C.left left.body
-
-  pub show_right : right_body ins P q a < length starts'
-  show_right = body_start C.right right.body
+  right : SideThere ins outs starts' bytes' n' P Right q a
+  right = side_there C.right P Right q a rights K.known
 
   small : m ≤ 63
   small = mark_small C.left left.body m K.clash.agree.inside
@@ -268,7 +256,7 @@ module _ {ins outs starts bytes : List ℕ} {n : ℕ} {starts' bytes' : List ℕ
   stands p h =
       let R = K.linked p (omega (arith, K.parent)) in
       let A = R.calls in
-      let T = side_there C.left P 0 (pair_parent P p) (pair_symbol P p) (λ o t. lefts o (omega (arith, R.parent))) R.symbol in
+      let T = side_there C.left P Left (pair_parent P p) (pair_symbol P p) (λ o t. lefts o (omega (arith, R.parent))) R.symbol in
       record {
         left = R.left;
         parent = R.parent;

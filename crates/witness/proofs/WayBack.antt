@@ -1,6 +1,6 @@
 -- The way back along the list of pairs in bytes: what stands in the buffer and at the end of the area, step by step.
 -- Assumes nothing.
-use Prim.Native.Nat.{ℕ, suc, ◌+◌, ◌-◌, ◌*◌, ◌≤◌, ◌<◌}
+use Prim.Native.Nat.{ℕ, suc, ◌+◌, ◌*◌, ◌≤◌, ◌<◌}
 use native.Mathlib.Decide.{ℕ_discrete}
 use native.Mathlib.Omega.{arith}
 use mathlib.Core.List.{List, ◌++◌, append_assoc}
@@ -17,8 +17,11 @@ use Rattle.forms.specs.Alphabet.{alphabet}
 use Rattle.forms.specs.Inner.Tables.{machine, Layout}
 use Rattle.earliest.specs.Inner.Places.{place}
 use Rattle.classes.specs.Inner.Classes.{at}
-use Rattle.witness.specs.Inner.Bottoms.{Bodied, BottomAsked, BottomFound, no_path, second_path, first_path, Upable, Upped, RootAsked, RootFound, Stands, Leading, Roomy, StatesBelow, Stand, StepsBack, TracesBack}
-use Rattle.pairs.specs.Inner.Pairs.{pair_byte, pair_left, pair_parent, pair_symbol, pair_mark, pair_child, body_of, left_body}
+use Rattle.witness.specs.Inner.Bottoms.{BottomFound, no_path, second_path, first_path, Upable, Upped, RootAsked, RootFound, Stands, Leading, Roomy, StatesBelow, Stand, StepsBack, TracesBack}
+use Rattle.pairs.specs.declared.pairs.Pair.{Pair}
+use Rattle.pairs.specs.declared.pairs.Side.{Side}
+use Rattle.pairs.specs.declared.pairs.Side.TheVariants.{Left}
+use Rattle.pairs.specs.Inner.Pairs.{pair_state, pair_parent, pair_symbol, pair_mark, pair_child, body_of, left_body}
 use Rattle.witness.specs.Inner.Paths.{term_of, left_term, pair_place, tree_for, Path, path_end, path_on}
 use Rattle.witness.specs.Inner.Shown.{steps_tree, Added, StepsAsked, StepsWritten, InBody, AddressAsked, EndsBefore, AddressWritten}
 use Rattle.witness.proofs.Bottoms.{bottom_few}
@@ -54,9 +57,6 @@ bottom_steps (first_path o A F) k h = F.path.inside k h
 module _ {ins starts bytes : List ℕ} {n : ℕ} {starts' bytes' : List ℕ} {n' e i j q a : ℕ} {buffer : List ℕ} (R : RootAsked ins starts bytes n starts' bytes' n' e i j q a buffer) where
   abbrev Below : List ℕ → ℕ → ℕ → ℕ → ℕ → Type 0
   Below steps child count b b' = BottomFound ins starts bytes starts' bytes' e (get_or bytes (2 * i) 0) (get_or bytes (2 * i + 1) 0) (get_or bytes' (2 * j) 0) (get_or bytes' (2 * j + 1) 0) steps child count b b'
-
-  pub root_bottom : {c x c' x' : ℕ} {steps : List ℕ} → c ≡ get_or bytes (2 * i) 0 → x ≡ get_or bytes (2 * i + 1) 0 → c' ≡ get_or bytes' (2 * j) 0 → x' ≡ get_or bytes' (2 * j + 1) 0 → 256 ≤ length steps → BottomAsked ins starts bytes n starts' bytes' n' e c x c' x' steps
-  root_bottom f g f' g' room = rw (f, g, f', g') (record { outs = R.outs; forms = R.forms; leaf = R.leaf; state = R.state; state' = R.state'; room = room })
 
   pub root_below : {c x c' x' : ℕ} {steps : List ℕ} {child count b b' : ℕ} → c ≡ get_or bytes (2 * i) 0 → x ≡ get_or bytes (2 * i + 1) 0 → c' ≡ get_or bytes' (2 * j) 0 → x' ≡ get_or bytes' (2 * j + 1) 0 → BottomFound ins starts bytes starts' bytes' e c x c' x' steps child count b b' → Below steps child count b b'
   root_below f g f' g' B = rw (f, g, f', g') at B
@@ -133,20 +133,20 @@ module _ {ins outs starts bytes : List ℕ} {n q a j : ℕ} (L : Layout ins outs
     mark_body = record { whole = B.spells.whole; inside = B.spells.inside; there = inside }
 
 -- the body on one side is the term of the parent
-pub record SideThere (ins outs starts bytes : List ℕ) (n : ℕ) (P : List ℕ) (side q a : ℕ) : Type 0 where
+pub record SideThere (ins outs starts bytes : List ℕ) (n : ℕ) (P : List Pair) (side : Side) (q a : ℕ) : Type 0 where
   pub body : BodyThere ins outs starts bytes n q a (body_of ins P side q a)
   pub term : term_of (machine ins outs starts bytes n) P side q a ≡ spelt outs n body.rank bytes (at starts (body_of ins P side q a)) (at starts (body_of ins P side q a + 1))
 
-module _ {ins outs starts bytes : List ℕ} {n : ℕ} (L : Layout ins outs starts bytes n) (P : List ℕ) where
-  pub side_there : (side q a : ℕ) → StatesBelow P side q n → (0 < q → a < length ins) → SideThere ins outs starts bytes n P side q a
+module _ {ins outs starts bytes : List ℕ} {n : ℕ} (L : Layout ins outs starts bytes n) (P : List Pair) where
+  pub side_there : (side : Side) (q a : ℕ) → StatesBelow P side q n → (0 < q → a < length ins) → SideThere ins outs starts bytes n P side q a
   unfolding body_of term_of transducer body
   side_there side ℕ.zero a b g = record { body = record { rank = 1; spells = initial_spelt L; there = omega arith; ranked = λ h. absurd (omega arith) }; term = refl }
   side_there side (suc p) a b g =
       let s = b p (omega arith) in
       let i = g (omega arith) in
-      record { body = record { rank = get_or ins a 0; spells = rhs_spelt L (pair_byte P side p) a s i; there = number_less ins _ _ a s i; ranked = λ h. refl }; term = refl }
+      record { body = record { rank = get_or ins a 0; spells = rhs_spelt L (pair_state P side p) a s i; there = number_less ins _ _ a s i; ranked = λ h. refl }; term = refl }
 
-  module _ (q a m : ℕ) (T : SideThere ins outs starts bytes n P 0 q a) (inside : at starts (left_body ins P q a) + m < at starts (left_body ins P q a + 1)) where
+  module _ (q a m : ℕ) (T : SideThere ins outs starts bytes n P Left q a) (inside : at starts (left_body ins P q a) + m < at starts (left_body ins P q a + 1)) where
     pub left_address_asked : (area : List ℕ) (w from : ℕ) → from ≡ at starts (left_body ins P q a) → Ranks 64 outs → m ≤ w → w ≤ length area → AddressAsked outs bytes from m area w
     left_address_asked area w from e R h g = record { low = R.low; states = n; children = T.body.rank; to = at starts (left_body ins P q a + 1); body = rw e (mark_body L T.body m inside); room = h; end = g }
 
@@ -164,18 +164,15 @@ ends_before {v} {area} {w} {after} {r} E h =
     ∙ ap (λ k. v ++ drop k area) long
 
 -- ---- one step back
-module _ {ins outs starts bytes P : List ℕ} {e : ℕ} (p : ℕ) (L : Leading ins outs starts bytes P e (p + 1)) where
+module _ {ins outs starts bytes : List ℕ} {P : List Pair} {e : ℕ} (p : ℕ) (L : Leading ins outs starts bytes P e (p + 1)) where
   abbrev K : Stands ins starts L.states P p
   K = L.stands p (omega arith)
 
-  lefts : StatesBelow P 0 (pair_parent P p) L.states
+  lefts : StatesBelow P Left (pair_parent P p) L.states
   lefts o h = (L.stands o (omega (arith, K.parent))).left
 
-  pub back_bodied : {q a : ℕ} → q ≡ pair_parent P p → a ≡ pair_symbol P p → Bodied ins q a (pair_left P (q - 1))
-  back_bodied f g = rw (f, g) (record { long = omega (arith, K.parent, L.long); few_inputs = L.ins_ranks.few; known = K.symbol; state = λ o. omega (arith, lefts (pair_parent P p - 1) (omega arith), L.layout.few_states) })
-
-  there : SideThere ins outs starts bytes L.states P 0 (pair_parent P p) (pair_symbol P p)
-  there = side_there L.layout P 0 (pair_parent P p) (pair_symbol P p) lefts K.symbol
+  there : SideThere ins outs starts bytes L.states P Left (pair_parent P p) (pair_symbol P p)
+  there = side_there L.layout P Left (pair_parent P p) (pair_symbol P p) lefts K.symbol
 
   small : pair_mark P p ≤ 63
   small = mark_small L.layout there.body (pair_mark P p) K.inside
@@ -183,24 +180,9 @@ module _ {ins outs starts bytes P : List ℕ} {e : ℕ} (p : ℕ) (L : Leading i
   body_is : {q a j : ℕ} → q ≡ pair_parent P p → a ≡ pair_symbol P p → j ≡ left_body ins P q a → j ≡ left_body ins P (pair_parent P p) (pair_symbol P p)
   body_is f g z = z ∙ ap₂ (left_body ins P) f g
 
-  pub back_start : {q a j : ℕ} → q ≡ pair_parent P p → a ≡ pair_symbol P p → j ≡ left_body ins P q a → j < length starts
-  back_start f g z = rw (body_is f g z) (body_start L.layout there.body)
-
   module _ {buffer : List ℕ} {lo hi : ℕ} {area : List ℕ} {w : ℕ} (R : Roomy (p + 1) buffer lo hi area w) {q a : ℕ} (f : q ≡ pair_parent P p) (g : a ≡ pair_symbol P p) where
     pub back_address_asked : {m j from : ℕ} → m ≡ pair_mark P p → j ≡ left_body ins P q a → from ≡ at starts j → AddressAsked outs bytes from m area w
     back_address_asked {from = from} h z s = rw h (left_address_asked L.layout P (pair_parent P p) (pair_symbol P p) (pair_mark P p) there K.inside area w from (s ∙ ap (at starts) (body_is f g z)) L.outs_ranks (omega (arith, small, R.before)) R.end)
-
-    pub back_upable : {i : ℕ} → i ≡ pair_child P p → Upable ins e q a i buffer lo hi
-    back_upable k = rw (f, g, k) (record {
-      ordered = R.ordered;
-      step = λ o. record {
-        symbols = record { ranks = L.ins_ranks; leaf = L.leaf; there = K.symbol o };
-        child = K.child o;
-        left = omega (arith, R.left);
-        ordered = R.ordered;
-        right = omega (arith, R.right);
-      };
-    })
 
     pub back_done : {m i j from : ℕ} {area' : List ℕ} {w' : ℕ} {buffer' : List ℕ} {lo' hi' : ℕ} → m ≡ pair_mark P p → i ≡ pair_child P p → j ≡ left_body ins P q a → from ≡ at starts j → AddressWritten outs bytes from m area w area' w' → length area' ≡ length area → Upped ins e q a i buffer lo hi buffer' lo' hi' → length buffer' ≡ length buffer → StepsBack ins outs starts bytes P e p buffer lo hi area w buffer' lo' hi' area' w'
     back_done {m} {i} {j} {from} {area'} {w'} {buffer'} {lo'} {hi'} h k z s C n U n' =
@@ -218,43 +200,30 @@ module _ {ins outs starts bytes P : List ℕ} {e : ℕ} (p : ℕ) (L : Leading i
           };
           back = λ n l Y y B d v S. (
             Z.tree l y d S.0,
-            ends_before (left_address Y P (pair_parent P p) (pair_symbol P p) (pair_mark P p) (side_there Y P 0 (pair_parent P p) (pair_symbol P p) (λ o t. B o (omega (arith, K.parent))) K.symbol) K.inside s' D) R.end ∙ ap (◌++◌ (pair_place (machine ins outs starts bytes n) P p)) S.1,
+            ends_before (left_address Y P (pair_parent P p) (pair_symbol P p) (pair_mark P p) (side_there Y P Left (pair_parent P p) (pair_symbol P p) (λ o t. B o (omega (arith, K.parent))) K.symbol) K.inside s' D) R.end ∙ ap (◌++◌ (pair_place (machine ins outs starts bytes n) P p)) S.1,
           );
         }
 
 -- ---- all steps back
 -- parent r reads d' and v', and wherever the list leads from there it leads from parent q
-pub record OnWay (ins outs starts bytes P : List ℕ) (n : ℕ) (l : Leaf ins) (q : ℕ) (d : Tree) (v buffer : List ℕ) (from to : ℕ) (area : List ℕ) (w r : ℕ) : Type 0 where
+pub record OnWay (ins outs starts bytes : List ℕ) (P : List Pair) (n : ℕ) (l : Leaf ins) (q : ℕ) (d : Tree) (v buffer : List ℕ) (from to : ℕ) (area : List ℕ) (w r : ℕ) : Type 0 where
   pub tree : Tree
   pub address : List ℕ
   pub stand : Stand buffer from to tree area w address
   pub onward : (T : Tree) (U : List ℕ) → Path (alphabet ins l) ins (machine ins outs starts bytes n) P r tree address T U → Path (alphabet ins l) ins (machine ins outs starts bytes n) P q d v T U
 
-pub record WayLoop (ins outs starts bytes P : List ℕ) (e q : ℕ) (buffer₀ : List ℕ) (lo hi : ℕ) (area₀ : List ℕ) (at : ℕ) (buffer : List ℕ) (from to : ℕ) (area : List ℕ) (w r : ℕ) : Type 0 where
+pub record WayLoop (ins outs starts bytes : List ℕ) (P : List Pair) (e q : ℕ) (buffer₀ : List ℕ) (lo hi : ℕ) (area₀ : List ℕ) (at : ℕ) (buffer : List ℕ) (from to : ℕ) (area : List ℕ) (w r : ℕ) : Type 0 where
   pub small : r ≤ q
   pub same_buffer : length buffer ≡ length buffer₀
   pub same_area : length area ≡ length area₀
   pub roomy : Roomy r buffer from to area w
-  pub way : (n : ℕ) (l : Leaf ins) → Layout ins outs starts bytes n → l.symbol ≡ e → StatesBelow P 0 q n → (d : Tree) (v : List ℕ) → Stand buffer₀ lo hi d area₀ at v → OnWay ins outs starts bytes P n l q d v buffer from to area w r
+  pub way : (n : ℕ) (l : Leaf ins) → Layout ins outs starts bytes n → l.symbol ≡ e → StatesBelow P Left q n → (d : Tree) (v : List ℕ) → Stand buffer₀ lo hi d area₀ at v → OnWay ins outs starts bytes P n l q d v buffer from to area w r
 
-module _ {ins outs starts bytes P : List ℕ} {e q : ℕ} (L : Leading ins outs starts bytes P e q) {buffer₀ : List ℕ} {lo hi : ℕ} {area₀ : List ℕ} {at₀ : ℕ} (R : Roomy q buffer₀ lo hi area₀ at₀) where
+module _ {ins outs starts bytes : List ℕ} {P : List Pair} {e q : ℕ} (L : Leading ins outs starts bytes P e q) {buffer₀ : List ℕ} {lo hi : ℕ} {area₀ : List ℕ} {at₀ : ℕ} (R : Roomy q buffer₀ lo hi area₀ at₀) where
   abbrev Loop : List ℕ → ℕ → ℕ → List ℕ → ℕ → ℕ → Type 0
   Loop buffer from to area w r = WayLoop ins outs starts bytes P e q buffer₀ lo hi area₀ at₀ buffer from to area w r
 
-  pub way_start : Loop buffer₀ lo hi area₀ at₀ q
-  way_start = record { small = omega arith; same_buffer = refl; same_area = refl; roomy = R; way = λ n l Y y B d v S. record { tree = d; address = v; stand = S; onward = λ T U r. r } }
-
   module _ {buffer : List ℕ} {from to : ℕ} {area : List ℕ} {w r : ℕ} (I : Loop buffer from to area w r) where
-    pub way_asks : (p : ℕ) → r ≡ p + 1 → Leading ins outs starts bytes P e (p + 1) × Roomy (p + 1) buffer from to area w
-    way_asks p z = (
-      record { states = L.states; layout = L.layout; ins_ranks = L.ins_ranks; outs_ranks = L.outs_ranks; leaf = L.leaf; long = omega (arith, L.long, I.small); stands = λ o h. L.stands o (omega (arith, I.small)) },
-      rw z at I.roomy,
-    )
-
-    -- the parent of a pair comes before it
-    pub way_less : (p : ℕ) → r ≡ p + 1 → {r' : ℕ} → r' ≡ pair_parent P p → r' < r
-    way_less p z f = omega (arith, (L.stands p (omega (arith, I.small))).parent)
-
     pub way_next : (p : ℕ) → r ≡ p + 1 → {r' : ℕ} → r' ≡ pair_parent P p → {buffer' : List ℕ} {from' to' : ℕ} {area' : List ℕ} {w' : ℕ} → length buffer' ≡ length buffer → length area' ≡ length area → StepsBack ins outs starts bytes P e p buffer from to area w buffer' from' to' area' w' → Loop buffer' from' to' area' w' r'
     way_next p z {r'} f n n' B =
         let K = L.stands p (omega (arith, I.small)) in

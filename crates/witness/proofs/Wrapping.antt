@@ -121,12 +121,6 @@ module _ {ins buffer : List ℕ} {e a i lo hi : ℕ} (P : Wrappable ins e a i bu
 
 -- ---- a step more
 module _ {ins buffer : List ℕ} {e a i lo hi : ℕ} (P : Addable ins e a i buffer lo hi) where
-  pub symbol_asked : SymbolAsked ins e a buffer lo
-  symbol_asked = record { symbols = P.symbols; room = omega (arith, P.ordered, P.right) }
-
-  pub to_wrap : 0 < i → Wrappable ins e a i buffer lo hi
-  to_wrap h = record { symbols = P.symbols; from_one = h; child = P.child; left = P.left; ordered = omega (arith, P.ordered); right = P.right }
-
   pub added_leaves : {after : List ℕ} {from to : ℕ} → i ≡ 0 → SymbolWritten ins e a lo after from to → Added ins e a i buffer lo hi after from to
   added_leaves {after} {from} {to} z R =
       let low = P.symbols.ranks.low a P.symbols.there in

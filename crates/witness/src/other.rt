@@ -1,125 +1,102 @@
 // An input tree on which a state's output has a root symbol other than b: the distances of the states, and the steps along which they decrease.
 ghost use Rattle.std.specs.Prelude.{◌+◌, ◌*◌, ◌≤◌, ◌<◌, ◌≡◌, length};
-ghost use Rattle.witness.specs.Inner.Other.{step_distance, DistanceTableAt, FindsDistance, Settable, SetsDistance, Sweepable, SweepsDistances, Fillable, FillsDistances, Steppable, FindsStep, PutsStep, PathAsked, DecreasingPath};
+ghost use Rattle.witness.specs.Inner.Other.{step_distance, IsDistance, DistanceTableAt, FindsDistance, Settable, SetsDistance, Sweepable, SweepsDistances, Fillable, FillsDistances, Steppable, FindsStep, PutsStep, PathAsked, DecreasingPath};
 
-use trees::bytes::{number, wide};
+use pairs::pairs::Tables;
 
-// How far the right-hand side of q for a is from a root symbol other than b: 1 if it has one, one more than the state called if it is a call alone, else 0.
+// How far the right-hand side of q for a is from a root symbol other than b: 1 if it has one, one more than the state called if it is a call alone.
 fn step_distance(
     ins: &[u8],
-    starts: &[u16],
-    marks: &[u8],
+    form: Tables,
     dist: &[u8],
     q: usize,
     a: usize,
     b: usize,
-) -> usize
-    requires { DistanceTableAt ins.now starts.now marks.now dist.now q × (a < length ins.now) }
-    ensures { (result ≡ step_distance ins.now starts.now marks.now dist.now b q a) × (result ≤ 256) }
+) -> Option<usize>
+    requires { DistanceTableAt ins.now form.starts.now form.marks.now dist.now q × (a < length ins.now) }
+    ensures { IsDistance (step_distance ins.now form.entry.starts.now form.entry.marks.now dist.now b q a) result }
 {
-    let at = 2 * number(starts[1 + q * ins.len() + a]);
-    let x = wide(marks[at + 1]);
-    if marks[at] == 0 {
+    let at = 2 * usize::from(form.starts[1 + q * ins.len() + a]);
+    let x = usize::from(form.marks[at + 1]);
+    if form.marks[at] == 0 {
         if x == b {
-            return 0;
+            return None;
         }
-        return 1;
+        return Some(1);
     }
-    let d = wide(dist[x]);
+    // Stays: 0 for none in the table, a fixed array with one byte for a state.
+    let d = usize::from(dist[x]);
     if d == 0 {
-        return 0;
+        return None;
     }
-    d + 1
+    Some(d + 1)
 }
 
-// The distance of the first right-hand side of q that has one, or 0.
-fn find_distance(ins: &[u8], starts: &[u16], marks: &[u8], dist: &[u8], q: usize, b: usize) -> usize
-    requires { DistanceTableAt ins.now starts.now marks.now dist.now q }
-    ensures { FindsDistance ins.now starts.now marks.now dist.now q b result }
+// The distance of the first right-hand side of q that has one.
+fn find_distance(ins: &[u8], form: Tables, dist: &[u8], q: usize, b: usize) -> Option<usize>
+    requires { DistanceTableAt ins.now form.starts.now form.marks.now dist.now q }
+    ensures { FindsDistance ins.now form.entry.starts.now form.entry.marks.now dist.now q b result }
 {
-    let mut a = 0;
-    while a < ins.len() {
-        let d = step_distance(ins, starts, marks, dist, q, a, b);
-        if d > 0 {
-            return d;
+    for a in 0..ins.len() {
+        if let Some(d) = step_distance(ins, form, dist, q, a, b) {
+            return Some(d);
         }
-        a += 1;
     }
-    0
+    None
 }
 
 // Gives state q its distance, if it has none and one of its right-hand sides has one; says whether it did.
-fn set_distance(
-    ins: &[u8],
-    starts: &[u16],
-    marks: &[u8],
-    dist: &mut [u8],
-    q: usize,
-    b: usize,
-) -> bool
-    requires { Settable ins.now starts.now marks.now dist.old q b }
-    ensures { SetsDistance ins.now starts.now marks.now dist.old q b dist.new result }
+fn set_distance(ins: &[u8], form: Tables, dist: &mut [u8], q: usize, b: usize) -> bool
+    requires { Settable ins.now form.starts.now form.marks.now dist.old q b }
+    ensures { SetsDistance ins.now form.entry.starts.now form.entry.marks.now dist.old q b dist.new result }
 {
     if dist[q] > 0 {
         return false;
     }
-    let d = find_distance(ins, starts, marks, dist, q, b);
-    if d == 0 {
-        return false;
+    match find_distance(ins, form, dist, q, b) {
+        Some(d) => {
+            dist[q] = d as u8;
+            true
+        }
+        None => false,
     }
-    dist[q] = d as u8;
-    true
 }
 
-// Does so for each of n states, and says whether any got a distance.
-fn sweep_distances(
-    ins: &[u8],
-    starts: &[u16],
-    marks: &[u8],
-    n: usize,
-    b: usize,
-    dist: &mut [u8],
-) -> bool
-    requires { Sweepable ins.now starts.now marks.now n b dist.old }
-    ensures { SweepsDistances ins.now starts.now marks.now n b dist.old dist.new result }
+// Does so for each state, and says whether any got a distance.
+fn sweep_distances(ins: &[u8], form: Tables, b: usize, dist: &mut [u8]) -> bool
+    requires { Sweepable ins.now form.starts.now form.marks.now form.states b dist.old }
+    ensures { SweepsDistances ins.now form.entry.starts.now form.entry.marks.now form.entry.states b dist.old dist.new result }
 {
     let mut any = false;
-    let mut q = 0;
-    while q < n {
-        if set_distance(ins, starts, marks, dist, q, b) {
+    for q in 0..form.states {
+        if set_distance(ins, form, dist, q, b) {
             any = true;
         }
-        q += 1;
     }
     any
 }
 
-// The distances of n states, from zeros: sweeps over the states until one finds nothing.
-pub(crate) fn fill_distances(
-    ins: &[u8],
-    starts: &[u16],
-    marks: &[u8],
-    n: usize,
-    b: usize,
-    dist: &mut [u8],
-)
-    requires { Fillable ins.now starts.now marks.now n dist.old }
-    ensures { FillsDistances ins.now starts.now marks.now n b dist.new }
+// The distances of all states, from zeros: sweeps over the states until one finds nothing.
+pub(crate) fn fill_distances(ins: &[u8], form: Tables, b: usize, dist: &mut [u8])
+    requires { Fillable ins.now form.starts.now form.marks.now form.states dist.old }
+    ensures { FillsDistances ins.now form.entry.starts.now form.entry.marks.now form.entry.states b dist.new }
 {
     let mut more = true;
+    // Stays `while`: until a sweep finds nothing.
     while more {
-        more = sweep_distances(ins, starts, marks, n, b, dist);
+        more = sweep_distances(ins, form, b, dist);
     }
 }
 
 // The first symbol for which the right-hand side of q is as far as q.
-fn find_step(ins: &[u8], starts: &[u16], marks: &[u8], dist: &[u8], q: usize, b: usize) -> usize
-    requires { Steppable ins.now starts.now marks.now dist.now q b }
-    ensures { FindsStep ins.now starts.now marks.now dist.now q b result }
+fn find_step(ins: &[u8], form: Tables, dist: &[u8], q: usize, b: usize) -> usize
+    requires { Steppable ins.now form.starts.now form.marks.now dist.now q b }
+    ensures { FindsStep ins.now form.entry.starts.now form.entry.marks.now dist.now q b result }
 {
-    let d = wide(dist[q]);
+    let d = Some(usize::from(dist[q]));
     let mut a = 0;
-    while step_distance(ins, starts, marks, dist, q, a, b) != d {
+    // Stays `while`: one symbol is as far, so no end is tested.
+    while step_distance(ins, form, dist, q, a, b) != d {
         a += 1;
     }
     a
@@ -128,27 +105,26 @@ fn find_step(ins: &[u8], starts: &[u16], marks: &[u8], dist: &[u8], q: usize, b:
 // Writes the step from q, the symbol and the child called, 0 if there is none, as step k; answers the state called, or the root symbol if there is none.
 fn put_step(
     ins: &[u8],
-    starts: &[u16],
-    marks: &[u8],
+    form: Tables,
     dist: &[u8],
     q: usize,
     b: usize,
     steps: &mut [u8],
     k: usize,
 ) -> usize
-    requires { Steppable ins.now starts.now marks.now dist.now q b × (2 * k + 1 < length steps.old) }
-    ensures { PutsStep ins.now starts.now marks.now dist.now q b steps.old k steps.new result }
+    requires { Steppable ins.now form.starts.now form.marks.now dist.now q b × (2 * k + 1 < length steps.old) }
+    ensures { PutsStep ins.now form.entry.starts.now form.entry.marks.now dist.now q b steps.old k steps.new result }
 {
-    let a = find_step(ins, starts, marks, dist, q, b);
-    let at = 2 * number(starts[1 + q * ins.len() + a]);
+    let a = find_step(ins, form, dist, q, b);
+    let at = 2 * usize::from(form.starts[1 + q * ins.len() + a]);
     steps[2 * k] = a as u8;
-    steps[2 * k + 1] = marks[at];
-    wide(marks[at + 1])
+    steps[2 * k + 1] = form.marks[at];
+    usize::from(form.marks[at + 1])
 }
 
 // How many steps a path has, and the root symbol at its end.
-#[derive(Drop)]
-pub struct PathEnd {
+#[derive(Clone, Copy, Debug, PartialEq, Eq)]
+pub(crate) struct PathEnd {
     pub count: usize,
     pub symbol: usize,
 }
@@ -156,26 +132,21 @@ pub struct PathEnd {
 // The steps from q along which the distances decrease, two bytes each: a symbol, and the child that the next step goes on with, 0 at the last.
 pub(crate) fn write_path(
     ins: &[u8],
-    starts: &[u16],
-    marks: &[u8],
+    form: Tables,
     dist: &[u8],
     q: usize,
     b: usize,
     steps: &mut [u8],
 ) -> PathEnd
-    requires { PathAsked ins.now starts.now marks.now dist.now q b steps.old }
-    ensures { DecreasingPath ins.now starts.now marks.now dist.now q b steps.new result.count result.symbol }
+    requires { PathAsked ins.now form.starts.now form.marks.now dist.now q b steps.old }
+    ensures { DecreasingPath ins.now form.entry.starts.now form.entry.marks.now dist.now q b steps.new result.count result.symbol }
 {
-    let count = wide(dist[q]);
+    let count = usize::from(dist[q]);
+    let last = count - 1;
     let mut p = q;
-    let mut k = 0;
-    while k + 1 < count {
-        p = put_step(ins, starts, marks, dist, p, b, steps, k);
-        k += 1;
+    for k in 0..last {
+        p = put_step(ins, form, dist, p, b, steps, k);
     }
-    let symbol = put_step(ins, starts, marks, dist, p, b, steps, k);
-    PathEnd {
-        count: count,
-        symbol: symbol,
-    }
+    let symbol = put_step(ins, form, dist, p, b, steps, last);
+    PathEnd { count, symbol }
 }

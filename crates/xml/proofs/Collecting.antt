@@ -104,10 +104,6 @@ pub record Collected (text table : List ℕ) (n i : ℕ) : Type 0 where
   pub long : length table ≡ 4096
   pub kept : take n table ++ kinds_in (drop i text) ≡ kinds_in text
 
--- none is passed yet
-pub collect_none : (text table : List ℕ) → length table ≡ 4096 → Collected text table 0 0
-collect_none text table h = record { few = omega arith; inside = omega arith; long = h; kept = refl }
-
 module _ {text table : List ℕ} {n i : ℕ} (C : Collected text table n i) where
   module _ (inside : i < length text) {tail : List ℕ} (lent : tail ≡ drop i text) where
     step_here : kinds_in (drop i text) ≡ cons_if (opens tail) (unwrap_or (symbol_with (get_or tail 1 0 ∷ get_or tail 2 0 ∷ [])) 64) (kinds_in (drop (i + 1) text))

@@ -7,7 +7,7 @@ use mathlib.Core.Bool.{Bool}
 use mathlib.Core.List.{List, ◌++◌}
 use mathlib.Core.Path.{◌≡◌, refl, sym, ap, ap₂, subst, ◌∙◌}
 use lib.ListN.{length, take, drop}
-use lib.Seq.{sets-eq, length-take-le}
+use lib.Seq.{sets-eq}
 use Rattle.theory.specs.Size.{size}
 use Rattle.theory.specs.Term.{Tree}
 use Rattle.trees.specs.Alphabets.{Alphabets, outputs}
@@ -74,10 +74,6 @@ module _ {stock s outs : List ℕ} (A : Alphabets stock) (o : outs ≡ outputs s
     text_written h P = let F = whole_in_form o W in pass A (pass (tree outs s, F) (pass (tree outs s, (F, omega arith)) (accept (tree outs s, (F, P.size, P.wrote)))))
 
 -- ---- the reader
--- so many symbols were collected
-pub so_many : {text table : List ℕ} {n : ℕ} → Collects text table n → length (take n table) ≡ n
-so_many {table = table} {n} C = length-take-le n table (omega (arith, C.few, C.long))
-
 module _ {stock text outs table : List ℕ} {n : ℕ} (A : Alphabets stock) (o : outs ≡ outputs stock) (C : Collects text table n) where
   few : length outs ≤ 64
   few = omega (arith, A.outs.few, ap length o)

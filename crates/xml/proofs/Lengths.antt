@@ -1,6 +1,6 @@
 -- How long the text of a tree is: the tags of its symbols, added up along its code.
 -- Assumes nothing.
-use Prim.Native.Nat.{ℕ, zero, suc, ◌+◌, ◌*◌, ◌≤◌, ◌<◌}
+use Prim.Native.Nat.{ℕ, zero, suc, ◌+◌, ◌*◌, ◌≤◌}
 use native.Mathlib.Omega.{arith}
 use mathlib.Core.List.{List, [], ◌∷◌, ◌++◌}
 use mathlib.Core.Path.{◌≡◌, refl, ap, ◌∙◌}
@@ -8,7 +8,6 @@ use lib.ListN.{length, get_or, drop, length-append, drop_of_length-le}
 use Rattle.theory.specs.Term.{Tree, Terms, var, node, none, more, count}
 use Rattle.trees.specs.Code.{Ranked, AllRanked, code, preorder, preorders}
 use Rattle.trees.specs.Inner.Symbols.{tree, IsTree}
-use Rattle.trees.proofs.Extents.{letter_here}
 use Rattle.trees.proofs.Letters.{ranked_tree}
 use Rattle.trees.proofs.Trees.{whole_coded}
 use Rattle.xml.specs.Xml.{xml, xmls, closing}
@@ -59,16 +58,6 @@ pub node_small : (r : ℕ) → node_size r ≤ 9
 node_small zero = omega arith
 node_small (suc r) = omega arith
 
-pub none_added : (outs s : List ℕ) → Added outs s 0 0
-none_added outs s = record { inside = omega arith; sized = omega arith; small = omega arith }
-
 module _ {outs s : List ℕ} {size i : ℕ} (P : Added outs s size i) where
-  pub one_added : {k r z : ℕ} → i < length s → k ≡ get_or s i 0 → r ≡ get_or outs k 0 → z ≡ node_size r → Added outs s (size + z) (i + 1)
-  one_added {k} {r} h e f g = record {
-    inside = omega arith;
-    sized = omega (arith, P.sized, ap (tags_size outs) (letter_here s i 0 h e), ap node_size f);
-    small = omega (arith, P.small, node_small r);
-  }
-
   pub all_added : length s ≤ i → IsTree outs s → size ≡ length (xml (tree outs s))
   all_added h W = omega (arith, P.sized, ap (tags_size outs) (drop_of_length-le s {i = i} h), whole_text outs s W)

@@ -43,9 +43,6 @@ module _ {outs s table front : List ℕ} {behind : ℕ} (S : OutputStanding outs
     all_trees : Standing {A = ⊥} (symbol_of outs) s table behind
     all_trees = rw (S.parts ∙ ap (λ l. l ++ S.read) (nil_from_length front z)) S.trees
 
-    pub not_one_tree : (behind ≡ 1 → ⊥) → MeasuredOutput outs s None
-    not_one_tree f = not_whole (λ (W : WholeOutput outs s). standing.not_one all_trees f W.one)
-
     pub one_tree : behind ≡ 1 → {l : ℕ} → l ≡ get_or table 0 0 → MeasuredOutput outs s (some_extent (length s) l)
     unfolding tree trees
     one_tree b {l} e =

@@ -1,5 +1,5 @@
 -- What is answered once the parts of a transducer's file are known to be right.
-use Rattle.std.specs.Prelude.{None, Option, Some, ℕ, ◌<◌, List, ◌≡◌}
+use Rattle.std.specs.Prelude.{ℕ, ◌<◌, List}
 use Rattle.theory.specs.Earliest.{Earliest}
 use Rattle.theory.specs.NormalForm.{NormalForm}
 use Rattle.theory.specs.Numbered.{Numbered}
@@ -8,7 +8,8 @@ use Rattle.trees.specs.Alphabets.{Leaf, Alphabets, inputs, outputs}
 use Rattle.formats.specs.Sheet.{Encodes}
 use Rattle.forms.specs.Alphabet.{alphabet}
 use Rattle.forms.specs.Inner.Tables.{machine, Layout, Packed}
-use Rattle.earliest.specs.Inner.Loaded.{EarliestOf}
+use Rattle.earliest.specs.Inner.Loaded.{Whole}
+use Rattle.canonical.specs.Answers.{NormalFile}
 
 -- a transducer in a table
 pub record Reducible (ins outs starts bytes : List ℕ) (k : ℕ) : Type 0 where
@@ -30,10 +31,6 @@ pub record NormalOf (stock : List ℕ) (n : ℕ) (counts bytes : List ℕ) (k : 
   pub normal : (l : Leaf (inputs stock)) → NormalForm (alphabet (inputs stock) l) machine form k
   pub form_coded : Encodes (inputs stock) (outputs stock) k counts' bytes' form
 
--- the normal form stands in the table; or the earliest form is over the limits of a file
-pub record NormalBy (stock : List ℕ) (n : ℕ) (counts bytes starts out : List ℕ) (r : Option ℕ) : Type 0 where
-  pub over : r ≡ None → (k : ℕ) (counts' bytes' : List ℕ) → EarliestOf stock n counts bytes k counts' bytes' → ⊥
-  pub within : (k : ℕ) → r ≡ Some k → (k' : ℕ) × ((counts' : List ℕ) × ((bytes' : List ℕ) × EarliestOf stock n counts bytes k' counts' bytes'))
-  pub layout : (k : ℕ) → r ≡ Some k → Layout (inputs stock) (outputs stock) starts out k
-  pub packed : (k : ℕ) → r ≡ Some k → Packed (inputs stock) starts k
-  pub normal : (k : ℕ) → r ≡ Some k → (M : Transducer ℕ) → Encodes (inputs stock) (outputs stock) n counts bytes M → (l : Leaf (inputs stock)) → NormalForm (alphabet (inputs stock) l) M (machine (inputs stock) (outputs stock) starts out k) k
+-- the normal form of the parts of a file is that of the file
+pub normal_whole : Whole NormalOf NormalFile
+normal_whole stock s n counts bytes coded k counts' bytes' K = record { alphabets = K.alphabets; states = n; machine = K.machine; sheet = record { counts = counts; bytes = bytes; coded = coded; encodes = K.machine_coded }; form = K.form; normal = K.normal; encodes = K.form_coded }

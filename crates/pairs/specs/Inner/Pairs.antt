@@ -10,6 +10,10 @@ use Rattle.forms.specs.Alphabet.{alphabet}
 use Rattle.forms.specs.Inner.Tables.{machine, Layout}
 use Rattle.classes.specs.Inner.Classes.{at}
 use Rattle.pairs.specs.declared.pairs.Clash.{Clash}
+use Rattle.pairs.specs.declared.pairs.Pair.{Pair}
+use Rattle.pairs.specs.declared.pairs.Tables.{Tables}
+use Rattle.pairs.specs.declared.pairs.Side.{Side}
+use Rattle.pairs.specs.declared.pairs.Side.TheVariants.{Left, Right}
 
 -- ---- the two transducers
 -- the input alphabet, and for each of the two where its bodies start and their marks
@@ -22,6 +26,9 @@ pub record Sides : Type 0 where
 
 abbrev pub sides : List ℕ → List ℕ → List ℕ → List ℕ → List ℕ → Sides
 sides ins starts bytes starts' bytes' = record { ins = ins; starts = starts; bytes = bytes; starts' = starts'; bytes' = bytes' }
+
+abbrev pub sides_of : List ℕ → Tables → Tables → Sides
+sides_of ins T U = sides ins T.starts.now T.marks.now U.starts.now U.marks.now
 
 -- both are transducers over one output alphabet, with n and n' states
 pub record Forms (S : Sides) (n n' : ℕ) : Type 0 where
@@ -72,32 +79,44 @@ pub record ClashesAt (S : Sides) (j j' m : ℕ) : Type 0 where
   pub agree : Agree S j j' m
   pub clash : Clashing S.bytes S.bytes' (at S.starts j + m) (at S.starts' j' + m)
 
--- ---- the list of pairs, six bytes each
--- byte k of pair p
-abbrev pub pair_byte : List ℕ → ℕ → ℕ → ℕ
-pair_byte P k p = get_or P (6 * p + k) 0
+-- ---- the list of pairs
+-- a place that is not used
+abbrev pub no_pair : Pair
+no_pair = record { left = 0; right = 0; parent = 0; symbol = 0; mark = 0; child = 0 }
+
+-- pair p
+abbrev pub pair_at : List Pair → ℕ → Pair
+pair_at P p = get_or P p no_pair
 
 -- its left state, its right state; its parent: 0 if it stands in the initial terms, p + 1 if in right-hand sides of pair p; their symbol; the number of the mark there; the child called
-abbrev pub pair_left : List ℕ → ℕ → ℕ
-pair_left P p = pair_byte P 0 p
+abbrev pub pair_left : List Pair → ℕ → ℕ
+pair_left P p = (pair_at P p).left
 
-abbrev pub pair_right : List ℕ → ℕ → ℕ
-pair_right P p = pair_byte P 1 p
+abbrev pub pair_right : List Pair → ℕ → ℕ
+pair_right P p = (pair_at P p).right
 
-abbrev pub pair_parent : List ℕ → ℕ → ℕ
-pair_parent P p = pair_byte P 2 p
+abbrev pub pair_parent : List Pair → ℕ → ℕ
+pair_parent P p = (pair_at P p).parent
 
-abbrev pub pair_symbol : List ℕ → ℕ → ℕ
-pair_symbol P p = pair_byte P 3 p
+abbrev pub pair_symbol : List Pair → ℕ → ℕ
+pair_symbol P p = (pair_at P p).symbol
 
-abbrev pub pair_mark : List ℕ → ℕ → ℕ
-pair_mark P p = pair_byte P 4 p
+abbrev pub pair_mark : List Pair → ℕ → ℕ
+pair_mark P p = (pair_at P p).mark
 
-abbrev pub pair_child : List ℕ → ℕ → ℕ
-pair_child P p = pair_byte P 5 p
+abbrev pub pair_child : List Pair → ℕ → ℕ
+pair_child P p = (pair_at P p).child
+
+-- its state on one side
+abbrev pub state_of : Pair → Side → ℕ
+state_of r Left = r.left
+state_of r Right = r.right
+
+abbrev pub pair_state : List Pair → Side → ℕ → ℕ
+pair_state P side p = state_of (pair_at P p) side
 
 -- pair p is x and y, on child c at mark m of the bodies for symbol a of parent q
-pub record Entry (P : List ℕ) (p q a m c x y : ℕ) : Type 0 where
+pub record Entry (P : List Pair) (p q a m c x y : ℕ) : Type 0 where
   pub left : pair_left P p ≡ x
   pub right : pair_right P p ≡ y
   pub parent : pair_parent P p ≡ q
@@ -106,24 +125,24 @@ pub record Entry (P : List ℕ) (p q a m c x y : ℕ) : Type 0 where
   pub child : pair_child P p ≡ c
 
 -- pair number count was added
-pub record Added (P P' : List ℕ) (count q a m c x y : ℕ) : Type 0 where
+pub record Added (P P' : List Pair) (count q a m c x y : ℕ) : Type 0 where
   pub long : length P' ≡ length P
-  pub keeps : (k : ℕ) → k < 6 * count → get_or P' k 0 ≡ get_or P k 0
+  pub keeps : (p : ℕ) → p < count → pair_at P' p ≡ pair_at P p
   pub entry : Entry P' count q a m c x y
 
--- the body of parent q for symbol a on one side, 0 the left and 1 the right: the initial term, or a right-hand side of a pair
-unfoldable pub body_of : List ℕ → List ℕ → ℕ → ℕ → ℕ → ℕ
+-- the body of parent q for symbol a on one side: the initial term, or a right-hand side of a pair
+unfoldable pub body_of : List ℕ → List Pair → Side → ℕ → ℕ → ℕ
 body_of ins P side ℕ.zero a = 0
-body_of ins P side (suc p) a = body_number ins (pair_byte P side p) a
+body_of ins P side (suc p) a = body_number ins (pair_state P side p) a
 
-abbrev pub left_body : List ℕ → List ℕ → ℕ → ℕ → ℕ
-left_body ins P q a = body_of ins P 0 q a
+abbrev pub left_body : List ℕ → List Pair → ℕ → ℕ → ℕ
+left_body ins P q a = body_of ins P Left q a
 
-abbrev pub right_body : List ℕ → List ℕ → ℕ → ℕ → ℕ
-right_body ins P q a = body_of ins P 1 q a
+abbrev pub right_body : List ℕ → List Pair → ℕ → ℕ → ℕ
+right_body ins P q a = body_of ins P Right q a
 
 -- pair p stands where the list says, in bodies of a pair before it or in the initial terms
-pub record Linked (S : Sides) (n n' : ℕ) (P : List ℕ) (p : ℕ) : Type 0 where
+pub record Linked (S : Sides) (n n' : ℕ) (P : List Pair) (p : ℕ) : Type 0 where
   pub left : pair_left P p < n
   pub right : pair_right P p < n'
   pub parent : pair_parent P p ≤ p
@@ -155,7 +174,7 @@ roots k ℕ.zero = 0
 roots k (suc n) = roots k n + ite (ℕ_discrete (k n) n) 1 0
 
 -- connected by the first pairs of the list
-pub data Connected (P : List ℕ) (count : ℕ) : ℕ → ℕ → Type 0 where
+pub data Connected (P : List Pair) (count : ℕ) : ℕ → ℕ → Type 0 where
   pair : (p : ℕ) → p < count → Connected P count (pair_left P p) (128 + pair_right P p)
   itself : (s : ℕ) → Connected P count s s
   back : {s t : ℕ} → Connected P count s t → Connected P count t s
@@ -166,10 +185,10 @@ pub data Connected (P : List ℕ) (count : ℕ) : ℕ → ℕ → Type 0 where
 pub record Table : Type 0 where
   pub left : List ℕ
   pub right : List ℕ
-  pub list : List ℕ
+  pub list : List Pair
   pub count : ℕ
 
-abbrev pub table : List ℕ → List ℕ → List ℕ → ℕ → Table
+abbrev pub table : List ℕ → List ℕ → List Pair → ℕ → Table
 table C D P count = record { left = C; right = D; list = P; count = count }
 
 abbrev pub class : Table → ℕ → ℕ
@@ -182,7 +201,7 @@ State T e = Member (length T.left) (length T.right) e
 pub record Merging (T : Table) : Type 0 where
   pub few_left : length T.left ≤ 128
   pub few_right : length T.right ≤ 128
-  pub room : 1536 ≤ length T.list
+  pub room : 256 ≤ length T.list
   pub few : T.count ≤ 255
   pub few_roots : T.count + roots (class T) 256 ≤ 256
   pub rooted : (e : ℕ) → State T e → State T (class T e) × (class T (class T e) ≡ class T e)
@@ -194,7 +213,7 @@ pub record Later (T T' : Table) : Type 0 where
   pub same_right : length T'.right ≡ length T.right
   pub same_list : length T'.list ≡ length T.list
   pub longer : T.count ≤ T'.count
-  pub keeps : (k : ℕ) → k < 6 * T.count → get_or T'.list k 0 ≡ get_or T.list k 0
+  pub keeps : (p : ℕ) → p < T.count → pair_at T'.list p ≡ pair_at T.list p
   pub coarser : (x y : ℕ) → x < length T.left → y < length T.right → at T.left x ≡ at T.right y → at T'.left x ≡ at T'.right y
 
 -- x and y are in one class now, and if they were not, they are the new pair
@@ -214,7 +233,7 @@ pub record Joinable (T : Table) (bytes bytes' : List ℕ) (i j n : ℕ) : Type 0
   pub there : (k : ℕ) → k < n → 0 < get_or bytes (2 * (i + k)) 0 → (get_or bytes (2 * (i + k) + 1) 0 < length T.left) × (get_or bytes' (2 * (j + k) + 1) 0 < length T.right)
 
 -- pair p is that of calls at one of these marks
-pub record Listed (P : List ℕ) (p q a : ℕ) (bytes bytes' : List ℕ) (i j n : ℕ) : Type 0 where
+pub record Listed (P : List Pair) (p q a : ℕ) (bytes bytes' : List ℕ) (i j n : ℕ) : Type 0 where
   pub mark : ℕ
   pub small : mark < n
   pub call : 0 < get_or bytes (2 * (i + mark)) 0
@@ -253,7 +272,7 @@ pub record Walkable (S : Sides) (T : Table) (q a j j' : ℕ) : Type 0 where
   pub right : right_body S.ins T.list q a ≡ j'
 
 -- the bodies of parent q for symbol a clash at mark m, and the list leads to them
-pub record Clashes (S : Sides) (n n' : ℕ) (P : List ℕ) (q a m : ℕ) : Type 0 where
+pub record Clashes (S : Sides) (n n' : ℕ) (P : List Pair) (q a m : ℕ) : Type 0 where
   pub count : ℕ
   pub few : count ≤ 255
   pub linked : (p : ℕ) → p < count → Linked S n n' P p
@@ -262,21 +281,21 @@ pub record Clashes (S : Sides) (n n' : ℕ) (P : List ℕ) (q a m : ℕ) : Type 
   pub clash : ClashesAt S (left_body S.ins P q a) (right_body S.ins P q a) m
 
 -- what the walk finds: they are one up to classes, or bodies clash
-pub record Walks (S : Sides) (T : Table) (C D P : List ℕ) (j j' : ℕ) (w : Result ℕ Clash) : Type 0 where
+pub record Walks (S : Sides) (T : Table) (C D : List ℕ) (P : List Pair) (j j' : ℕ) (w : Result ℕ Clash) : Type 0 where
   pub alike : (r : ℕ) → w ≡ Ok r → Goes S T (table C D P r) × Alike S (table C D P r) j j'
   pub clash : (e : Clash) → w ≡ Err e → Clashes S (length T.left) (length T.right) P e.parent e.symbol e.mark
 
 -- pair p: its right-hand sides are one up to classes, or those of one symbol clash
-pub record WalksPair (S : Sides) (T : Table) (C D P : List ℕ) (p : ℕ) (w : Result ℕ Clash) : Type 0 where
+pub record WalksPair (S : Sides) (T : Table) (C D : List ℕ) (P : List Pair) (p : ℕ) (w : Result ℕ Clash) : Type 0 where
   pub alike : (r : ℕ) → w ≡ Ok r → Goes S T (table C D P r) × ((a : ℕ) → a < length S.ins → Alike S (table C D P r) (body_number S.ins (pair_left P p) a) (body_number S.ins (pair_right P p) a))
   pub clash : (e : Clash) → w ≡ Err e → Clashes S (length T.left) (length T.right) P e.parent e.symbol e.mark
 
 -- the listed pairs: the right-hand sides of all are one up to classes, or those of one clash
-pub record WalksAll (S : Sides) (T : Table) (C D P : List ℕ) (v : Result (Unit {0}) Clash) : Type 0 where
+pub record WalksAll (S : Sides) (T : Table) (C D : List ℕ) (P : List Pair) (v : Result (Unit {0}) Clash) : Type 0 where
   pub alike : v ≡ Ok tt → (r : ℕ) × Goes S T (table C D P r) × ((p : ℕ) → p < r → (a : ℕ) → a < length S.ins → Alike S (table C D P r) (body_number S.ins (pair_left P p) a) (body_number S.ins (pair_right P p) a))
   pub clash : (e : Clash) → v ≡ Err e → Clashes S (length T.left) (length T.right) P e.parent e.symbol e.mark
 
 -- what the search finds: the two are equivalent, or bodies clash
-pub record Searches (S : Sides) (n n' : ℕ) (P : List ℕ) (v : Result (Unit {0}) Clash) : Type 0 where
+pub record Searches (S : Sides) (n n' : ℕ) (P : List Pair) (v : Result (Unit {0}) Clash) : Type 0 where
   pub same : v ≡ Ok tt → (outs : List ℕ) (l : Leaf S.ins) → Layout S.ins outs S.starts S.bytes n → Layout S.ins outs S.starts' S.bytes' n' → Wf (alphabet S.ins l) (machine S.ins outs S.starts S.bytes n) (λ q. q < n) → Wf (alphabet S.ins l) (machine S.ins outs S.starts' S.bytes' n') (λ q. q < n') → Equivalent (alphabet S.ins l) (machine S.ins outs S.starts S.bytes n) (machine S.ins outs S.starts' S.bytes' n')
   pub clash : (e : Clash) → v ≡ Err e → Clashes S n n' P e.parent e.symbol e.mark

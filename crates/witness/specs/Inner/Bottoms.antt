@@ -9,7 +9,10 @@ use Rattle.forms.specs.Alphabet.{alphabet}
 use Rattle.forms.specs.Inner.Tables.{machine, Layout}
 use Rattle.witness.specs.Difference.{Difference}
 use Rattle.witness.specs.Inner.Other.{first_mark, DecreasingPath}
-use Rattle.pairs.specs.Inner.Pairs.{pair_byte, pair_left, pair_parent, pair_symbol, pair_mark, pair_child, left_body}
+use Rattle.pairs.specs.declared.pairs.Pair.{Pair}
+use Rattle.pairs.specs.declared.pairs.Side.{Side}
+use Rattle.pairs.specs.declared.pairs.Side.TheVariants.{Left}
+use Rattle.pairs.specs.Inner.Pairs.{pair_state, pair_left, pair_parent, pair_symbol, pair_mark, pair_child, left_body}
 use Rattle.witness.specs.Inner.Paths.{tree_for, pair_place, Path}
 use Rattle.witness.specs.Inner.Shown.{steps_tree, Holds, Addable}
 use Rattle.witness.specs.Inner.Forms.{Comparable}
@@ -17,7 +20,7 @@ use Rattle.witness.specs.Inner.Forms.{Comparable}
 -- ---- bodies
 -- the list has room for pair q - 1, and the body of its state x for symbol a has a number that fits
 pub record Bodied (ins : List ℕ) (q a x : ℕ) : Type 0 where
-  pub long : 6 * q ≤ 1536
+  pub long : q ≤ 256
   pub few_inputs : length ins ≤ 16
   pub known : 0 < q → a < length ins
   pub state : 0 < q → x < 128
@@ -107,7 +110,7 @@ pub record RootFound (ins starts bytes starts' bytes' : List ℕ) (e i j q a : �
 
 -- ---- the way back
 -- pair p stands in a body of the first transducer, that of its parent for its symbol
-pub record Stands (ins starts : List ℕ) (n : ℕ) (P : List ℕ) (p : ℕ) : Type 0 where
+pub record Stands (ins starts : List ℕ) (n : ℕ) (P : List Pair) (p : ℕ) : Type 0 where
   pub left : pair_left P p < n
   pub parent : pair_parent P p ≤ p
   pub symbol : 0 < pair_parent P p → pair_symbol P p < length ins
@@ -115,13 +118,13 @@ pub record Stands (ins starts : List ℕ) (n : ℕ) (P : List ℕ) (p : ℕ) : T
   pub inside : get_or starts (left_body ins P (pair_parent P p) (pair_symbol P p)) 0 + pair_mark P p < get_or starts (left_body ins P (pair_parent P p) (pair_symbol P p) + 1) 0
 
 -- the first pairs, up to number q, lead back; e is a leaf
-pub record Leading (ins outs starts bytes P : List ℕ) (e q : ℕ) : Type 0 where
+pub record Leading (ins outs starts bytes : List ℕ) (P : List Pair) (e q : ℕ) : Type 0 where
   pub states : ℕ
   pub layout : Layout ins outs starts bytes states
   pub ins_ranks : Ranks 16 ins
   pub outs_ranks : Ranks 64 outs
   pub leaf : e < length ins
-  pub long : 6 * q ≤ 1536
+  pub long : q ≤ 256
   pub stands : (p : ℕ) → p < q → Stands ins starts states P p
 
 -- a tree stands in the buffer, with room for four bytes a step on either side, and an address at the end of the area, with room for 63 numbers a step
@@ -133,31 +136,31 @@ pub record Roomy (q : ℕ) (buffer : List ℕ) (lo hi : ℕ) (area : List ℕ) (
   pub end : at ≤ length area
 
 -- the states of the first pairs on one side are below n
-abbrev pub StatesBelow : List ℕ → ℕ → ℕ → ℕ → Type 0
-StatesBelow P side q n = (p : ℕ) → p < q → pair_byte P side p < n
+abbrev pub StatesBelow : List Pair → Side → ℕ → ℕ → Type 0
+StatesBelow P side q n = (p : ℕ) → p < q → pair_state P side p < n
 
 -- d stands in the buffer, and v at the end of the area
 abbrev pub Stand : List ℕ → ℕ → ℕ → Tree → List ℕ → ℕ → List ℕ → Type 0
 Stand buffer lo hi d area at v = Holds buffer lo hi d × (drop at area ≡ v)
 
 -- one step back: from pair p to its parent
-pub record StepsBack (ins outs starts bytes P : List ℕ) (e p : ℕ) (buffer : List ℕ) (lo hi : ℕ) (area : List ℕ) (at : ℕ) (buffer' : List ℕ) (lo' hi' : ℕ) (area' : List ℕ) (at' : ℕ) : Type 0 where
+pub record StepsBack (ins outs starts bytes : List ℕ) (P : List Pair) (e p : ℕ) (buffer : List ℕ) (lo hi : ℕ) (area : List ℕ) (at : ℕ) (buffer' : List ℕ) (lo' hi' : ℕ) (area' : List ℕ) (at' : ℕ) : Type 0 where
   pub roomy : Roomy (pair_parent P p) buffer' lo' hi' area' at'
-  pub back : (n : ℕ) (l : Leaf ins) → Layout ins outs starts bytes n → l.symbol ≡ e → StatesBelow P 0 p n → (d : Tree) (v : List ℕ) → Stand buffer lo hi d area at v → Stand buffer' lo' hi' (tree_for (alphabet ins l) ins (pair_parent P p) (pair_symbol P p) (pair_child P p) d) area' at' (pair_place (machine ins outs starts bytes n) P p ++ v)
+  pub back : (n : ℕ) (l : Leaf ins) → Layout ins outs starts bytes n → l.symbol ≡ e → StatesBelow P Left p n → (d : Tree) (v : List ℕ) → Stand buffer lo hi d area at v → Stand buffer' lo' hi' (tree_for (alphabet ins l) ins (pair_parent P p) (pair_symbol P p) (pair_child P p) d) area' at' (pair_place (machine ins outs starts bytes n) P p ++ v)
 
 -- where the list leads from parent q, which reads d at address v
-pub record LedTo (ins outs starts bytes P : List ℕ) (n : ℕ) (l : Leaf ins) (q : ℕ) (d : Tree) (v buffer : List ℕ) (lo hi : ℕ) (area : List ℕ) (at : ℕ) : Type 0 where
+pub record LedTo (ins outs starts bytes : List ℕ) (P : List Pair) (n : ℕ) (l : Leaf ins) (q : ℕ) (d : Tree) (v buffer : List ℕ) (lo hi : ℕ) (area : List ℕ) (at : ℕ) : Type 0 where
   pub tree : Tree
   pub address : List ℕ
   pub path : Path (alphabet ins l) ins (machine ins outs starts bytes n) P q d v tree address
   pub stand : Stand buffer lo hi tree area at address
 
 -- all steps back
-pub record TracesBack (ins outs starts bytes P : List ℕ) (e q : ℕ) (buffer : List ℕ) (lo hi : ℕ) (area : List ℕ) (at : ℕ) (buffer' : List ℕ) (lo' hi' : ℕ) (area' : List ℕ) (at' : ℕ) : Type 0 where
+pub record TracesBack (ins outs starts bytes : List ℕ) (P : List Pair) (e q : ℕ) (buffer : List ℕ) (lo hi : ℕ) (area : List ℕ) (at : ℕ) (buffer' : List ℕ) (lo' hi' : ℕ) (area' : List ℕ) (at' : ℕ) : Type 0 where
   pub ordered : lo' < hi'
   pub inside : hi' ≤ length buffer'
   pub end : at' ≤ length area'
-  pub led : (n : ℕ) (l : Leaf ins) → Layout ins outs starts bytes n → l.symbol ≡ e → StatesBelow P 0 q n → (d : Tree) (v : List ℕ) → Stand buffer lo hi d area at v → LedTo ins outs starts bytes P n l q d v buffer' lo' hi' area' at'
+  pub led : (n : ℕ) (l : Leaf ins) → Layout ins outs starts bytes n → l.symbol ≡ e → StatesBelow P Left q n → (d : Tree) (v : List ℕ) → Stand buffer lo hi d area at v → LedTo ins outs starts bytes P n l q d v buffer' lo' hi' area' at'
 
 -- ---- from the clash to the initial terms
 -- a leaf e, and room for every tree and every address

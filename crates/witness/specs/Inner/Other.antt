@@ -1,5 +1,5 @@
 -- An input tree on which a state's output has a root symbol other than b: distances, one byte a state, and the steps along which they decrease.
-use Rattle.std.specs.Prelude.{ℕ, suc, ◌+◌, ◌*◌, ◌≤◌, ◌<◌, Bool, true, false, List, ◌≢◌, ◌≡◌, eqb, length, get_or, set}
+use Rattle.std.specs.Prelude.{ℕ, suc, ◌+◌, ◌*◌, ◌≤◌, ◌<◌, Bool, true, false, List, ◌≢◌, ◌≡◌, eqb, length, get_or, set, Option, Some, None}
 use Rattle.theory.specs.Inner.Nodes.{symbol}
 use Rattle.theory.specs.Inner.OtherRoot.{Sound, Complete, Falls}
 use Rattle.theory.specs.Sum.{sum}
@@ -64,10 +64,15 @@ pub record DistanceTableAt (ins starts bytes dist : List ℕ) (q : ℕ) : Type 0
   pub table : DistanceTable ins starts bytes states dist
   pub state : q < states
 
+-- r is this distance, at most 256, or none is found
+pub record IsDistance (distance : ℕ) (r : Option ℕ) : Type 0 where
+  pub found : (d : ℕ) → r ≡ Some d → (d ≡ distance) × (0 < d) × (d ≤ 256)
+  pub none : r ≡ None → distance ≡ 0
+
 -- r is the distance of a right-hand side of q, or none has one
-pub record FindsDistance (ins starts bytes dist : List ℕ) (q b r : ℕ) : Type 0 where
-  pub found : r ≢ 0 → (a : ℕ) × (a < length ins) × (step_distance ins starts bytes dist b q a ≡ r)
-  pub none : r ≡ 0 → NoneAt ins starts bytes b dist q
+pub record FindsDistance (ins starts bytes dist : List ℕ) (q b : ℕ) (r : Option ℕ) : Type 0 where
+  pub found : (d : ℕ) → r ≡ Some d → (0 < d) × (a : ℕ) × (a < length ins) × (step_distance ins starts bytes dist b q a ≡ d)
+  pub none : r ≡ None → NoneAt ins starts bytes b dist q
 
 -- the distances so far are those of right-hand sides
 pub record Settable (ins starts bytes dist : List ℕ) (q b : ℕ) : Type 0 where
@@ -114,6 +119,7 @@ pub record FillsDistances (ins starts bytes : List ℕ) (n b : ℕ) (dist : List
 -- a right-hand side of q is as far as q
 pub record Steppable (ins starts bytes dist : List ℕ) (q b : ℕ) : Type 0 where
   pub at : DistanceTableAt ins starts bytes dist q
+  pub found : get_or dist q 0 ≢ 0
   pub step : (a : ℕ) × (a < length ins) × (step_distance ins starts bytes dist b q a ≡ get_or dist q 0)
 
 -- that for a is

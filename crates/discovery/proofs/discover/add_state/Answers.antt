@@ -1,5 +1,6 @@
 -- `add_state` meets its contract. The invariant: the right-hand sides of the state for the symbols below a were added. Assumes nothing.
 use native.Mathlib.Omega.{arith}
+use borrow.Author.Rules.{rules}
 use mathlib.Core.Path.{refl, ◌∙◌}
 use Prim.Native.Nat.{◌<◌}
 use lib.ListN.{length}
@@ -13,7 +14,7 @@ pub loop-a-init : goal.loop-a-init
 loop-a-init g c =
     let X = c.requires.1.numbers in
     let l = c.requires.1.leaf in
-    record { letters = refl; starts = refl; list = refl; stage = stage_none X l c.requires.3 c.requires.4 c.from-c.ensures }
+    record { starts = refl; list = refl; stage = stage_none X l c.requires.2 c.requires.3 c.from-c.ensures }
 
 pub spell_rhs-requires : goal.spell_rhs-requires
 spell_rhs-requires g c =
@@ -22,10 +23,7 @@ spell_rhs-requires g c =
     let e = c.symbols-symbols.ensures in
     let T = c.loop-a.invariant.stage in
     let there : c.loop-a.a < length (g.S.Spelled.ins c.args.source.now) = omega (arith, e, c.loop-a-test.true) in
-    (c.requires.0, omega (arith, c.requires.2, c.loop-a.invariant.letters), stage_state X l T, there)
-
-pub shape_of-letters-in_err-span : goal.shape_of-letters-in_err-span
-shape_of-letters-in_err-span g c = c.spell_rhs.auto.letters ∙ c.loop-a.invariant.letters
+    (search rules, (c.requires.0, stage_state X l T, there))
 
 pub returns-in_err-span : goal.returns-in_err-span
 returns-in_err-span g c =
@@ -36,9 +34,6 @@ returns-in_err-span g c =
     let there : c.loop-a.a < length (g.S.Spelled.ins c.args.source.now) = omega (arith, e, c.loop-a-test.true) in
     rw c.from_residual.ensures (adds_none (stage_over X T there refl (inl (c.spell_rhs.ensures.over c.in_err-span.was))))
 
-pub offset_bounds-letters-span : goal.offset_bounds-letters-span
-offset_bounds-letters-span g c = omega (arith, c.spell_rhs.ensures.ordered _ c.in_ok-span.was, c.spell_rhs.ensures.inside _ c.in_ok-span.was, c.spell_rhs.auto.letters, c.loop-a.invariant.letters, c.well_formed)
-
 pub add_body-requires : goal.add_body-requires
 add_body-requires g c =
     let X = c.requires.1.numbers in
@@ -48,9 +43,6 @@ add_body-requires g c =
     let there : c.loop-a.a < length (g.S.Spelled.ins c.args.source.now) = omega (arith, e, c.loop-a-test.true) in
     let room = stage_room X l T there in
     (T.bodies.queue, T.bodies.few, rw (c.spell_rhs.ensures.spelled _ c.in_ok-span.was, T.bodies.wide) (rhs_sayable X c.from-c.result c.loop-a.a (stage_state X l T) there), rw e (omega (arith, room, T.bodies.long)), rw e T.bodies.all, T.bodies.room)
-
-pub shape_of-letters-in_err-n : goal.shape_of-letters-in_err-n
-shape_of-letters-in_err-n g c = c.spell_rhs.auto.letters ∙ c.loop-a.invariant.letters
 
 pub returns-in_err-n : goal.returns-in_err-n
 returns-in_err-n g c =
@@ -71,14 +63,10 @@ loop-a-preserved g c =
     let I = c.loop-a.invariant in
     let k = c.add_body in
     record {
-      letters = c.spell_rhs.auto.letters ∙ I.letters;
       starts = k.auto.starts ∙ I.starts;
       list = k.auto.list ∙ I.list;
       stage = stage_next X l T there (rw e at k.ensures) c.in_ok-n.was (c.spell_rhs.ensures.spelled _ c.in_ok-span.was);
     }
-
-pub shape_of-letters : goal.shape_of-letters
-shape_of-letters g c = c.loop-a.invariant.letters
 
 pub returns : goal.returns
 returns g c =

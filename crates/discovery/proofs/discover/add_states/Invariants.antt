@@ -7,7 +7,6 @@ use Rattle.discovery.proofs.discover.add_states.Given as goal
 
 abbrev pub invariant-loop-p : goal.invariant-loop-p
 invariant-loop-p g l = record {
-  letters : length l.letters ≡ length l.initial.letters;
   starts : length l.starts ≡ length l.initial.starts;
   list : length l.list ≡ length l.initial.list;
   found : Found (g.S.Spelled.ins l.source) (g.S.Spelled.transducer l.source) g.row.W l.p l.starts l.out l.list l.place l.n;

@@ -1,14 +1,15 @@
 -- `join_file` meets its contract: the alphabets, the parts of the joined transducer, and its file. Assumes nothing.
-use lib.Seq.{length-take-le}
-use mathlib.Core.Path.{sym}
+use Prim.Native.Nat.{ℕ}
+use native.Mathlib.Omega.{arith}
+use lib.ListN.{length-replicate}
 use Rattle.std.proofs.lemmas.Result.{err_from_is_err_and}
 use Rattle.trees.proofs.Tried.{none_refused, some_given}
 use Rattle.join.proofs.Entering.{found_writes, found_joined}
 use Rattle.join.proofs.Forming.{file_over}
 use Rattle.join.proofs.join.join_file.Goals as goal
 
-pub slice_bounds-write_found-end : goal.slice_bounds-write_found-end
-slice_bounds-write_found-end c = sym (length-take-le c.join_stocks-size.result _ c.join_stocks-size.ensures.inside)
+pub join_parts-requires : goal.join_parts-requires
+join_parts-requires c = (c.requires.0, omega (arith, length-replicate {A = ℕ} 2050 0), length-replicate {A = ℕ} 16384 0)
 
 pub write_found-requires : goal.write_found-requires
 write_found-requires c = found_writes c.requires.0 c.join_stocks-size.ensures c.join_parts.ensures (some_given _ c.ok_or.ensures.value c.in_ok-states.was) c.requires.1

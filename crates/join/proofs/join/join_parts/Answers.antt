@@ -1,26 +1,15 @@
 -- `join_parts` meets its contract: the starts of the bodies of both transducers, and what is discovered by them. Assumes nothing.
 use Prim.Native.Nat.{ℕ}
-use native.Mathlib.Omega.{arith}
 use mathlib.Core.Path.{◌∙◌}
 use lib.ListN.{length-replicate}
 use Rattle.transducer.proofs.Translating.{starts_fit}
+use native.Mathlib.Omega.{arith}
+use Rattle.join.proofs.Numbers.{pair_numbers}
 use Rattle.join.proofs.Entering.{tables_read, parts_joined}
 use Rattle.join.proofs.join.join_parts.Goals as goal
 
-pub overflow_mul-n1 : goal.overflow_mul-n1
-overflow_mul-n1 c = omega (arith, (starts_fit c.requires.0.first c.input_ranks.ensures).1)
-
-pub overflow_add-n1 : goal.overflow_add-n1
-overflow_add-n1 c = omega (arith, (starts_fit c.requires.0.first c.input_ranks.ensures).1)
-
 pub fill_starts-requires : goal.fill_starts-requires
 fill_starts-requires c = starts_fit c.requires.0.first c.input_ranks.ensures
-
-pub overflow_mul-n2 : goal.overflow_mul-n2
-overflow_mul-n2 c = omega (arith, (starts_fit c.requires.0.second c.input_ranks-2.ensures).1)
-
-pub overflow_add-n2 : goal.overflow_add-n2
-overflow_add-n2 c = omega (arith, (starts_fit c.requires.0.second c.input_ranks-2.ensures).1)
 
 pub fill_starts-requires-2 : goal.fill_starts-requires-2
 fill_starts-requires-2 c = starts_fit c.requires.0.second c.input_ranks-2.ensures
@@ -30,7 +19,8 @@ discover-requires c =
     let b = c.requires in
     let f = c.fill_starts in
     let g = c.fill_starts-2 in
-    (tables_read b.0 c.input_ranks.ensures c.input_ranks-2.ensures f.new.starts g.new.starts f.ensures.starts g.ensures.starts (f.auto.starts ∙ length-replicate {A = ℕ} 2050 0) (g.auto.starts ∙ length-replicate {A = ℕ} 2050 0), b.1, b.2)
+    let T = tables_read b.0 c.input_ranks.ensures c.input_ranks-2.ensures f.new.starts g.new.starts f.ensures.starts g.ensures.starts (f.auto.starts ∙ length-replicate {A = ℕ} 2050 0) (g.auto.starts ∙ length-replicate {A = ℕ} 2050 0) in
+    (T, record { numbers = pair_numbers T; leaf = T.alphabets.leaf }, omega arith, b.1, b.2)
 
 pub returns : goal.returns
 returns c =

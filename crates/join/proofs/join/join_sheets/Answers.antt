@@ -24,20 +24,8 @@ counts_end-from2-requires c = (c.requires.1, omega (arith, accepted_states c.arg
 pub slice_bounds-join_file-end : goal.slice_bounds-join_file-end
 slice_bounds-join_file-end c = omega (arith, c.counts_end-from1.ensures, accepted_long c.args.first.now c.args.sheet1.now c.in_ok-n1.n1 c.read_transducer.ensures c.in_ok-n1.was)
 
-pub slice_bounds-join_file-count : goal.slice_bounds-join_file-count
-slice_bounds-join_file-count c = omega (arith, c.counts_end-from1.ensures, accepted_long c.args.first.now c.args.sheet1.now c.in_ok-n1.n1 c.read_transducer.ensures c.in_ok-n1.was)
-
-pub slice_bounds-join_file-start : goal.slice_bounds-join_file-start
-slice_bounds-join_file-start c = omega (arith, c.counts_end-from1.ensures, accepted_long c.args.first.now c.args.sheet1.now c.in_ok-n1.n1 c.read_transducer.ensures c.in_ok-n1.was)
-
 pub slice_bounds-join_file-end-3 : goal.slice_bounds-join_file-end-3
 slice_bounds-join_file-end-3 c = omega (arith, c.counts_end-from2.ensures, accepted_long c.args.second.now c.args.sheet2.now c.in_ok-n2.n2 c.read_transducer-2.ensures c.in_ok-n2.was)
-
-pub slice_bounds-join_file-count-3 : goal.slice_bounds-join_file-count-3
-slice_bounds-join_file-count-3 c = omega (arith, c.counts_end-from2.ensures, accepted_long c.args.second.now c.args.sheet2.now c.in_ok-n2.n2 c.read_transducer-2.ensures c.in_ok-n2.was)
-
-pub slice_bounds-join_file-start-3 : goal.slice_bounds-join_file-start-3
-slice_bounds-join_file-start-3 c = omega (arith, c.counts_end-from2.ensures, accepted_long c.args.second.now c.args.sheet2.now c.in_ok-n2.n2 c.read_transducer-2.ensures c.in_ok-n2.was)
 
 pub join_file-requires : goal.join_file-requires
 join_file-requires c =

@@ -8,9 +8,6 @@ use Rattle.pairs.proofs.Stepping.{clash_first, clash_second, clashes_at, no_clas
 use Rattle.pairs.proofs.pairs.first_clash.Goals as goal
 use Rattle.pairs.proofs.pairs.first_clash.Goals.{else-c-eq0-via-then-c-eq0+else-marks1-i, else-c-eq0-via-else-c-eq0}
 
-pub loop-k-init : goal.loop-k-init
-loop-k-init c = λ h g. absurd (omega arith)
-
 pub returns-then-c-marks2 : goal.returns-then-c-marks2
 returns-then-c-marks2 c =
     let a = c.args in

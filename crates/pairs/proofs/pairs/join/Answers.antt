@@ -1,12 +1,9 @@
 -- `join` meets its contract. The invariant is `JoinLoop`. Assumes nothing.
 use native.Mathlib.Omega.{arith}
 use Rattle.std.proofs.lemmas.List.{set-get_or}
-use Rattle.pairs.proofs.Joining.{join_start, join_hit, join_miss, join_end}
+use Rattle.pairs.proofs.Joining.{join_hit, join_miss, join_end}
 use Rattle.pairs.proofs.pairs.join.Goals as goal
 use Rattle.pairs.proofs.pairs.join.Goals.{then-class-c, else-class-c}
-
-pub loop-class-init : goal.loop-class-init
-loop-class-init c = join_start _ _ _
 
 pub loop-class-preserved : goal.loop-class-preserved
 loop-class-preserved c =

@@ -1,17 +1,9 @@
 -- `join_marks` meets its contract. The invariant: what the contract says, of the marks passed. Assumes nothing.
 use native.Mathlib.Omega.{arith}
 use mathlib.Core.Path.{◌≡◌}
-use Rattle.pairs.proofs.Searching.{joins_none, joins_symbol, joins_call, call_there}
+use Rattle.pairs.proofs.Searching.{joins_symbol, joins_call}
 use Rattle.pairs.proofs.pairs.join_marks.Goals as goal
 use Rattle.pairs.proofs.pairs.join_marks.Goals.{then-c-gt0, else-c-gt0}
-
-pub loop-k-init : goal.loop-k-init
-loop-k-init c = joins_none c.requires.0.merging
-
-pub join_states-r-requires : goal.join_states-r-requires
-join_states-r-requires c =
-    let t = call_there c.loop-k.invariant c.requires.0 c.loop-k-test.true c.if-c-gt0.true in
-    (c.loop-k.invariant.merging, t.0, t.1, c.requires.1, c.requires.2, omega (arith, c.requires.0.few, c.loop-k-test.true))
 
 pub loop-k-preserved : goal.loop-k-preserved
 loop-k-preserved c =
@@ -21,12 +13,6 @@ loop-k-preserved c =
       | then-c-gt0 w ↦ rw (w.classes1-is, w.classes2-is, w.pairs-is, w.r-is) (joins_call A c.requires.0 t w.if-c-gt0.true w.join_states-r.ensures)
       | else-c-gt0 w ↦ rw (w.classes1-is, w.classes2-is, w.pairs-is, w.r-is) (joins_symbol A (λ h. omega (arith, h, w.if-c-gt0.false)))
     ]
-
-pub shape_of-classes1 : goal.shape_of-classes1
-shape_of-classes1 c = c.loop-k.invariant.later.same_left
-
-pub shape_of-classes2 : goal.shape_of-classes2
-shape_of-classes2 c = c.loop-k.invariant.later.same_right
 
 pub returns : goal.returns
 returns c = let e : c.loop-k.k ≡ c.args.n = omega arith in rw e at c.loop-k.invariant

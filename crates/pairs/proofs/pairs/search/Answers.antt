@@ -9,9 +9,6 @@ use Rattle.pairs.proofs.pairs.search.Goals as goal
 pub walk_pair-requires : goal.walk_pair-requires
 walk_pair-requires c = search_start (rw (c.start_classes.auto.classes, c.start_classes-2.auto.classes) c.requires.0) c.requires.1 (λ x h. c.start_classes.ensures x (omega (arith, h, c.start_classes.auto.classes)) ∙ zero-add x) (λ y h. c.start_classes-2.ensures y (omega (arith, h, c.start_classes-2.auto.classes)))
 
-pub walk_pairs-requires : goal.walk_pairs-requires
-walk_pairs-requires c = (c.walk_pair.ensures.alike _ c.in_ok-n.was).0.searching
-
 pub returns : goal.returns
 returns c = search_end c.walk_pair.ensures _ c.in_ok-n.was c.walk_pairs.ensures (c.walk_pairs.auto.classes1 ∙ c.walk_pair.auto.classes1 ∙ c.start_classes.auto.classes) (c.walk_pairs.auto.classes2 ∙ c.walk_pair.auto.classes2 ∙ c.start_classes-2.auto.classes) (c.walk_pair.auto.classes1 ∙ c.start_classes.auto.classes) (c.walk_pair.auto.classes2 ∙ c.start_classes-2.auto.classes)
 

@@ -3,26 +3,26 @@ use native.Mathlib.Omega.{arith}
 use Rattle.pairs.proofs.Searching.{walk_there, walk_ordered, walk_inside, size_of, walk_clash, walk_joinable, walk_alike}
 use Rattle.pairs.proofs.pairs.walk_pair.Goals as goal
 
-pub offset_bounds-starts1-i : goal.offset_bounds-starts1-i
-offset_bounds-starts1-i c = omega (arith, (walk_there c.requires).0, c.requires.searching.forms.left.bounds.long)
+pub offset_bounds-left-i : goal.offset_bounds-left-i
+offset_bounds-left-i c = omega (arith, (walk_there c.requires).0, c.requires.searching.forms.left.bounds.long)
 
-pub bounds-starts1-i : goal.bounds-starts1-i
-bounds-starts1-i c = omega (arith, (walk_there c.requires).0, c.requires.searching.forms.left.bounds.long)
+pub bounds-left-i : goal.bounds-left-i
+bounds-left-i c = omega (arith, (walk_there c.requires).0, c.requires.searching.forms.left.bounds.long)
 
-pub offset_bounds-starts2-j : goal.offset_bounds-starts2-j
-offset_bounds-starts2-j c = omega (arith, (walk_there c.requires).1, c.requires.searching.forms.right.bounds.long)
+pub offset_bounds-right-j : goal.offset_bounds-right-j
+offset_bounds-right-j c = omega (arith, (walk_there c.requires).1, c.requires.searching.forms.right.bounds.long)
 
-pub bounds-starts2-j : goal.bounds-starts2-j
-bounds-starts2-j c = omega (arith, (walk_there c.requires).1, c.requires.searching.forms.right.bounds.long)
+pub bounds-right-j : goal.bounds-right-j
+bounds-right-j c = omega (arith, (walk_there c.requires).1, c.requires.searching.forms.right.bounds.long)
 
 pub overflow_add-i : goal.overflow_add-i
 overflow_add-i c = omega (arith, (walk_there c.requires).0, c.requires.searching.forms.left.bounds.long)
 
-pub offset_bounds-starts1-i-2 : goal.offset_bounds-starts1-i-2
-offset_bounds-starts1-i-2 c = omega (arith, (walk_there c.requires).0, c.requires.searching.forms.left.bounds.long)
+pub offset_bounds-left-i-2 : goal.offset_bounds-left-i-2
+offset_bounds-left-i-2 c = omega (arith, (walk_there c.requires).0, c.requires.searching.forms.left.bounds.long)
 
-pub bounds-starts1-i-2 : goal.bounds-starts1-i-2
-bounds-starts1-i-2 c = omega (arith, (walk_there c.requires).0, c.requires.searching.forms.left.bounds.long)
+pub bounds-left-i-2 : goal.bounds-left-i-2
+bounds-left-i-2 c = omega (arith, (walk_there c.requires).0, c.requires.searching.forms.left.bounds.long)
 
 pub overflow_sub-size : goal.overflow_sub-size
 overflow_sub-size c = omega (arith, (walk_ordered c.requires).0, c.from.ensures, c.from-from.ensures)
@@ -30,11 +30,11 @@ overflow_sub-size c = omega (arith, (walk_ordered c.requires).0, c.from.ensures,
 pub overflow_add-j : goal.overflow_add-j
 overflow_add-j c = omega (arith, (walk_there c.requires).1, c.requires.searching.forms.right.bounds.long)
 
-pub offset_bounds-starts2-j-2 : goal.offset_bounds-starts2-j-2
-offset_bounds-starts2-j-2 c = omega (arith, (walk_there c.requires).1, c.requires.searching.forms.right.bounds.long)
+pub offset_bounds-right-j-2 : goal.offset_bounds-right-j-2
+offset_bounds-right-j-2 c = omega (arith, (walk_there c.requires).1, c.requires.searching.forms.right.bounds.long)
 
-pub bounds-starts2-j-2 : goal.bounds-starts2-j-2
-bounds-starts2-j-2 c = omega (arith, (walk_there c.requires).1, c.requires.searching.forms.right.bounds.long)
+pub bounds-right-j-2 : goal.bounds-right-j-2
+bounds-right-j-2 c = omega (arith, (walk_there c.requires).1, c.requires.searching.forms.right.bounds.long)
 
 pub overflow_sub-from : goal.overflow_sub-from
 overflow_sub-from c = omega (arith, (walk_ordered c.requires).1, c.from-2.ensures, c.from-other.ensures)

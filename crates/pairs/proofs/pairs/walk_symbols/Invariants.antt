@@ -1,8 +1,8 @@
 -- `walk_symbols` meets its contract. The invariant is `PairLoop`. Assumes nothing.
-use Rattle.pairs.specs.Inner.Pairs.{sides, table}
+use Rattle.pairs.specs.Inner.Pairs.{sides_of, table}
 use Rattle.pairs.proofs.Searching.{PairLoop}
 use Rattle.pairs.proofs.pairs.walk_symbols.Given as goal
 
 abbrev pub invariant-loop-a : goal.invariant-loop-a
 invariant-loop-a l =
-    PairLoop (sides l.ins l.starts1 l.marks1 l.starts2 l.marks2) (table l.initial.classes1 l.initial.classes2 l.initial.pairs l.count) (table l.classes1 l.classes2 l.pairs l.n) l.p l.a
+    PairLoop (sides_of l.ins l.left l.right) (table l.initial.classes1 l.initial.classes2 l.initial.pairs l.count) (table l.classes1 l.classes2 l.pairs l.n) l.p l.a

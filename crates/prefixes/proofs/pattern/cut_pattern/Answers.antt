@@ -8,7 +8,6 @@ use Rattle.prefixes.proofs.Patterns.{cutting_start, cutting_done, first_there, s
 use Rattle.prefixes.proofs.pattern.cut_pattern.Goals as goal
 use Rattle.prefixes.proofs.pattern.cut_pattern.Goals.{then-k-y, else-k-y}
 
--- the same byte in both: it stays where it is with those behind it that are the same, or is written further to the front
 pub bounds-y-j : goal.bounds-y-j
 bounds-y-j c =
     let l = c.loop-i in
@@ -27,11 +26,6 @@ pattern_end-i-requires c = first_there c.loop-i.invariant c.loop-i-test.true
 
 pub pattern_end-j-requires : goal.pattern_end-j-requires
 pattern_end-j-requires c = second_there c.loop-i.invariant c.loop-i-test.true
-
-pub loop-i-smaller : goal.loop-i-smaller
-loop-i-smaller c =
-    let M = c.loop-i.invariant in
-    elim c.if-k-y.branch [ then-k-y w ↦ omega (arith, M.long) | else-k-y w ↦ omega (arith, w.pattern_end-i.ensures.further, M.long) ]
 
 pub loop-i-preserved : goal.loop-i-preserved
 loop-i-preserved c =

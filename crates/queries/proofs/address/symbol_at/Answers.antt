@@ -15,12 +15,6 @@ counts_end-from-requires c = (accepted_alphabets c.args.stock.now c.args.sheet.n
 pub slice_bounds-symbol_by-end : goal.slice_bounds-symbol_by-end
 slice_bounds-symbol_by-end c = omega (arith, c.counts_end-from.ensures, accepted_long c.args.stock.now c.args.sheet.now c.in_ok-n.n c.read_transducer.ensures c.in_ok-n.was)
 
-pub slice_bounds-symbol_by-count : goal.slice_bounds-symbol_by-count
-slice_bounds-symbol_by-count c = omega (arith, c.counts_end-from.ensures, accepted_long c.args.stock.now c.args.sheet.now c.in_ok-n.n c.read_transducer.ensures c.in_ok-n.was)
-
-pub slice_bounds-symbol_by-start : goal.slice_bounds-symbol_by-start
-slice_bounds-symbol_by-start c = omega (arith, c.counts_end-from.ensures, accepted_long c.args.stock.now c.args.sheet.now c.in_ok-n.n c.read_transducer.ensures c.in_ok-n.was)
-
 pub symbol_by-requires : goal.symbol_by-requires
 symbol_by-requires c = opened_machine (opened_at c.args.stock.now c.args.sheet.now c.in_ok-n.n c.read_transducer.ensures c.in_ok-n.was c.counts_end-from.result c.counts_end-from.ensures refl)
 

@@ -9,12 +9,6 @@ use Rattle.transducer.proofs.Translating.{starts_fit}
 use Rattle.queries.proofs.Following.{no_tree, can_follow, symbol_found}
 use Rattle.queries.proofs.address.symbol_by.Goals as goal
 
-pub overflow_mul-n : goal.overflow_mul-n
-overflow_mul-n c = omega (arith, (starts_fit c.requires c.input_ranks-ins.ensures).1)
-
-pub overflow_add-n : goal.overflow_add-n
-overflow_add-n c = omega (arith, (starts_fit c.requires c.input_ranks-ins.ensures).1)
-
 pub fill_starts-requires : goal.fill_starts-requires
 fill_starts-requires c = starts_fit c.requires c.input_ranks-ins.ensures
 

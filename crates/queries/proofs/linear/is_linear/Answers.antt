@@ -20,20 +20,8 @@ input_ranks-inputs-requires c = accepted_alphabets c.args.stock.now c.args.sheet
 pub slice_bounds-fill_starts-end : goal.slice_bounds-fill_starts-end
 slice_bounds-fill_starts-end c = omega (arith, c.counts_end-from.ensures, accepted_long c.args.stock.now c.args.sheet.now c.in_ok-n.n c.read_transducer.ensures c.in_ok-n.was)
 
-pub overflow_mul-n : goal.overflow_mul-n
-overflow_mul-n c = omega (arith, (starts_fit (opened_at c.args.stock.now c.args.sheet.now c.in_ok-n.n c.read_transducer.ensures c.in_ok-n.was c.counts_end-from.result c.counts_end-from.ensures c.input_ranks-inputs.ensures)).1)
-
-pub overflow_add-n : goal.overflow_add-n
-overflow_add-n c = omega (arith, (starts_fit (opened_at c.args.stock.now c.args.sheet.now c.in_ok-n.n c.read_transducer.ensures c.in_ok-n.was c.counts_end-from.result c.counts_end-from.ensures c.input_ranks-inputs.ensures)).1)
-
 pub fill_starts-requires : goal.fill_starts-requires
 fill_starts-requires c = starts_fit (opened_at c.args.stock.now c.args.sheet.now c.in_ok-n.n c.read_transducer.ensures c.in_ok-n.was c.counts_end-from.result c.counts_end-from.ensures c.input_ranks-inputs.ensures)
-
-pub slice_bounds-read_reached-count : goal.slice_bounds-read_reached-count
-slice_bounds-read_reached-count c = omega (arith, c.counts_end-from.ensures, accepted_long c.args.stock.now c.args.sheet.now c.in_ok-n.n c.read_transducer.ensures c.in_ok-n.was)
-
-pub slice_bounds-read_reached-start : goal.slice_bounds-read_reached-start
-slice_bounds-read_reached-start c = omega (arith, c.counts_end-from.ensures, accepted_long c.args.stock.now c.args.sheet.now c.in_ok-n.n c.read_transducer.ensures c.in_ok-n.was)
 
 pub slice_bounds-places-end : goal.slice_bounds-places-end
 slice_bounds-places-end c = omega (arith, accepted_states c.args.stock.now c.args.sheet.now c.in_ok-n.n c.read_transducer.ensures c.in_ok-n.was)

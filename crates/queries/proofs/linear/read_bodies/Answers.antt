@@ -6,28 +6,7 @@ use Rattle.queries.proofs.Reading.{part_body, part_inside, part_low, bodies_none
 use Rattle.queries.proofs.linear.read_bodies.Goals as goal
 
 pub loop-j-init : goal.loop-j-init
-loop-j-init c = (omega arith, refl, refl, bodies_none c.requires.0)
-
-pub overflow_add-b : goal.overflow_add-b
-overflow_add-b c = omega (arith, c.requires.1.long, c.loop-j-test.true)
-
-pub offset_bounds-starts-b : goal.offset_bounds-starts-b
-offset_bounds-starts-b c = omega (arith, c.requires.1.long, c.loop-j-test.true)
-
-pub bounds-starts-b : goal.bounds-starts-b
-bounds-starts-b c = omega (arith, c.requires.1.long, c.loop-j-test.true)
-
-pub overflow_add-b-in-loop-j : goal.overflow_add-b-in-loop-j
-overflow_add-b-in-loop-j c = omega (arith, c.requires.1.long, c.loop-j-test.true)
-
-pub overflow_add-b-in-loop-j-2 : goal.overflow_add-b-in-loop-j-2
-overflow_add-b-in-loop-j-2 c = omega (arith, c.requires.1.long, c.loop-j-test.true)
-
-pub offset_bounds-starts-b-in-loop-j : goal.offset_bounds-starts-b-in-loop-j
-offset_bounds-starts-b-in-loop-j c = omega (arith, c.requires.1.long, c.loop-j-test.true)
-
-pub bounds-starts-b-in-loop-j : goal.bounds-starts-b-in-loop-j
-bounds-starts-b-in-loop-j c = omega (arith, c.requires.1.long, c.loop-j-test.true)
+loop-j-init c = (refl, refl, bodies_none c.requires.0)
 
 pub read_marks-requires : goal.read_marks-requires
 read_marks-requires c =
@@ -35,36 +14,18 @@ read_marks-requires c =
     let l = c.loop-j in
     let j = c.args.b + l.j in
     let h : j < c.args.b + c.args.k = omega (arith, c.loop-j-test.true) in
-    (l.invariant.3.queue, rw l.invariant.2 B.few, part_inside B j h c.number-from.ensures c.number-to.ensures, rw l.invariant.2 (part_low B j h c.number-from.ensures c.number-to.ensures))
-
-pub shape_of-list-in_err-n : goal.shape_of-list-in_err-n
-shape_of-list-in_err-n c = c.read_marks.auto.list ∙ c.loop-j.invariant.1
-
-pub shape_of-place-in_err-n : goal.shape_of-place-in_err-n
-shape_of-place-in_err-n c = c.read_marks.auto.place ∙ c.loop-j.invariant.2
+    (l.invariant.2.queue, rw l.invariant.1 B.few, part_inside B j h c.from-from.ensures c.from-to.ensures, rw l.invariant.1 (part_low B j h c.from-from.ensures c.from-to.ensures))
 
 pub returns-in_err-n : goal.returns-in_err-n
-returns-in_err-n c = rw c.from_residual.ensures (bodies_stop c.loop-j.invariant.3 (part_body c.requires.1 (c.args.b + c.loop-j.j) (omega (arith, c.loop-j-test.true)) c.number-from.ensures c.number-to.ensures) c.read_marks.ensures c.loop-j-test.true c.in_err-n.was)
-
-pub overflow_add-j : goal.overflow_add-j
-overflow_add-j c = omega (arith, c.loop-j-test.true)
-
-pub loop-j-smaller : goal.loop-j-smaller
-loop-j-smaller c = omega (arith, c.loop-j-test.true)
+returns-in_err-n c = rw c.from_residual.ensures (bodies_stop c.loop-j.invariant.2 (part_body c.requires.1 (c.args.b + c.loop-j.j) (omega (arith, c.loop-j-test.true)) c.from-from.ensures c.from-to.ensures) c.read_marks.ensures c.loop-j-test.true c.in_err-n.was)
 
 pub loop-j-preserved : goal.loop-j-preserved
 loop-j-preserved c =
     let l = c.loop-j in
     let t = c.loop-j-test.true in
     let r = c.read_marks in
-    let e = part_body c.requires.1 (c.args.b + l.j) (omega (arith, t)) c.number-from.ensures c.number-to.ensures in
-    (omega (arith, t), r.auto.list ∙ l.invariant.1, r.auto.place ∙ l.invariant.2, bodies_next l.invariant.3 e r.ensures c.in_ok-n.was)
-
-pub shape_of-list : goal.shape_of-list
-shape_of-list c = c.loop-j.invariant.1
-
-pub shape_of-place : goal.shape_of-place
-shape_of-place c = c.loop-j.invariant.2
+    let e = part_body c.requires.1 (c.args.b + l.j) (omega (arith, t)) c.from-from.ensures c.from-to.ensures in
+    (r.auto.list ∙ l.invariant.0, r.auto.place ∙ l.invariant.1, bodies_next l.invariant.2 e r.ensures c.in_ok-n.was)
 
 pub returns : goal.returns
-returns c = bodies_all c.loop-j.invariant.3 c.loop-j.invariant.0 c.loop-j-test.false
+returns c = bodies_all c.loop-j.invariant.2 (omega arith) (omega arith)

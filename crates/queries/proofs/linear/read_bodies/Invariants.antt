@@ -1,5 +1,4 @@
 -- `read_bodies` meets its contract. The invariant: j of the bodies were read. Assumes nothing.
-use Prim.Native.Nat.{◌-◌, ◌≤◌}
 use mathlib.Core.Path.{◌≡◌}
 use lib.ListN.{length, get_or}
 use Rattle.discovery.specs.Inner.Queue.{met_of}
@@ -7,7 +6,4 @@ use Rattle.queries.proofs.Reading.{BodiesPassed}
 use Rattle.queries.proofs.linear.read_bodies.Given as goal
 
 abbrev pub invariant-loop-j : goal.invariant-loop-j
-invariant-loop-j l = (l.j ≤ l.k) × (length l.list ≡ length l.initial.list) × (length l.place ≡ length l.initial.place) × BodiesPassed (λ j. get_or l.starts j 0) l.marks l.b (met_of l.initial.list l.met) l.n l.j l.list l.place
-
-abbrev pub decreases-loop-j : goal.decreases-loop-j
-decreases-loop-j l = l.k - l.j
+invariant-loop-j l = (length l.list ≡ length l.initial.list) × (length l.place ≡ length l.initial.place) × BodiesPassed (λ j. get_or l.starts j 0) l.marks l.b (met_of l.initial.list l.met) l.n l.j l.list l.place

@@ -5,54 +5,21 @@ use mathlib.Core.Path.{◌≡◌, refl, ◌∙◌}
 use mathlib.Core.List.{List}
 use lib.ListN.{length}
 use Rattle.discovery.proofs.Queues.{queue_few}
-use Rattle.queries.proofs.Reading.{low_fewer, StatesPassed, initial_read, initial_stop, state_fits, state_read, state_stop, states_all}
+use Rattle.queries.proofs.Reading.{low_fewer, StatesPassed, initial_read, state_fits, state_read, state_stop, states_all}
 use Rattle.queries.proofs.linear.read_reached.Goals as goal
 
 -- at most 128 states are there, and no more are met
 few : {P : ℕ} {start : ℕ → ℕ} {bytes : List ℕ} {n p : ℕ} {list place : List ℕ} → StatesPassed P start bytes n p list place → {w : ℕ} → length place ≡ w → w ≤ 128 → n ≤ 128
 few T e h = omega (arith, queue_few T.queue)
 
-pub read_bodies-requires : goal.read_bodies-requires
-read_bodies-requires c = (c.requires.1, low_fewer c.requires.0 _ (omega arith))
-
-pub shape_of-list-in-None : goal.shape_of-list-in-None
-shape_of-list-in-None c = c.read_bodies.auto.list
-
-pub shape_of-place-in-None : goal.shape_of-place-in-None
-shape_of-place-in-None c = c.read_bodies.auto.place
-
-pub returns-in-None : goal.returns-in-None
-returns-in-None c = initial_stop c.read_bodies.ensures c.in-None.is
-
 pub loop-p-init : goal.loop-p-init
 loop-p-init c = (refl, refl, initial_read c.read_bodies.ensures c.in-Some.is)
 
-pub offset_bounds-list-p : goal.offset_bounds-list-p
-offset_bounds-list-p c = omega (arith, few c.loop-p.invariant.2 (c.loop-p.invariant.1 ∙ c.read_bodies.auto.place) c.requires.0.few, c.loop-p-test.true)
-
-pub bounds-list-p : goal.bounds-list-p
-bounds-list-p c = omega (arith, c.loop-p-test.true, few c.loop-p.invariant.2 (c.loop-p.invariant.1 ∙ c.read_bodies.auto.place) c.requires.0.few, c.loop-p.invariant.2.queue.long)
-
-pub overflow_mul-q : goal.overflow_mul-q
-overflow_mul-q c = omega (arith, (state_fits c.loop-p.invariant.2 c.loop-p-test.true c.number-q.ensures (c.loop-p.invariant.1 ∙ c.read_bodies.auto.place)).1, c.requires.0.long)
-
-pub overflow_add-q : goal.overflow_add-q
-overflow_add-q c = omega (arith, (state_fits c.loop-p.invariant.2 c.loop-p-test.true c.number-q.ensures (c.loop-p.invariant.1 ∙ c.read_bodies.auto.place)).1, c.requires.0.long)
-
 pub read_bodies-requires-in-loop-p : goal.read_bodies-requires-in-loop-p
-read_bodies-requires-in-loop-p c = (c.loop-p.invariant.2.queue, rw (c.loop-p.invariant.1 ∙ c.read_bodies.auto.place) (low_fewer c.requires.0 _ (state_fits c.loop-p.invariant.2 c.loop-p-test.true c.number-q.ensures (c.loop-p.invariant.1 ∙ c.read_bodies.auto.place)).1))
+read_bodies-requires-in-loop-p c = (c.loop-p.invariant.2.queue, rw (c.loop-p.invariant.1 ∙ c.read_bodies.auto.place) (low_fewer c.requires.0 _ (state_fits c.loop-p.invariant.2 c.loop-p-test.true c.from-q.ensures (c.loop-p.invariant.1 ∙ c.read_bodies.auto.place)).1))
 
-pub shape_of-list-in-None-read_bodies : goal.shape_of-list-in-None-read_bodies
-shape_of-list-in-None-read_bodies c = c.read_bodies-in-loop-p.auto.list ∙ (c.loop-p.invariant.0 ∙ c.read_bodies.auto.list)
-
-pub shape_of-place-in-None-read_bodies : goal.shape_of-place-in-None-read_bodies
-shape_of-place-in-None-read_bodies c = c.read_bodies-in-loop-p.auto.place ∙ (c.loop-p.invariant.1 ∙ c.read_bodies.auto.place)
-
-pub returns-in-None-read_bodies : goal.returns-in-None-read_bodies
-returns-in-None-read_bodies c = state_stop c.loop-p.invariant.2 c.loop-p-test.true c.number-q.ensures c.read_bodies-in-loop-p.ensures c.in-None-read_bodies.is
-
-pub overflow_add-p : goal.overflow_add-p
-overflow_add-p c = omega (arith, few c.loop-p.invariant.2 (c.loop-p.invariant.1 ∙ c.read_bodies.auto.place) c.requires.0.few, c.loop-p-test.true)
+pub returns-in_default-read_bodies : goal.returns-in_default-read_bodies
+returns-in_default-read_bodies c = state_stop c.loop-p.invariant.2 c.loop-p-test.true c.from-q.ensures c.read_bodies-in-loop-p.ensures c.in_default-read_bodies.is
 
 pub loop-p-smaller : goal.loop-p-smaller
 loop-p-smaller c = omega (arith, few c.loop-p.invariant.2 (c.loop-p.invariant.1 ∙ c.read_bodies.auto.place) c.requires.0.few, c.loop-p-test.true)
@@ -61,13 +28,7 @@ pub loop-p-preserved : goal.loop-p-preserved
 loop-p-preserved c =
     let l = c.loop-p.invariant in
     let r = c.read_bodies-in-loop-p in
-    (r.auto.list ∙ l.0, r.auto.place ∙ l.1, state_read l.2 c.loop-p-test.true c.number-q.ensures r.ensures c.in-Some-read_bodies.is)
-
-pub shape_of-list : goal.shape_of-list
-shape_of-list c = c.loop-p.invariant.0 ∙ c.read_bodies.auto.list
-
-pub shape_of-place : goal.shape_of-place
-shape_of-place c = c.loop-p.invariant.1 ∙ c.read_bodies.auto.place
+    (r.auto.list ∙ l.0, r.auto.place ∙ l.1, state_read l.2 c.loop-p-test.true c.from-q.ensures r.ensures c.in-Some-read_bodies.is)
 
 pub returns : goal.returns
 returns c = states_all c.loop-p.invariant.2 c.loop-p-test.false

@@ -5,6 +5,3 @@ use Rattle.runs.proofs.walk.note_ends.Given as goal
 
 abbrev pub invariant-loop-k : goal.invariant-loop-k
 invariant-loop-k l = NotedFrom (inputs l.stock) l.s l.ends l.k
-
-abbrev pub decreases-loop-k : goal.decreases-loop-k
-decreases-loop-k l = l.k

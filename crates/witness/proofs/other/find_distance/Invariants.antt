@@ -1,11 +1,6 @@
 -- `find_distance` meets its contract. The invariant: no right-hand side for a symbol before a has a distance. Assumes nothing.
-use Prim.Native.Nat.{◌-◌}
-use lib.ListN.{length}
 use Rattle.witness.proofs.Distances.{Passed}
 use Rattle.witness.proofs.other.find_distance.Given as goal
 
 abbrev pub invariant-loop-a : goal.invariant-loop-a
-invariant-loop-a l = Passed l.ins l.starts l.marks l.dist l.q l.b l.a
-
-abbrev pub decreases-loop-a : goal.decreases-loop-a
-decreases-loop-a l = length l.ins - l.a
+invariant-loop-a l = Passed l.ins l.form.starts.now l.form.marks.now l.dist l.q l.b l.a

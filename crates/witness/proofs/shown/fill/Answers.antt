@@ -1,35 +1,20 @@
--- `fill` meets its contract. The invariant: what filling all leaves is what filling the rest leaves from here. Assumes nothing.
-use Prim.Native.Nat.{ℕ, suc, ◌+◌, ◌-◌, ◌<◌}
-use native.Mathlib.Nat.{add-zero}
+-- `fill` meets its contract: the bytes between are written, and the others stay. Assumes nothing.
+use Prim.Native.Nat.{ℕ, ◌+◌, ◌≤◌}
 use native.Mathlib.Omega.{arith}
-use mathlib.Core.List.{List}
-use mathlib.Core.Path.{◌≡◌, refl, sym, ap, ◌∙◌}
-use lib.ListN.{replicate, set, length-set}
-use lib.Seq.{sets}
+use mathlib.Core.List.{List, ◌++◌, append_assoc}
+use mathlib.Core.Path.{◌≡◌, sym, ap, ap₂, ◌∙◌}
+use lib.ListN.{length, take, drop, replicate, length-replicate, length-take, length-drop}
+use lib.Seq.{sets, sets-eq}
+use borrow.Rule.Slice.PartMut.{put_mid}
+use Rattle.std.proofs.Common.{drop-drop}
 use Rattle.witness.proofs.shown.fill.Goals as goal
 
--- one byte of the rest is stored
-one_more_lem : (buffer : List ℕ) (at n j e : ℕ) → j < n → sets buffer (at + j) (replicate (n - j) e) ≡ sets (set buffer (at + j) e) (at + (j + 1)) (replicate (n - (j + 1)) e)
-one_more_lem buffer at n j e h =
-    let f : n - j ≡ suc (n - (j + 1)) = omega arith in
-    let g : suc (at + j) ≡ at + (j + 1) = omega arith in
-    ap (λ k. sets buffer (at + j) (replicate k e)) f ∙ ap (λ k. sets (set buffer (at + j) e) k (replicate (n - (j + 1)) e)) g
-
-pub loop-j-init : goal.loop-j-init
-loop-j-init c = let a = c.args in let z : a.n ≡ a.n - 0 = omega arith in (omega arith, refl, rw add-zero (ap (λ k. sets a.buffer.now a.at (replicate k a.e)) z))
-
-pub loop-j-preserved : goal.loop-j-preserved
-loop-j-preserved c =
-    let a = c.args in
-    let l = c.loop-j in
-    (omega arith, length-set l.buffer (a.at + l.j) a.e ∙ l.invariant.1, l.invariant.2 ∙ one_more_lem l.buffer a.at a.n l.j a.e (omega (arith, c.loop-j-test.true)))
-
-pub shape_of-buffer : goal.shape_of-buffer
-shape_of-buffer c = c.loop-j.invariant.1
+filled : (buffer part : List ℕ) (at n e k : ℕ) → at + n ≤ length buffer → k ≡ n → part ≡ replicate (length (take k (drop at buffer))) e → put_mid at k buffer part ≡ sets buffer at (replicate n e)
+filled buffer part at n e k h i f =
+    let m : length (take k (drop at buffer)) ≡ n = simp (length-take, length-drop) (omega arith) in
+    let r = length-replicate n e in
+    let y : drop k (drop at buffer) ≡ drop (at + length (replicate n e)) buffer = drop-drop k at buffer ∙ ap (λ j. drop (at + j) buffer) (i ∙ sym r) in
+    ap₂ (λ u v. take at buffer ++ (u ++ v)) (f ∙ ap (λ j. replicate j e) m) y ∙ sym (sets-eq (replicate n e) buffer at (omega arith) ∙ append_assoc (take at buffer) (replicate n e) (drop (at + length (replicate n e)) buffer))
 
 pub returns : goal.returns
-returns c =
-    let a = c.args in
-    let l = c.loop-j in
-    let z : a.n - l.j ≡ 0 = omega (arith, c.loop-j-test.false) in
-    sym (l.invariant.2 ∙ ap (λ k. sets l.buffer (a.at + l.j) (replicate k a.e)) z)
+returns c = filled _ _ c.args.at c.args.n c.args.e _ c.requires (omega arith) (c.fill.ensures.after (λ y e. e))

@@ -5,10 +5,10 @@ use Rattle.witness.proofs.Addresses.{rank_call, rank_symbol, rank_unknown}
 use Rattle.witness.proofs.shown.mark_rank.Goals as goal
 
 pub returns-then-i-gt0 : goal.returns-then-i-gt0
-returns-then-i-gt0 c = rank_call c.args.outs.now c.args.marks.now c.args.k c.requires c.wide-i.ensures c.wide-b.ensures c.if-i-gt0.true
+returns-then-i-gt0 c = rank_call c.args.outs.now c.args.marks.now c.args.k c.requires c.from-i.ensures c.from-b.ensures c.if-i-gt0.true
 
 pub returns-then-b-outs : goal.returns-then-b-outs
-returns-then-b-outs c = rank_unknown c.args.outs.now c.args.marks.now c.args.k c.requires c.wide-i.ensures c.wide-b.ensures (omega arith) c.if-b-outs.true
+returns-then-b-outs c = rank_unknown c.args.outs.now c.args.marks.now c.args.k c.requires c.from-i.ensures c.from-b.ensures (omega arith) c.if-b-outs.true
 
 pub returns : goal.returns
-returns c = c.wide.ensures ∙ rank_symbol c.args.outs.now c.args.marks.now c.args.k c.requires c.wide-i.ensures c.wide-b.ensures (omega arith)
+returns c = c.from.ensures ∙ rank_symbol c.args.outs.now c.args.marks.now c.args.k c.requires c.from-i.ensures c.from-b.ensures (omega arith)

@@ -10,20 +10,6 @@ use Rattle.witness.proofs.shown.write_address.Goals as goal
 pub loop-j-init : goal.loop-j-init
 loop-j-init c = (refl, λ n r to B. address_start B)
 
-pub overflow_add-from : goal.overflow_add-from
-overflow_add-from c =
-    let P = c.requires in
-    let l = c.loop-j in
-    let C = l.invariant.1 P.states P.children P.to P.body in
-    omega (arith, C.inside, P.body.there, P.body.inside)
-
-pub mark_rank-rank-requires : goal.mark_rank-rank-requires
-mark_rank-rank-requires c =
-    let P = c.requires in
-    let l = c.loop-j in
-    let C = l.invariant.1 P.states P.children P.to P.body in
-    omega (arith, C.inside, P.body.there, P.body.inside)
-
 pub overflow_sub-w : goal.overflow_sub-w
 overflow_sub-w c =
     let P = c.requires in
@@ -31,24 +17,10 @@ overflow_sub-w c =
     let C = l.invariant.1 P.states P.children P.to P.body in
     omega (arith, address_room P.body C, P.room)
 
-pub overflow_add-place : goal.overflow_add-place
-overflow_add-place c =
-    let P = c.requires in
-    let l = c.loop-j in
-    let C = l.invariant.1 P.states P.children P.to P.body in
-    omega (arith, address_few P.body C)
-
 pub overflow_cast-place : goal.overflow_cast-place
 overflow_cast-place c =
     let a = c.args in
     omega (arith, rank_low a.outs.now (mark_at a.marks.now (a.from + (c.loop-j.j - 1))) c.requires.low, c.mark_rank-rank.ensures)
-
-pub bounds-place-w : goal.bounds-place-w
-bounds-place-w c =
-    let P = c.requires in
-    let l = c.loop-j in
-    let C = l.invariant.1 P.states P.children P.to P.body in
-    omega (arith, address_room P.body C, P.room, C.ends.long, P.end, l.invariant.0)
 
 pub loop-j-preserved-then-between-rank : goal.loop-j-preserved-then-between-rank
 loop-j-preserved-then-between-rank c =
@@ -68,9 +40,6 @@ pub loop-j-preserved : goal.loop-j-preserved
 loop-j-preserved c =
     let l = c.loop-j in
     (l.invariant.0, λ n r to B. address_past B (l.invariant.1 n r to B) (omega (arith, c.loop-j-test.true)) c.mark_rank-rank.ensures c.if-between-rank.false)
-
-pub shape_of-place : goal.shape_of-place
-shape_of-place c = c.loop-j.invariant.0
 
 pub returns : goal.returns
 returns c =

@@ -8,6 +8,3 @@ use Rattle.witness.proofs.shown.write_address.Given as goal
 
 abbrev pub invariant-loop-j : goal.invariant-loop-j
 invariant-loop-j l = (length l.place ≡ length l.initial.place) × ((n r to : ℕ) → InBody l.outs l.marks n r l.from to l.m → AddressLoop l.outs l.marks n r l.from to l.m l.initial.place l.at l.place l.w l.between l.j)
-
-abbrev pub decreases-loop-j : goal.decreases-loop-j
-decreases-loop-j l = l.j

@@ -3,7 +3,4 @@ use Rattle.witness.proofs.Wrapping.{StepsLoop}
 use Rattle.witness.proofs.shown.write_steps.Given as goal
 
 abbrev pub invariant-loop-k : goal.invariant-loop-k
-invariant-loop-k l = StepsLoop l.ins l.e l.steps l.count l.buffer l.from l.to l.k
-
-abbrev pub decreases-loop-k : goal.decreases-loop-k
-decreases-loop-k l = l.k
+invariant-loop-k l = StepsLoop l.ins l.e l.steps l.count l.buffer l.span.from l.span.to l.k

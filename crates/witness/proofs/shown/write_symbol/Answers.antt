@@ -1,26 +1,7 @@
 -- `write_symbol` meets its contract. Assumes nothing.
-use native.Mathlib.Omega.{arith}
-use mathlib.Core.Path.{refl, ◌∙◌}
-use lib.ListN.{length-set}
+use mathlib.Core.Path.{refl}
 use Rattle.witness.proofs.Wrapping.{symbol_written}
 use Rattle.witness.proofs.shown.write_symbol.Goals as goal
 
-pub fill-requires : goal.fill-requires
-fill-requires c =
-    let a = c.args in
-    let P = c.requires in
-    omega (arith, length-set a.buffer.now a.at a.a, P.room, P.symbols.ranks.low a.a P.symbols.there, c.wide-rank.ensures)
-
-pub overflow_add-result-2 : goal.overflow_add-result-2
-overflow_add-result-2 c =
-    let a = c.args in
-    let P = c.requires in
-    omega (arith, P.room, P.symbols.ranks.low a.a P.symbols.there, c.wide-rank.ensures)
-
-pub shape_of-buffer : goal.shape_of-buffer
-shape_of-buffer c =
-    let a = c.args in
-    c.fill.auto.buffer ∙ length-set a.buffer.now a.at a.a
-
 pub returns : goal.returns
-returns c = symbol_written c.requires c.wide-rank.ensures c.fill.ensures refl
+returns c = symbol_written c.requires c.from-rank.ensures c.fill.ensures refl

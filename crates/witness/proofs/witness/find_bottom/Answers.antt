@@ -3,21 +3,11 @@ use native.Mathlib.Omega.{arith}
 use Rattle.witness.specs.Inner.Bottoms.{no_path, second_path, first_path}
 use Rattle.witness.proofs.witness.find_bottom.Goals as goal
 
-pub path_from-f-requires : goal.path_from-f-requires
-path_from-f-requires c =
-    let P = c.requires in
-    record { outs = P.outs; layout = P.forms.left; leaf = P.forms.leaf; earliest = P.forms.left_earliest P.forms.leaf; state = P.state c.if-c1-gt0.true; room = P.room }
+pub returns-then-first-gt0 : goal.returns-then-first-gt0
+returns-then-first-gt0 c = first_path c.if-first-gt0.true c.root_on_leaf-b.ensures c.path_from-f.ensures
 
-pub returns-then-c1-gt0 : goal.returns-then-c1-gt0
-returns-then-c1-gt0 c = first_path c.if-c1-gt0.true c.root_on_leaf-b.ensures c.path_from-f.ensures
-
-pub path_from-f-requires-then-c2-gt0 : goal.path_from-f-requires-then-c2-gt0
-path_from-f-requires-then-c2-gt0 c =
-    let P = c.requires in
-    record { outs = P.outs; layout = P.forms.right; leaf = P.forms.leaf; earliest = P.forms.right_earliest P.forms.leaf; state = P.state' c.if-c2-gt0.true; room = P.room }
-
-pub returns-then-c2-gt0 : goal.returns-then-c2-gt0
-returns-then-c2-gt0 c = second_path (omega (arith, c.if-c1-gt0.false)) c.if-c2-gt0.true c.path_from-f-then-c2-gt0.ensures
+pub returns-then-second-gt0 : goal.returns-then-second-gt0
+returns-then-second-gt0 c = second_path (omega (arith, c.if-first-gt0.false)) c.if-second-gt0.true c.path_from-f-then-second-gt0.ensures
 
 pub returns : goal.returns
-returns c = no_path (omega (arith, c.if-c1-gt0.false)) (omega (arith, c.if-c2-gt0.false))
+returns c = no_path (omega (arith, c.if-first-gt0.false)) (omega (arith, c.if-second-gt0.false))

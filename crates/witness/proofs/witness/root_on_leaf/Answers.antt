@@ -1,31 +1,10 @@
 -- `root_on_leaf` meets its contract. Assumes nothing.
 use native.Mathlib.Omega.{arith}
-use Rattle.witness.proofs.Bottoms.{leaf_body_number, leaf_mark_inside, leaf_root}
+use Rattle.witness.proofs.Bottoms.{leaf_mark_inside, leaf_root}
 use Rattle.witness.proofs.witness.root_on_leaf.Goals as goal
 
-pub overflow_mul-x : goal.overflow_mul-x
-overflow_mul-x c = omega (arith, leaf_body_number c.requires (omega (arith, c.if-c-eq0.false)))
-
-pub overflow_add-x : goal.overflow_add-x
-overflow_add-x c = omega (arith, leaf_body_number c.requires (omega (arith, c.if-c-eq0.false)))
-
-pub overflow_add-x-2 : goal.overflow_add-x-2
-overflow_add-x-2 c = omega (arith, leaf_body_number c.requires (omega (arith, c.if-c-eq0.false)))
-
-pub offset_bounds-starts-x : goal.offset_bounds-starts-x
-offset_bounds-starts-x c = omega (arith, leaf_body_number c.requires (omega (arith, c.if-c-eq0.false)))
-
-pub bounds-starts-x : goal.bounds-starts-x
-bounds-starts-x c = omega (arith, leaf_body_number c.requires (omega (arith, c.if-c-eq0.false)))
-
-pub overflow_mul-at : goal.overflow_mul-at
-overflow_mul-at c = omega (arith, leaf_mark_inside c.requires (omega (arith, c.if-c-eq0.false)) c.number-at.ensures)
-
-pub overflow_add-at : goal.overflow_add-at
-overflow_add-at c = omega (arith, leaf_mark_inside c.requires (omega (arith, c.if-c-eq0.false)) c.number-at.ensures)
-
-pub bounds-marks-at : goal.bounds-marks-at
-bounds-marks-at c = leaf_mark_inside c.requires (omega (arith, c.if-c-eq0.false)) c.number-at.ensures
+pub bounds-form-at : goal.bounds-form-at
+bounds-form-at c = leaf_mark_inside c.requires (omega (arith, c.if-mark-eq0.false)) c.from-at.ensures
 
 pub returns : goal.returns
-returns c = leaf_root c.requires (omega (arith, c.if-c-eq0.false)) c.number-at.ensures c.wide.ensures
+returns c = leaf_root c.requires (omega (arith, c.if-mark-eq0.false)) c.from-at.ensures c.from.ensures

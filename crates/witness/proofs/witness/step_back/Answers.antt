@@ -1,34 +1,9 @@
 -- `step_back` meets its contract. Assumes nothing.
-use native.Mathlib.Omega.{arith}
-use Rattle.witness.proofs.WayBack.{back_bodied, back_start, back_address_asked, back_upable, back_done}
+use Rattle.witness.proofs.WayBack.{back_address_asked, back_done}
 use Rattle.witness.proofs.witness.step_back.Goals as goal
 
-pub pair_byte-q-requires : goal.pair_byte-q-requires
-pair_byte-q-requires c = (omega (arith, c.requires.0.long), omega arith)
-
-pub pair_byte-a-requires : goal.pair_byte-a-requires
-pair_byte-a-requires c = (omega (arith, c.requires.0.long), omega arith)
-
-pub pair_byte-m-requires : goal.pair_byte-m-requires
-pair_byte-m-requires c = (omega (arith, c.requires.0.long), omega arith)
-
-pub pair_byte-i-requires : goal.pair_byte-i-requires
-pair_byte-i-requires c = (omega (arith, c.requires.0.long), omega arith)
-
-pub body_of-requires : goal.body_of-requires
-body_of-requires c = (back_bodied c.args.p c.requires.0 c.pair_byte-q.ensures c.pair_byte-a.ensures, omega arith)
-
-pub offset_bounds-starts1-body_of : goal.offset_bounds-starts1-body_of
-offset_bounds-starts1-body_of c = omega (arith, back_start c.args.p c.requires.0 c.pair_byte-q.ensures c.pair_byte-a.ensures c.body_of.ensures)
-
-pub bounds-starts1-body_of : goal.bounds-starts1-body_of
-bounds-starts1-body_of c = back_start c.args.p c.requires.0 c.pair_byte-q.ensures c.pair_byte-a.ensures c.body_of.ensures
-
-pub write_address-w-requires : goal.write_address-w-requires
-write_address-w-requires c = back_address_asked c.args.p c.requires.0 c.requires.1 c.pair_byte-q.ensures c.pair_byte-a.ensures c.pair_byte-m.ensures c.body_of.ensures c.number-from.ensures
-
-pub step_up-s-requires : goal.step_up-s-requires
-step_up-s-requires c = back_upable c.args.p c.requires.0 c.requires.1 c.pair_byte-q.ensures c.pair_byte-a.ensures c.pair_byte-i.ensures
+pub write_address-at-requires : goal.write_address-at-requires
+write_address-at-requires c = back_address_asked c.args.p c.requires.0 c.requires.1 c.from-q.ensures c.from-a.ensures c.from-m.ensures c.body_of.ensures c.from-from.ensures
 
 pub returns : goal.returns
-returns c = back_done c.args.p c.requires.0 c.requires.1 c.pair_byte-q.ensures c.pair_byte-a.ensures c.pair_byte-m.ensures c.pair_byte-i.ensures c.body_of.ensures c.number-from.ensures c.write_address-w.ensures c.write_address-w.auto.place c.step_up-s.ensures c.step_up-s.auto.buffer
+returns c = back_done c.args.p c.requires.0 c.requires.1 c.from-q.ensures c.from-a.ensures c.from-m.ensures c.from-i.ensures c.body_of.ensures c.from-from.ensures c.write_address-at.ensures c.write_address-at.auto.place c.step_up-span.ensures c.step_up-span.auto.buffer

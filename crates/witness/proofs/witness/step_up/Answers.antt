@@ -3,9 +3,6 @@ use native.Mathlib.Omega.{arith}
 use Rattle.witness.proofs.WayBack.{up_none, up_step}
 use Rattle.witness.proofs.witness.step_up.Goals as goal
 
-pub add_step-requires : goal.add_step-requires
-add_step-requires c = c.requires.step c.if-q-gt0.true
-
 pub returns-then-q-gt0 : goal.returns-then-q-gt0
 returns-then-q-gt0 c = up_step c.args.q c.if-q-gt0.true c.add_step.ensures
 

@@ -1,42 +1,17 @@
 -- `trace` meets its contract. Assumes nothing.
-use native.Mathlib.Omega.{arith}
 use mathlib.Core.Path.{ap, ◌∙◌}
 use Rattle.classes.specs.Inner.Classes.{at}
-use Rattle.witness.proofs.Showing.{show_bodied_left, show_bodied_right, show_left, show_right, show_fits, show_root, show_address_asked, show_leading, show_roomy, traced}
+use Rattle.witness.proofs.Showing.{show_root, show_address_asked, show_leading, show_roomy, traced}
 use Rattle.witness.proofs.witness.trace.Goals as goal
 
-pub body_of-requires : goal.body_of-requires
-body_of-requires c = (show_bodied_left c.requires.0 c.requires.1, omega arith)
-
-pub offset_bounds-starts1-body_of : goal.offset_bounds-starts1-body_of
-offset_bounds-starts1-body_of c = omega (arith, show_left c.requires.0 c.requires.1, c.body_of.ensures)
-
-pub bounds-starts1-body_of : goal.bounds-starts1-body_of
-bounds-starts1-body_of c = omega (arith, show_left c.requires.0 c.requires.1, c.body_of.ensures)
-
-pub body_of-requires-2 : goal.body_of-requires-2
-body_of-requires-2 c = (show_bodied_right c.requires.0 c.requires.1, omega arith)
-
-pub offset_bounds-starts2-body_of : goal.offset_bounds-starts2-body_of
-offset_bounds-starts2-body_of c = omega (arith, show_right c.requires.0 c.requires.1, c.body_of-2.ensures)
-
-pub bounds-starts2-body_of : goal.bounds-starts2-body_of
-bounds-starts2-body_of c = omega (arith, show_right c.requires.0 c.requires.1, c.body_of-2.ensures)
-
-pub overflow_add-i : goal.overflow_add-i
-overflow_add-i c = omega (arith, (show_fits c.requires.0 c.requires.1).0, (c.number-i.ensures ∙ ap (at c.args.starts1.now) c.body_of.ensures))
-
-pub overflow_add-j : goal.overflow_add-j
-overflow_add-j c = omega (arith, (show_fits c.requires.0 c.requires.1).1, (c.number-j.ensures ∙ ap (at c.args.starts2.now) c.body_of-2.ensures))
-
 pub root_tree-f-requires : goal.root_tree-f-requires
-root_tree-f-requires c = show_root c.requires.0 c.requires.1 c.requires.2.leaf (c.number-i.ensures ∙ ap (at c.args.starts1.now) c.body_of.ensures) (c.number-j.ensures ∙ ap (at c.args.starts2.now) c.body_of-2.ensures) c.requires.2.tree_room
+root_tree-f-requires c = show_root c.requires.0 c.requires.1 c.requires.2.leaf (c.from-i.ensures ∙ ap (at c.args.left.starts.now) c.body_of.ensures) (c.from-j.ensures ∙ ap (at c.args.right.starts.now) c.body_of-2.ensures) c.requires.2.tree_room
 
 pub write_address-w-requires : goal.write_address-w-requires
-write_address-w-requires c = show_address_asked c.requires.0 c.requires.1 (c.number-i.ensures ∙ ap (at c.args.starts1.now) c.body_of.ensures) c.requires.2.address_room
+write_address-w-requires c = show_address_asked c.requires.0 c.requires.1 (c.from-i.ensures ∙ ap (at c.args.left.starts.now) c.body_of.ensures) c.requires.2.address_room
 
 pub trace_back-s-requires : goal.trace_back-s-requires
-trace_back-s-requires c = (show_leading c.requires.0 c.requires.1 c.requires.2.leaf, show_roomy c.requires.0 c.requires.1 c.root_tree-f.ensures c.write_address-w.ensures (c.root_tree-f.auto.buffer ∙ c.requires.2.tree_room) c.requires.2.address_room c.write_address-w.auto.place (c.number-i.ensures ∙ ap (at c.args.starts1.now) c.body_of.ensures) (c.number-j.ensures ∙ ap (at c.args.starts2.now) c.body_of-2.ensures))
+trace_back-s-requires c = (show_leading c.requires.0 c.requires.1 c.requires.2.leaf, show_roomy c.requires.0 c.requires.1 c.root_tree-f.ensures c.write_address-w.ensures (c.root_tree-f.auto.buffer ∙ c.requires.2.tree_room) c.requires.2.address_room c.write_address-w.auto.place (c.from-i.ensures ∙ ap (at c.args.left.starts.now) c.body_of.ensures) (c.from-j.ensures ∙ ap (at c.args.right.starts.now) c.body_of-2.ensures))
 
 pub returns : goal.returns
-returns c = traced c.requires.0 c.requires.1 c.root_tree-f.ensures c.write_address-w.ensures (c.root_tree-f.auto.buffer ∙ c.requires.2.tree_room) c.requires.2.address_room c.write_address-w.auto.place (c.number-i.ensures ∙ ap (at c.args.starts1.now) c.body_of.ensures) (c.number-j.ensures ∙ ap (at c.args.starts2.now) c.body_of-2.ensures) c.requires.2.leaf c.requires.2.rank c.trace_back-s.ensures c.trace_back-s.auto.buffer c.trace_back-s.auto.place
+returns c = traced c.requires.0 c.requires.1 c.root_tree-f.ensures c.write_address-w.ensures (c.root_tree-f.auto.buffer ∙ c.requires.2.tree_room) c.requires.2.address_room c.write_address-w.auto.place (c.from-i.ensures ∙ ap (at c.args.left.starts.now) c.body_of.ensures) (c.from-j.ensures ∙ ap (at c.args.right.starts.now) c.body_of-2.ensures) c.requires.2.leaf c.requires.2.rank c.trace_back-s.ensures c.trace_back-s.auto.buffer c.trace_back-s.auto.place

@@ -1,32 +1,11 @@
 -- `trace_back` meets its contract. The invariant is `WayLoop`. Assumes nothing.
 use Prim.Native.Nat.{◌-◌}
 use native.Mathlib.Omega.{arith}
-use Rattle.witness.proofs.WayBack.{way_start, way_asks, way_less, way_next, way_end}
+use Rattle.witness.proofs.WayBack.{way_next, way_end}
 use Rattle.witness.proofs.witness.trace_back.Goals as goal
 
-pub loop-r-init : goal.loop-r-init
-loop-r-init c = way_start c.requires.0 c.requires.1
-
-pub step_back-s-requires : goal.step_back-s-requires
-step_back-s-requires c = way_asks c.requires.0 c.requires.1 c.loop-r.invariant (c.loop-r.r - 1) (omega (arith, c.loop-r-test.true))
-
-pub overflow_sub-r-in-loop-r : goal.overflow_sub-r-in-loop-r
-overflow_sub-r-in-loop-r c = omega (arith, c.loop-r-test.true)
-
-pub pair_byte-r-requires : goal.pair_byte-r-requires
-pair_byte-r-requires c = (omega (arith, c.loop-r-test.true, c.loop-r.invariant.small, c.requires.0.long), omega arith)
-
-pub loop-r-smaller : goal.loop-r-smaller
-loop-r-smaller c = omega (arith, way_less c.requires.0 c.requires.1 c.loop-r.invariant (c.loop-r.r - 1) (omega (arith, c.loop-r-test.true)) c.pair_byte-r.ensures)
-
 pub loop-r-preserved : goal.loop-r-preserved
-loop-r-preserved c = way_next c.requires.0 c.requires.1 c.loop-r.invariant (c.loop-r.r - 1) (omega (arith, c.loop-r-test.true)) c.pair_byte-r.ensures c.step_back-s.auto.buffer c.step_back-s.auto.place c.step_back-s.ensures
-
-pub shape_of-buffer : goal.shape_of-buffer
-shape_of-buffer c = c.loop-r.invariant.same_buffer
-
-pub shape_of-place : goal.shape_of-place
-shape_of-place c = c.loop-r.invariant.same_area
+loop-r-preserved c = way_next c.requires.0 c.requires.1 c.loop-r.invariant (c.loop-r.r - 1) (omega (arith, c.loop-r-test.true)) c.from-r.ensures c.step_back-placed.auto.buffer c.step_back-placed.auto.place c.step_back-placed.ensures
 
 pub returns : goal.returns
 returns c = way_end c.requires.0 c.requires.1 c.loop-r.invariant (omega (arith, c.loop-r-test.false))

@@ -1,4 +1,4 @@
--- `text_size` meets its contract. The invariant: the tags of the symbols before i have this size. Assumes nothing.
+-- `text_size` meets its contract. The invariant: the tags of the symbols passed have this size. Assumes nothing.
 use native.Mathlib.Omega.{arith}
 use Rattle.xml.proofs.Lengths.{all_added}
 use Rattle.xml.proofs.Walking.{found}

@@ -1,6 +1,5 @@
 -- `cut_state` meets its contract: ⊤ stays, and for any other pattern the invariant is `StateLoop`. Assumes nothing.
-use native.Mathlib.Omega.{arith}
-use Rattle.prefixes.proofs.Settling.{state_start, state_bodies, state_next, state_end, top_kept}
+use Rattle.prefixes.proofs.Settling.{state_start, state_next, state_end, top_kept}
 use Rattle.prefixes.proofs.pattern.Patterns.cut_state.Goals as goal
 
 pub returns-then-self-q-clause-cut : goal.returns-then-self-q-clause-cut
@@ -9,11 +8,6 @@ returns-then-self-q-clause-cut c =
 
 pub loop-a-init : goal.loop-a-init
 loop-a-init c = state_start c.args.tables.now.leaf c.args.q c.requires.0.table
-
-pub cut_rhs-any-requires : goal.cut_rhs-any-requires
-cut_rhs-any-requires c =
-    let L = c.loop-a.invariant in
-    (state_bodies c.requires.0 L, omega (arith, L.stays.long_sizes, c.requires.1), c.loop-a-test.true)
 
 pub loop-a-preserved : goal.loop-a-preserved
 loop-a-preserved c = let k = c.cut_rhs-any in state_next c.requires.0 c.loop-a.invariant c.loop-a-test.true k.ensures.cut k.ensures.same k.auto.other

@@ -1,17 +1,9 @@
 -- `settle` meets its contract: a sweep that cuts nothing ends with the common prefixes. Assumes nothing.
-use Rattle.prefixes.proofs.Settling.{stays_more, follow_start, follow_bodies, follow_next, settle_less, settle_end}
+use Rattle.prefixes.proofs.Settling.{follow_start, follow_next, settle_less, settle_end}
 use Rattle.prefixes.proofs.pattern.Patterns.settle.Goals as goal
 
 pub loop-self-init : goal.loop-self-init
 loop-self-init c = let k = c.follow in follow_next c.requires (follow_start c.requires.table) k.ensures.cut.cuts k.ensures.cut.table k.ensures.same k.auto.other
-
-pub sweep-requires : goal.sweep-requires
-sweep-requires c = follow_bodies c.requires c.loop-self.invariant
-
-pub follow-requires-in-loop-self : goal.follow-requires-in-loop-self
-follow-requires-in-loop-self c =
-    let z = c.sweep in
-    follow_bodies c.requires (follow_next c.requires c.loop-self.invariant z.ensures.cut.cuts z.ensures.cut.table z.ensures.same z.auto.other)
 
 pub loop-self-preserved : goal.loop-self-preserved
 loop-self-preserved c =
@@ -25,9 +17,6 @@ loop-self-smaller c =
     let z = c.sweep in
     let k = c.follow-in-loop-self in
     settle_less c.requires c.loop-self.invariant z.ensures.cut z.ensures.same c.loop-self-test.true k.ensures.cut k.ensures.same
-
-pub returns-clause-same : goal.returns-clause-same
-returns-clause-same c = stays_more c.loop-self.invariant.stays c.sweep.ensures.same
 
 pub returns-clause-cut : goal.returns-clause-cut
 returns-clause-cut c = let z = c.sweep in settle_end c.requires c.loop-self.invariant z.ensures.cut z.ensures.same c.loop-self-test.false

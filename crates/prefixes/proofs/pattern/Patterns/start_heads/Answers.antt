@@ -1,13 +1,6 @@
 -- `start_heads` meets its contract. The invariant is `StartLoop`. Assumes nothing.
-use Rattle.prefixes.proofs.Starting.{start_none, can_start, start_next, start_end}
+use Rattle.prefixes.proofs.Starting.{start_next, start_end}
 use Rattle.prefixes.proofs.pattern.Patterns.start_heads.Goals as goal
-
--- the number of the right-hand side, and the next, are in the table of starts
-pub loop-q-init : goal.loop-q-init
-loop-q-init c = start_none
-
-pub start_state-requires : goal.start_state-requires
-start_state-requires c = can_start c.requires c.loop-q.invariant c.loop-q-test.true c.body-body.ensures.0 c.body-body.ensures.1
 
 pub loop-q-preserved : goal.loop-q-preserved
 loop-q-preserved c =

@@ -15,9 +15,6 @@ bounds-self-w c =
     let S = c.requires in
     room l.invariant.1 (names_first a.tables.now.marks.now l.j a.body.to c.loop-j-test.true S.inside) (start_fits S)
 
-pub overflow_add-w : goal.overflow_add-w
-overflow_add-w c = omega (arith, bounds-self-w c, c.loop-j.invariant.1.same)
-
 pub loop-j-preserved : goal.loop-j-preserved
 loop-j-preserved c =
     let a = c.args in

@@ -1,6 +1,0 @@
--- `all_pending` meets its contract. The invariant is `AllLoop`. Assumes nothing.
-use Rattle.merging.proofs.Worklist.{AllLoop}
-use Rattle.merging.proofs.refining.all_pending.Given as goal
-
-abbrev pub invariant-loop-q : goal.invariant-loop-q
-invariant-loop-q l = AllLoop l.placing.pending l.list.bytes l.list.len l.q
