@@ -1,5 +1,4 @@
 // The calls, each with its answer.
-use trees::refusal::Refusal;
 use crate::answer;
 use canonical::normal::clean;
 use comparison::compare::compare;
@@ -11,30 +10,31 @@ use queries::address::symbol_at;
 use queries::linear::is_linear;
 use std::io;
 use transducer::translate::translate;
-use trees::alphabet::{AlphabetsRead, read_alphabets};
-use trees::tree::{TreeRead, read_tree};
+use trees::alphabet::{AlphabetSizes, read_alphabets};
+use trees::refusal::Refusal;
+use trees::tree::{TreeSize, read_tree};
+use witness::witness::Shown;
 use xml::read::read_xml;
 use xml::write::write_xml;
 
 pub(crate) fn stock(rt: &impl Print, stock: &[u8]) -> io::Result<()> {
     match read_alphabets(stock) {
-        AlphabetsRead::Symbols(p, b) => answer::two(rt, b"part kinds ", p, b", block kinds ", b),
-        AlphabetsRead::Refused(r) => answer::refused(rt, r),
+        Ok(AlphabetSizes { inputs, outputs }) => {
+            println!(rt; "part kinds {inputs}, block kinds {outputs}")
+        }
+        Err(r) => answer::refused(rt, r),
     }
 }
 
 pub(crate) fn design(rt: &impl Print, stock: &[u8], design: &[u8]) -> io::Result<()> {
     match read_tree(stock, design) {
-        TreeRead::Tree(nodes, levels) => answer::two(rt, b"parts ", nodes, b", levels ", levels),
-        TreeRead::Refused(r) => answer::refused(rt, r),
+        Ok(TreeSize { nodes, levels }) => println!(rt; "parts {nodes}, levels {levels}"),
+        Err(r) => answer::refused(rt, r),
     }
 }
 
 pub(crate) fn sheet(rt: &impl Print, stock: &[u8], sheet: &[u8]) -> io::Result<()> {
-    match read_transducer(stock, sheet) {
-        Ok(n) => answer::one(rt, b"passes ", n),
-        Err(r) => answer::refused(rt, r),
-    }
+    answer::count(rt, "passes", read_transducer(stock, sheet))
 }
 
 pub(crate) fn place(
@@ -45,16 +45,16 @@ pub(crate) fn place(
     place: &[u8],
 ) -> io::Result<()> {
     match symbol_at(stock, sheet, design, place) {
-        Found::Symbol(b) => answer::one(rt, b"block ", b),
-        Found::Nowhere => answer::text(rt, b"no such place\n"),
+        Ok(Some(block)) => println!(rt; "block {block}"),
+        Ok(None) => println!(rt; "no such place"),
         Err(r) => answer::refused(rt, r),
     }
 }
 
 pub(crate) fn single(rt: &impl Print, stock: &[u8], sheet: &[u8]) -> io::Result<()> {
     match is_linear(stock, sheet) {
-        LinearTest::Linear => answer::text(rt, b"yes\n"),
-        LinearTest::NotLinear => answer::text(rt, b"no\n"),
+        Ok(true) => println!(rt; "yes"),
+        Ok(false) => println!(rt; "no"),
         Err(r) => answer::refused(rt, r),
     }
 }
@@ -68,10 +68,8 @@ pub(crate) fn writing(
     area: &mut [u8],
     shown: usize,
 ) -> io::Result<()> {
-    match write_transducer(stock, n, counts, marks, area) {
-        Ok(size) => answer::one(rt, b"bytes ", size)?,
-        Err(r) => answer::refused(rt, r)?,
-    }
+    let written = write_transducer(stock, n, counts, marks, area);
+    answer::count(rt, "bytes", written)?;
     answer::area_starts(rt, area, shown)
 }
 
@@ -82,64 +80,39 @@ pub(crate) fn sewing(
     design: &[u8],
     area: &mut [u8],
 ) -> io::Result<()> {
-    match translate(stock, sheet, design, area) {
-        Ok(n) => answer::one(rt, b"blocks ", n)?,
-        Err(r) => answer::refused(rt, r)?,
-    }
-    answer::area(rt, area)
-}
-
-fn cleaned(rt: &impl Print, stock: &[u8], sheet: &[u8], area: &mut [u8]) -> io::Result<()> {
-    answer::form(rt, b"; clean ", clean(stock, sheet, area))?;
-    answer::text(rt, b"\n")
+    answer::count(rt, "blocks", translate(stock, sheet, design, area))?;
+    answer::bytes(rt, "its area", area)
 }
 
 pub(crate) fn cleaning(
     rt: &impl Print,
     stock: &[u8],
     sheet: &[u8],
-    area: &mut [u8],
-    other: &mut [u8],
+    trimmed: &mut [u8],
+    cleaned: &mut [u8],
     shown: usize,
 ) -> io::Result<()> {
-    answer::form(rt, b"trimmed ", earliest_form(stock, sheet, area))?;
-    cleaned(rt, stock, sheet, other)?;
-    answer::area_starts(rt, area, shown)
+    answer::form(rt, "trimmed", earliest_form(stock, sheet, trimmed))?;
+    answer::form(rt, "; clean", clean(stock, sheet, cleaned))?;
+    println!(rt;)?;
+    answer::area_starts(rt, trimmed, shown)
 }
 
-// Promises nothing: its caller prints what comes, and is then quicker to check.
-fn verdict(
+// The verdict, and how long the bodies of the shorter one are; or the two symbols, then the tree and the address.
+pub(crate) fn pair(
+    rt: &impl Print,
     stock: &[u8],
     first: &[u8],
     second: &[u8],
     tree: &mut [u8],
     address: &mut [u8],
-) -> Result<Option<Shown>, Refusal> {
-    compare(stock, first, second, tree, address)
-}
-
-fn alike<'a>(rt: &impl Print, stock: &[u8], first: &'a [u8], second: &'a [u8]) -> io::Result<()> {
-    answer::one(
-        rt,
-        b"alike, bodies of the shorter ",
-        shorter(stock, first, second).len(),
-    )
-}
-
-// The verdict, and how long the bodies of the shorter one are; or the two symbols, then the tree and the address.
-pub(crate) fn pair<'a>(
-    rt: &impl Print,
-    stock: &[u8],
-    first: &'a [u8],
-    second: &'a [u8],
-    tree: &mut [u8],
-    address: &mut [u8],
 ) -> io::Result<()> {
-    match verdict(stock, first, second, tree, address) {
-        Comparison::Alike => alike(rt, stock, first, second),
-        Comparison::Differ(nodes, numbers, left, right) => {
-            answer::difference(rt, left, right, tree, nodes, address, numbers)
+    match compare(stock, first, second, tree, address) {
+        Ok(None) => {
+            let bytes = shorter(stock, first, second).len();
+            println!(rt; "alike, bodies of the shorter {bytes}")
         }
+        Ok(Some(shown)) => answer::difference(rt, shown, tree, address),
         Err(r) => answer::refused(rt, r),
     }
 }
@@ -154,8 +127,8 @@ pub(crate) fn joining(
     area: &mut [u8],
     shown: usize,
 ) -> io::Result<()> {
-    answer::form(rt, b"joined ", join(first, second, sheet1, sheet2, area))?;
-    answer::text(rt, b"\n")?;
+    answer::form(rt, "joined", join(first, second, sheet1, sheet2, area))?;
+    println!(rt;)?;
     answer::area_starts(rt, area, shown)
 }
 
@@ -167,10 +140,7 @@ pub(crate) fn xml(
     area: &mut [u8],
     shown: usize,
 ) -> io::Result<()> {
-    match write_xml(stock, plan, area) {
-        Ok(n) => answer::one(rt, b"bytes ", n)?,
-        Err(r) => answer::refused(rt, r)?,
-    }
+    answer::count(rt, "bytes", write_xml(stock, plan, area))?;
     answer::area_starts(rt, area, shown)
 }
 
@@ -182,9 +152,6 @@ pub(crate) fn plan(
     area: &mut [u8],
     shown: usize,
 ) -> io::Result<()> {
-    match read_xml(stock, text, area) {
-        Ok(n) => answer::one(rt, b"blocks ", n)?,
-        Err(r) => answer::refused(rt, r)?,
-    }
+    answer::count(rt, "blocks", read_xml(stock, text, area))?;
     answer::area_starts(rt, area, shown)
 }

@@ -11,194 +11,254 @@
 //     xml AREA SHOWN: a stock, a plan                plan AREA SHOWN: a stock, a text
 //
 // AREA is the length of an area, and SHOWN how many bytes of the first one are printed on a line of their own; none, if it is 0.
-ghost use Rattle.std.specs.Prelude.{◌≤◌};
-
-use crate::reader::{NO_NUMBER, between, count, nth, number, put_file};
+use crate::fault::Fault;
+use crate::reader::{Names, file, number};
 use crate::{answer, calls};
-use check::same;
 use formats::file::{transducer_counts, transducer_marks};
-use std::io;
-use std::num::wrapping_sub_usize;
-use trees::bytes::wide;
+use std::alloc::{AllocError, Global};
 
-// Whether this is the word of the call with this number.
-fn is_call(word: &[u8], k: usize) -> bool {
-    same(
-        word,
-        nth(
-            b"is stock design sheet counts marks single place sewing cleaning writing pair joining xml plan",
-            k,
-            b' ',
-        ),
-    )
+#[derive(Clone, Copy)]
+enum Call {
+    Is,
+    Stock,
+    Design,
+    Sheet,
+    Counts,
+    Marks,
+    Single,
+    Place,
+    Sewing {
+        area: usize,
+    },
+    Cleaning {
+        trimmed: usize,
+        clean: usize,
+        shown: usize,
+    },
+    Writing {
+        area: usize,
+        shown: usize,
+        passes: usize,
+    },
+    Pair {
+        design: usize,
+        place: usize,
+    },
+    Joining {
+        area: usize,
+        shown: usize,
+    },
+    Xml {
+        area: usize,
+        shown: usize,
+    },
+    Plan {
+        area: usize,
+        shown: usize,
+    },
 }
 
-// The number of the call; 15, if there is none.
-fn call_number(word: &[u8]) -> usize
-    ensures { result ≤ 15 }
-{
-    let mut k = 0;
-    while k < 15 {
-        if is_call(word, k) {
-            return k;
-        }
-        k += 1;
-    }
-    k
+// The length of an area, or how many of its bytes are shown.
+fn length(s: &[u8]) -> Option<usize> {
+    number(s).filter(|n| *n <= 20_483)
 }
 
-// The call that a line asks for; 15, if its files could not be read, or are not as many as the call takes, or its numbers are not:
-// the two digits here.
-fn asked(s: &[u8], call: &[u8], end: usize) -> usize {
-    let files = wrapping_sub_usize(count(s, b'|'), 1);
-    let numbers = wrapping_sub_usize(count(call, b' '), 2);
-    let takes: [usize; 16] = [
-        10, 10, 20, 20, 20, 20, 20, 40, 31, 23, 33, 32, 42, 22, 22, 99,
-    ];
-    let k = call_number(nth(call, 1, b' '));
-    if end <= 65536 && takes[k] / 10 == files && takes[k] % 10 == numbers {
-        k
-    } else {
-        15
-    }
-}
-
-// The calls that are lent areas; x is the line's last number.
-fn lent<'a>(
-    rt: &impl Print,
-    k: usize,
-    x: usize,
-    a: &[u8],
-    b: &'a [u8],
-    c: &'a [u8],
-    d: &[u8],
-    area: &mut [u8],
-    other: &mut [u8],
-) -> io::Result<()> {
-    match k {
-        8 => calls::sewing(rt, a, b, c, area),
-        9 => calls::cleaning(rt, a, b, area, other, x),
-        10 => calls::writing(rt, a, b, c, x, area, other.len()),
-        11 => calls::pair(rt, a, b, c, area, other),
-        12 => calls::joining(rt, a, b, c, d, area, other.len()),
-        13 => calls::xml(rt, a, b, area, other.len()),
-        14 => calls::plan(rt, a, b, area, other.len()),
-        _ => answer::bad_line(rt),
-    }
-}
-
-// Lends of each area as much as the line says.
-fn lend<'a>(
-    rt: &impl Print,
-    k: usize,
-    call: &[u8],
-    a: &[u8],
-    b: &'a [u8],
-    c: &'a [u8],
-    d: &[u8],
-    area: &mut [u8],
-    other: &mut [u8],
-) -> io::Result<()> {
-    let n = number(nth(call, 2, b' '));
-    let m = number(nth(call, 3, b' '));
-    let x = number(nth(call, 4, b' '));
-    if n <= area.len() {
-        if m <= other.len() {
-            if x != NO_NUMBER {
-                return lent(rt, k, x, a, b, c, d, &mut area[0..n], &mut other[0..m]);
+impl Call {
+    // The call that these words are. Nothing is asked of the first word, nor of the last behind three numbers or none; behind one or
+    // two numbers the last is read as a number too.
+    fn of(words: &[&[u8]]) -> Option<Call> {
+        match words {
+            [_, b"is", _] => Some(Call::Is),
+            [_, b"stock", _] => Some(Call::Stock),
+            [_, b"design", _] => Some(Call::Design),
+            [_, b"sheet", _] => Some(Call::Sheet),
+            [_, b"counts", _] => Some(Call::Counts),
+            [_, b"marks", _] => Some(Call::Marks),
+            [_, b"single", _] => Some(Call::Single),
+            [_, b"place", _] => Some(Call::Place),
+            [_, b"sewing", area, last] => {
+                length(last)?;
+                Some(Call::Sewing {
+                    area: length(area)?,
+                })
             }
+            [_, b"cleaning", trimmed, clean, shown, _] => Some(Call::Cleaning {
+                trimmed: length(trimmed)?,
+                clean: length(clean)?,
+                shown: number(shown)?,
+            }),
+            [_, b"writing", area, shown, passes, _] => Some(Call::Writing {
+                area: length(area)?,
+                shown: length(shown)?,
+                passes: number(passes)?,
+            }),
+            [_, word, first, second, last] => {
+                number(last)?;
+                Call::of_two(word, length(first)?, length(second)?)
+            }
+            _ => None,
         }
     }
-    answer::bad_line(rt)
+
+    // The calls with two numbers.
+    fn of_two(word: &[u8], first: usize, second: usize) -> Option<Call> {
+        match word {
+            b"pair" => Some(Call::Pair {
+                design: first,
+                place: second,
+            }),
+            b"joining" => Some(Call::Joining {
+                area: first,
+                shown: second,
+            }),
+            b"xml" => Some(Call::Xml {
+                area: first,
+                shown: second,
+            }),
+            b"plan" => Some(Call::Plan {
+                area: first,
+                shown: second,
+            }),
+            _ => None,
+        }
+    }
+
+    fn read(alloc: Global, s: &[u8]) -> Result<Call, Fault> {
+        let words: Vec<&[u8]> = s.split(|b| *b == b' ').collect(alloc)?;
+        Call::of(words.as_slice()).ok_or(Fault::BadLine)
+    }
 }
 
-fn with_areas<'a>(
-    rt: &impl Print,
-    k: usize,
-    call: &[u8],
-    a: &[u8],
-    b: &'a [u8],
-    c: &'a [u8],
-    d: &[u8],
-) -> io::Result<()> {
-    let mut area = [7u8; 20483];
-    let mut other = [7u8; 20483];
-    lend(rt, k, call, a, b, c, d, &mut area, &mut other)
+// An area that is lent.
+fn lent(alloc: Global, n: usize) -> Result<Vec<u8>, AllocError> {
+    Ok(vec![in alloc; 7u8; n]?)
 }
 
-// The files end at these places of the store.
+// The calls that are lent areas.
+fn answer_lent(
+    rt: &(impl Print + AllocGlobal),
+    call: Call,
+    files: &[Vec<u8>],
+) -> Result<(), Fault> {
+    let alloc = rt.alloc();
+    match (call, files) {
+        (Call::Sewing { area }, [stock, sheet, design]) => {
+            calls::sewing(rt, stock, sheet, design, &mut lent(alloc, area)?)?;
+        }
+        (
+            Call::Cleaning {
+                trimmed,
+                clean,
+                shown,
+            },
+            [stock, sheet],
+        ) => {
+            let mut trimmed = lent(alloc, trimmed)?;
+            calls::cleaning(
+                rt,
+                stock,
+                sheet,
+                &mut trimmed,
+                &mut lent(alloc, clean)?,
+                shown,
+            )?;
+        }
+        (
+            Call::Writing {
+                area,
+                shown,
+                passes,
+            },
+            [stock, counts, marks],
+        ) => {
+            calls::writing(
+                rt,
+                stock,
+                counts,
+                marks,
+                passes,
+                &mut lent(alloc, area)?,
+                shown,
+            )?;
+        }
+        (Call::Pair { design, place }, [stock, first, second]) => {
+            let mut design = lent(alloc, design)?;
+            calls::pair(
+                rt,
+                stock,
+                first,
+                second,
+                &mut design,
+                &mut lent(alloc, place)?,
+            )?;
+        }
+        (Call::Joining { area, shown }, [first, second, sheet1, sheet2]) => {
+            let mut area = lent(alloc, area)?;
+            calls::joining(rt, first, second, sheet1, sheet2, &mut area, shown)?;
+        }
+        (Call::Xml { area, shown }, [stock, plan]) => {
+            calls::xml(rt, stock, plan, &mut lent(alloc, area)?, shown)?;
+        }
+        (Call::Plan { area, shown }, [stock, text]) => {
+            calls::plan(rt, stock, text, &mut lent(alloc, area)?, shown)?;
+        }
+        _ => return Err(Fault::BadLine),
+    }
+    Ok(())
+}
+
 fn answer_call(
-    rt: &impl Print,
-    k: usize,
-    call: &[u8],
-    store: &[u8],
-    kept: usize,
-    ends: [usize; 4],
-) -> io::Result<()> {
-    let a = between(store, kept, ends[0]);
-    let b = between(store, ends[0], ends[1]);
-    let c = between(store, ends[1], ends[2]);
-    let d = between(store, ends[2], ends[3]);
-    match k {
-        1 => calls::stock(rt, a),
-        2 => calls::design(rt, a, b),
-        3 => calls::sheet(rt, a, b),
-        4 => answer::handed(rt, transducer_counts(a, b)),
-        5 => answer::handed(rt, transducer_marks(a, b)),
-        6 => calls::single(rt, a, b),
-        7 => calls::place(rt, a, b, c, d),
-        _ => with_areas(rt, k, call, a, b, c, d),
+    rt: &(impl Print + AllocGlobal),
+    call: Call,
+    files: &[Vec<u8>],
+) -> Result<(), Fault> {
+    match (call, files) {
+        (Call::Stock, [stock]) => calls::stock(rt, stock)?,
+        (Call::Design, [stock, design]) => calls::design(rt, stock, design)?,
+        (Call::Sheet, [stock, sheet]) => calls::sheet(rt, stock, sheet)?,
+        (Call::Counts, [stock, sheet]) => answer::handed(rt, transducer_counts(stock, sheet))?,
+        (Call::Marks, [stock, sheet]) => answer::handed(rt, transducer_marks(stock, sheet))?,
+        (Call::Single, [stock, sheet]) => calls::single(rt, stock, sheet)?,
+        (Call::Place, [stock, sheet, design, place]) => {
+            calls::place(rt, stock, sheet, design, place)?
+        }
+        _ => return answer_lent(rt, call, files),
     }
+    Ok(())
 }
 
-// A line that names bytes. They are kept.
-fn name(
-    rt: &impl Print,
-    letter: u8,
-    kept: usize,
-    end: usize,
-    names: &mut [usize; 52],
-) -> io::Result<usize> {
-    let k = wrapping_sub_usize(wide(letter), 65);
-    if k > 25 {
-        answer::bad_line(rt)?;
-        return Ok(kept);
+// The call and the files that stand behind the first bar of a line.
+fn asked(alloc: Global, s: &[u8], names: &Names) -> Result<(Call, Vec<Vec<u8>>), Fault> {
+    let mut parts = s.split(|b| *b == b'|');
+    let call = Call::read(alloc, parts.next().unwrap_or(b""))?;
+    let mut files = Vec::new(alloc);
+    let mut room = names.room;
+    for part in parts {
+        let bytes = file(alloc, part, names)?;
+        room = room.checked_sub(bytes.len()).ok_or(Fault::BadLine)?;
+        files.push(bytes)?;
     }
-    names[2 * k] = kept;
-    names[2 * k + 1] = end;
-    Ok(end)
+    Ok((call, files))
 }
 
-// Puts the files into the store behind what is kept, and says where each ends. One that is not there is empty.
-fn put_files(s: &[u8], kept: usize, store: &mut [u8; 65536], names: &[usize; 52]) -> [usize; 4] {
-    let a = put_file(nth(s, 2, b'|'), kept, store, names);
-    let b = put_file(nth(s, 3, b'|'), a, store, names);
-    let c = put_file(nth(s, 4, b'|'), b, store, names);
-    let d = put_file(nth(s, 5, b'|'), c, store, names);
-    [a, b, c, d]
-}
-
-// Reads a line and answers. Says how much of the store is to be kept behind it.
-pub(crate) fn line(
-    rt: &impl Print,
+// Reads a line and answers. One that names bytes prints nothing.
+pub(crate) fn answer_line(
+    rt: &(impl Print + AllocGlobal),
     s: &[u8],
-    kept: usize,
-    store: &mut [u8; 65536],
-    names: &mut [usize; 52],
-) -> io::Result<usize> {
-    if s.len() == 0 {
-        return Ok(kept);
+    names: &mut Names,
+) -> Result<(), Fault> {
+    if s.is_empty() || s.starts_with(b"#") {
+        return Ok(());
     }
-    if s[0] == b'#' {
-        return Ok(kept);
+    let mut parts = s.splitn(2, |b| *b == b'|');
+    let label = parts.next().unwrap_or(s);
+    let asked = asked(rt.alloc(), parts.next().unwrap_or(b""), names);
+    if let Ok((Call::Is, files)) = &asked
+        && let [bytes] = files.as_slice()
+    {
+        return names.name(rt.alloc(), s[0], bytes);
     }
-    let ends = put_files(s, kept, store, names);
-    let call = nth(s, 1, b'|');
-    let k = asked(s, call, ends[3]);
-    if k == 0 {
-        return name(rt, s[0], kept, ends[0], names);
-    }
-    answer::text(rt, nth(s, 0, b'|'))?;
-    answer_call(rt, k, call, store, kept, ends)?;
-    Ok(kept)
+    rt.write_all(label)?;
+    let (call, files) = asked?;
+    answer_call(rt, call, files.as_slice())
 }

@@ -6,49 +6,33 @@
 
 mod answer;
 mod calls;
+mod fault;
 mod line;
 mod reader;
 
-ghost use Rattle.std.specs.Prelude.{◌≤◌, length};
+use crate::fault::Fault;
+use crate::reader::Names;
+use std::io::{self, ErrorKind, Read};
 
-use std::io::{self, Read};
-
-// The cases, line by line. A line may name bytes, which those behind it use: they stay at the start of the store.
-fn run(rt: &impl Print, text: &[u8], store: &mut [u8; 65536]) -> io::Result<()> {
-    let mut names = [0usize; 52];
-    let mut kept = 0;
-    let mut at = 0;
-    while at < text.len() {
-        let end = reader::find(text, at, b'\n');
-        kept = line::line(rt, reader::between(text, at, end), kept, store, &mut names)?;
-        if end >= text.len() {
-            return Ok(());
+// The cases, line by line. A line may name bytes, which those behind it use.
+fn run(rt: &(impl Print + AllocGlobal), text: &[u8]) -> io::Result<()> {
+    let mut names = Names::new(rt.alloc());
+    for s in text.split(|b| *b == b'\n') {
+        match line::answer_line(rt, s, &mut names) {
+            Ok(()) => {}
+            Err(Fault::BadLine) => rt.println("bad line")?,
+            Err(Fault::Io(e)) => return Err(e),
         }
-        at = end + 1;
     }
     Ok(())
 }
 
-// Fills `text` from the input as far as that goes, and answers how many bytes came: those before a read that fails.
-fn read_text(input: &mut impl Read, text: &mut [u8]) -> usize
-    ensures { result ≤ length text.new }
-{
-    let mut done = 0;
-    while done < text.len() {
-        let Ok(n) = input.read(&mut text[done..]) else {
-            return done;
-        };
-        if n == 0 {
-            return done;
-        }
-        done += n;
-    }
-    done
-}
-
 fn main(rt: HostRuntime) -> io::Result<()> {
-    let mut text = [0u8; 65536];
-    let n = read_text(&mut rt.reader(), &mut text);
-    let mut store = [0u8; 65536];
-    run(&rt, &text[..n], &mut store)
+    let mut text = Vec::new(rt.alloc());
+    match rt.reader().take(65_536).read_to_end(&mut text) {
+        Err(e) if e.kind() == ErrorKind::OutOfMemory => return Err(e),
+        // What came before a read that failed is answered.
+        _ => {}
+    }
+    run(&rt, text.as_slice())
 }

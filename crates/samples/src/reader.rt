@@ -6,195 +6,102 @@
 // `511*0`, one of several bytes `2047*0,4`, and a capital letter stands for bytes that a line above has named, as in
 // `T | is | 1 0 3 0 3 ..`. A line that is empty or starts with `#` is passed over. One that cannot be read answers `bad line`.
 // So a new sample is a line of `stdin` and what it prints a line or two of `stdout`. All of `stdin` has at most 65,536 bytes.
-//
-// The bytes of the files stand in a store, one behind the other. `end` says how much of it is full: FULL, if it does not hold them
-// or something could not be read.
-ghost use Rattle.std.specs.Prelude.{◌≤◌};
+use crate::fault::Fault;
+use std::alloc::Global;
+use std::collections::BTreeMap;
 
-use std::num::wrapping_sub_usize;
-use trees::bytes::wide;
+// How many bytes all that were ever named and the files of a line may have together.
+const ROOM: usize = 65_536;
 
-pub(crate) const FULL: usize = 65537;
-
-// Stands for what is no number, and for one that is too large. No sample has this one.
-pub(crate) const NO_NUMBER: usize = 18446744073709551614;
-
-// The first index from `at` on that has this byte, or the end.
-pub(crate) fn find(s: &[u8], at: usize, b: u8) -> usize
-    ensures { at ≤ result }
-{
-    let mut k = at;
-    while k < s.len() {
-        if s[k] == b {
-            return k;
-        }
-        k += 1;
-    }
-    k
+// The bytes that lines have named, and how many more the files of a line may have.
+#[derive(Drop)]
+pub(crate) struct Names {
+    files: BTreeMap<u8, Vec<u8>>,
+    pub(crate) room: usize,
 }
 
-// Nothing, where that is no part.
-pub(crate) fn between(s: &[u8], from: usize, to: usize) -> &[u8] {
-    if from <= to {
-        if to <= s.len() {
-            return &s[from..to];
+impl Names {
+    pub(crate) fn new(alloc: Global) -> Names {
+        Names {
+            files: BTreeMap::new(alloc),
+            room: ROOM,
         }
     }
-    &s[0..0]
-}
 
-// The part with this number, from 0 on, of those that this byte separates; nothing, if there are not so many.
-pub(crate) fn nth(s: &[u8], k: usize, b: u8) -> &[u8] {
-    let mut from = 0;
-    let mut i = 0;
-    while i < k {
-        let to = find(s, from, b);
-        if to >= s.len() {
-            return &s[0..0];
+    // Names bytes by a capital letter. What the letter stood for before still takes its room.
+    pub(crate) fn name(&mut self, alloc: Global, letter: u8, bytes: &[u8]) -> Result<(), Fault> {
+        if !letter.is_ascii_uppercase() {
+            return Err(Fault::BadLine);
         }
-        from = to + 1;
-        i += 1;
+        self.room = self.room.checked_sub(bytes.len()).ok_or(Fault::BadLine)?;
+        self.files.insert(letter, Vec::from_slice(alloc, bytes)?)?;
+        Ok(())
     }
-    between(s, from, find(s, from, b))
 }
 
-// How often a byte stands there.
-pub(crate) fn count(s: &[u8], b: u8) -> usize {
-    let mut n = 0;
-    let mut k = 0;
-    while k < s.len() {
-        if s[k] == b {
-            n += 1;
-        }
-        k += 1;
+// A number in decimal, where nothing reads as 0; none for other text, and if it is too large. So is 2^64 - 2, but not 2^64 - 1.
+pub(crate) fn number(s: &[u8]) -> Option<usize> {
+    let mut n = 0usize;
+    for b in s {
+        let digit = char::from(*b).to_digit(10)?;
+        n = n.checked_mul(10)?.checked_add(digit as usize)?;
     }
-    n
+    (n != usize::MAX - 1).then_some(n)
 }
 
-fn with_digit(n: usize, b: u8) -> usize {
-    let d = wrapping_sub_usize(wide(b), 48);
-    if d < 10 {
-        if n <= (18446744073709551615 - d) / 10 {
-            return n * 10 + d;
-        }
+// Adds bytes to a file, where there is room.
+fn add(file: &mut Vec<u8>, bytes: &[u8]) -> Result<(), Fault> {
+    if bytes.len() > ROOM.saturating_sub(file.len()) {
+        return Err(Fault::BadLine);
     }
-    NO_NUMBER
+    file.extend_from_slice(bytes)?;
+    Ok(())
 }
 
-// Nothing reads as 0. Behind what is no digit the number stays too large.
-pub(crate) fn number(s: &[u8]) -> usize {
-    let mut n = 0;
-    let mut k = 0;
-    while k < s.len() {
-        n = with_digit(n, s[k]);
-        k += 1;
+// Adds a byte in decimal, or bytes that are named.
+fn add_item(file: &mut Vec<u8>, s: &[u8], names: &Names) -> Result<(), Fault> {
+    if let [letter] = s
+        && let Some(named) = names.files.get(letter)
+        && !named.is_empty()
+    {
+        return add(file, named);
     }
-    n
+    match number(s).map(u8::try_from) {
+        Some(Ok(byte)) if !s.is_empty() => add(file, &[byte]),
+        _ => Err(Fault::BadLine),
+    }
 }
 
-// Copies n bytes of the store to its end, one after the other, so that a part that runs into its copy is repeated.
-fn append(store: &mut [u8; 65536], from: usize, end: usize, n: usize) -> usize {
-    if from > end {
-        return FULL;
+// Items with commas between them, and there may be one behind the last.
+fn add_items(file: &mut Vec<u8>, s: &[u8], names: &Names) -> Result<(), Fault> {
+    for item in s.split_inclusive(|b| *b == b',') {
+        add_item(file, item.strip_suffix(b",").unwrap_or(item), names)?;
     }
-    if end > 65536 {
-        return FULL;
-    }
-    if n > 65536 - end {
-        return FULL;
-    }
-    let mut k = 0;
-    while k < n {
-        store[end + k] = store[from + k];
-        k += 1;
-    }
-    end + n
-}
-
-// What stands in the store from `from` on, so many times.
-fn repeat(store: &mut [u8; 65536], from: usize, end: usize, times: usize) -> usize {
-    if times == 0 {
-        return FULL;
-    }
-    if times > 65536 {
-        return FULL;
-    }
-    let size = wrapping_sub_usize(end, from);
-    let mut to = end;
-    let mut k = 1;
-    while k < times {
-        to = append(store, from, to, size);
-        k += 1;
-    }
-    to
-}
-
-// A byte in decimal, or a name.
-fn put_item(s: &[u8], end: usize, store: &mut [u8; 65536], names: &[usize; 52]) -> usize {
-    if s.len() == 0 {
-        return FULL;
-    }
-    let k = wrapping_sub_usize(wide(s[0]), 65);
-    if k < 26 {
-        let from = names[2 * k];
-        let to = names[2 * k + 1];
-        if s.len() > 1 || to <= from {
-            return FULL;
-        }
-        return append(store, from, end, wrapping_sub_usize(to, from));
-    }
-    let n = number(s);
-    if n > 255 {
-        return FULL;
-    }
-    if end > 65535 {
-        return FULL;
-    }
-    store[end] = n as u8;
-    end + 1
-}
-
-// Items with commas between them.
-fn put_items(s: &[u8], start: usize, store: &mut [u8; 65536], names: &[usize; 52]) -> usize {
-    let mut end = start;
-    let mut at = 0;
-    while at < s.len() {
-        let to = find(s, at, b',');
-        end = put_item(between(s, at, to), end, store, names);
-        if to >= s.len() {
-            return end;
-        }
-        at = to + 1;
-    }
-    end
+    Ok(())
 }
 
 // Items, and before them, if they stand there more than once, how often.
-fn put_run(s: &[u8], start: usize, store: &mut [u8; 65536], names: &[usize; 52]) -> usize {
-    let star = find(s, 0, b'*');
-    if star >= s.len() {
-        return put_items(s, start, store, names);
+fn add_run(alloc: Global, file: &mut Vec<u8>, s: &[u8], names: &Names) -> Result<(), Fault> {
+    let mut parts = s.splitn(2, |b| *b == b'*');
+    let (Some(times), Some(items)) = (parts.next(), parts.next()) else {
+        return add_items(file, s, names);
+    };
+    let Some(times @ 1..=ROOM) = number(times) else {
+        return Err(Fault::BadLine);
+    };
+    let mut once = Vec::new(alloc);
+    add_items(&mut once, items, names)?;
+    for _ in 0..times {
+        add(file, &once)?;
     }
-    let end = put_items(between(s, star + 1, s.len()), start, store, names);
-    repeat(store, start, end, number(between(s, 0, star)))
+    Ok(())
 }
 
 // A file: runs with spaces between them.
-pub(crate) fn put_file(
-    s: &[u8],
-    start: usize,
-    store: &mut [u8; 65536],
-    names: &[usize; 52],
-) -> usize {
-    let mut end = start;
-    let mut at = 0;
-    while at < s.len() {
-        let to = find(s, at, b' ');
-        end = put_run(between(s, at, to), end, store, names);
-        if to >= s.len() {
-            return end;
-        }
-        at = to + 1;
+pub(crate) fn file(alloc: Global, s: &[u8], names: &Names) -> Result<Vec<u8>, Fault> {
+    let mut file = Vec::new(alloc);
+    for run in s.split(|b| *b == b' ') {
+        add_run(alloc, &mut file, run, names)?;
     }
-    end
+    Ok(file)
 }
