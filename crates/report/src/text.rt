@@ -7,8 +7,7 @@ ghost use Rattle.formats.specs.Inner.Written.{Wrote};
 
 use codes::symbol::symbol_code;
 use formats::file::write_word;
-use trees::bytes::wide;
-use trees::refusal::{Refusal, number_of};
+use trees::refusal::Refusal;
 
 // A number below 10,000 in decimal.
 pub(crate) fn write_number(text: &mut [u8], at: usize, n: usize) -> usize
@@ -32,12 +31,10 @@ pub(crate) fn write_separated(text: &mut [u8], at: usize, s: u8, items: &[u8]) -
     if items.len() == 0 {
         return at;
     }
-    let mut to = write_number(text, at, wide(items[0]));
-    let mut k = 1;
-    while k < items.len() {
+    let mut to = write_number(text, at, usize::from(items[0]));
+    for item in &items[1..] {
         text[to] = s;
-        to = write_number(text, to + 1, wide(items[k]));
-        k += 1;
+        to = write_number(text, to + 1, usize::from(*item));
     }
     to
 }
@@ -70,7 +67,7 @@ pub(crate) fn write_refused(text: &mut [u8], r: Refusal) -> usize
     ensures { Wrote text.old text.new 0 result (refused_line (refusals.refusal_number r)) }
 {
     let a = write_word(text, 0, b"refused ");
-    let b = write_number(text, a, number_of(r) as usize);
+    let b = write_number(text, a, u32::from(r) as usize);
     write_word(text, b, b"\n")
 }
 
