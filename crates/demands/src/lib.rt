@@ -13,7 +13,6 @@ ghost use Rattle.demands.specs.Third.{Judges};
 ghost use Rattle.demands.specs.Joining.{file_in, JoinsThree};
 ghost use Rattle.demands.specs.Xml.{ReadsBack};
 
-use trees::refusal::Refusal;
 use canonical::normal::clean;
 use comparison::compare::compare;
 use formats::file::{read_transducer, transducer_counts, transducer_marks, write_transducer};
@@ -21,6 +20,8 @@ use forms::write::Form;
 use join::join::join;
 use queries::address::symbol_at;
 use transducer::translate::translate;
+use trees::refusal::Refusal;
+use witness::witness::Shown;
 use xml::read::read_xml;
 use xml::write::write_xml;
 
@@ -39,7 +40,7 @@ pub fn read_and_write(stock: &[u8], sheet: &[u8], area: &mut [u8]) -> Result<usi
 }
 
 // What sewing and the place reader answer.
-#[derive(Drop)]
+#[derive(Clone, Copy, Debug, PartialEq, Eq)]
 pub struct Sewing {
     pub sewn: Result<usize, Refusal>,
     pub asked: Result<Option<usize>, Refusal>,
@@ -63,7 +64,7 @@ pub fn sew_and_ask(
 }
 
 // What the three calls answer.
-#[derive(Drop)]
+#[derive(Clone, Copy, Debug, PartialEq, Eq)]
 pub struct Judgement {
     pub first: Result<Form, Refusal>,
     pub second: Result<Form, Refusal>,
@@ -96,7 +97,7 @@ pub fn judge(
 }
 
 // What the writer of XML and the reader answer.
-#[derive(Drop)]
+#[derive(Clone, Copy, Debug, PartialEq, Eq)]
 pub struct ReadBack {
     pub written: Result<usize, Refusal>,
     pub read: Result<usize, Refusal>,
@@ -128,13 +129,8 @@ fn file_in(r: Result<Form, Refusal>, area: &[u8]) -> &[u8]
     ensures { result.now ≡ file_in r area.now }
 {
     match r {
-        Formed::Form(_, _, n) => {
-            if n > area.len() {
-                return area;
-            }
-            &area[..n]
-        }
-        Err(_) => &area[..0],
+        Ok(form) => &area[..form.bytes.min(area.len())],
+        Err(_) => &[],
     }
 }
 
@@ -167,7 +163,7 @@ fn join_before(
 }
 
 // What four joinings of three sheets answer: the first with the second, and that with the third; the second with the third, and the first with that.
-#[derive(Drop)]
+#[derive(Clone, Copy, Debug, PartialEq, Eq)]
 pub struct BothWays {
     pub first: Result<Form, Refusal>,
     pub left: Result<Form, Refusal>,
