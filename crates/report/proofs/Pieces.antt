@@ -4,9 +4,13 @@ use Prim.Native.Nat.{ℕ, suc, ◌+◌, ◌-◌, ◌≤◌, ◌<◌}
 use native.Mathlib.Numerals.{add-one}
 use native.Mathlib.Omega.{arith}
 use mathlib.Core.List.{List, [], ◌∷◌, ◌++◌}
-use mathlib.Core.Path.{◌≡◌, refl, ap, sym}
+use mathlib.Core.Path.{◌≡◌, refl, ap, sym, ◌∙◌}
+use Rattle.std.specs.Prelude.{Bool, true, false}
+use Rattle.std.proofs.Common.{nat_eq}
+use Rattle.theory.proofs.Terms.{conflict}
 use lib.ListN.{length, get_or, drop, take, set, length-append, drop_of_length-le}
 use lib.Seq.{drop-cons}
+use Rattle.std.proofs.lemmas.Bool.{eqb-true}
 use Rattle.std.proofs.lemmas.List.{take_all}
 use Rattle.trees.specs.Refusal as refusals
 use Rattle.trees.specs.declared.refusal.Refusal.{Refusal}
@@ -19,6 +23,14 @@ use Rattle.report.specs.Text.{number_text, rest, separated, differ_word, at_word
 -- one byte
 pub one_byte : (t : List ℕ) (at x : ℕ) → Wrote t (set t at x) at (at + 1) (x ∷ [])
 one_byte t at x = record { wrote = refl; behind = refl }
+
+-- ---- whether there are numbers
+pub none_there : (xs : List ℕ) {b : Bool} → b ≡ nat_eq (length xs) 0 → b ≡ true → length xs ≡ 0
+none_there xs e f = eqb-true (length xs) 0 (sym e ∙ f)
+
+pub some_there : (xs : List ℕ) {b : Bool} → b ≡ nat_eq (length xs) 0 → b ≡ false → 0 < length xs
+some_there [] e f = let y = sym f ∙ e in conflict (cc)
+some_there (x ∷ xs) e f = omega arith
 
 -- ---- numbers with a byte between them
 module _ (s : ℕ) (items : List ℕ) where

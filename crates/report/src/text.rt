@@ -10,6 +10,7 @@ use formats::file::write_word;
 use trees::refusal::Refusal;
 
 // A number below 10,000 in decimal.
+// Stays: it calls itself for the digits in front, since there is no buffer for them (nothing is allocated, docs/AREAS.md).
 pub(crate) fn write_number(text: &mut [u8], at: usize, n: usize) -> usize
     requires { (n < 10000) × (at + length (number_text n) ≤ length text.old) }
     ensures { Wrote text.old text.new at result (number_text n) }
@@ -28,7 +29,7 @@ pub(crate) fn write_separated(text: &mut [u8], at: usize, s: u8, items: &[u8]) -
     requires { at + length (separated s items.now) ≤ length text.old }
     ensures { Wrote text.old text.new at result (separated s items.now) }
 {
-    if items.len() == 0 {
+    if items.is_empty() {
         return at;
     }
     let mut to = write_number(text, at, usize::from(items[0]));
@@ -44,11 +45,11 @@ pub(crate) fn write_address(text: &mut [u8], at: usize, address: &[u8]) -> usize
     requires { at + length (place_text address.now) ≤ length text.old }
     ensures { Wrote text.old text.new at result (place_text address.now) }
 {
-    if address.len() == 0 {
-        text[at] = 45;
+    if address.is_empty() {
+        text[at] = b'-';
         return at + 1;
     }
-    write_separated(text, at, 46, address)
+    write_separated(text, at, b'.', address)
 }
 
 // A space and the code of an output symbol.
@@ -56,7 +57,7 @@ pub(crate) fn write_symbol(text: &mut [u8], at: usize, k: usize) -> usize
     requires { (k < 64) × (at + 3 ≤ length text.old) }
     ensures { Wrote text.old text.new at result (32 ∷ symbol_code k) }
 {
-    text[at] = 32;
+    text[at] = b' ';
     let code = symbol_code(k);
     write_word(text, at + 1, &code)
 }
@@ -110,7 +111,7 @@ pub(crate) fn write_differ(
     ensures { Wrote text.old text.new at result (differ_line tree.now address.now left right) }
 {
     let a = write_word(text, at, b"differ ");
-    let b = write_separated(text, a, 44, tree);
+    let b = write_separated(text, a, b',', tree);
     let c = write_word(text, b, b" at ");
     let d = write_address(text, c, address);
     let e = write_symbol(text, d, left);
