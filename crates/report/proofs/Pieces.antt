@@ -16,7 +16,7 @@ use Rattle.trees.specs.Refusal as refusals
 use Rattle.trees.specs.declared.refusal.Refusal.{Refusal}
 use Rattle.trees.specs.declared.refusal.Refusal.TheVariants.{ShortArea, BadAlphabets, BadTree, BadContents, BadBody, LongOutput, OverLimits, FullRegistry, BadRegistry, DeepOutput, BadOutput, ShortTarget, OtherNumber, OtherAlphabet, JoinOverLimits}
 use Rattle.codes.specs.Codes.{symbol_code}
-use Rattle.formats.proofs.Writing.{Writing, begin, room_word, word_more, finish, then, wrote_as, wrote_long}
+use Rattle.formats.proofs.Writing.{Writing, room_word, word_more, finish, then, wrote_as, wrote_long}
 use Rattle.formats.specs.Inner.Written.{Wrote}
 use Rattle.report.specs.Text.{number_text, rest, separated, differ_word, at_word, sizes_line, place_text, differ_line}
 
@@ -71,9 +71,6 @@ module _ (s : ℕ) (items : List ℕ) where
   first_room t at some h = omega (arith, ap length (separated_first some), length-append (number_text (get_or items 0 0)) (rest s others))
 
   module _ {t u : List ℕ} {at m : ℕ} (some : 0 < length items) (W : Wrote t u at m (number_text (get_or items 0 0))) where
-    pub first_separated : Separating u m 0 m u
-    first_separated = begin (rest s others) u m
-
     rest_room : at + length (separated s items) ≤ length t → m + length (rest s others) ≤ length u
     rest_room h = omega (arith, ap length (separated_first some), length-append (number_text (get_or items 0 0)) (rest s others), W.behind, wrote_long W)
 

@@ -3,8 +3,8 @@ use native.Mathlib.Omega.{arith}
 use mathlib.Core.Path.{ap}
 use lib.ListN.{length, length-set}
 use Rattle.report.specs.Text.{number_text}
-use Rattle.formats.proofs.Writing.{wrote_as, wrote_long}
-use Rattle.report.proofs.Pieces.{none_there, some_there, none_separated, first_room, first_separated, next_room, all_separated, next_separated}
+use Rattle.formats.proofs.Writing.{wrote_as}
+use Rattle.report.proofs.Pieces.{none_there, some_there, none_separated, first_room, next_room, all_separated, next_separated}
 use Rattle.report.proofs.text.write_separated.Goals as goal
 
 pub returns-then-is_empty : goal.returns-then-is_empty
@@ -15,9 +15,6 @@ write_number-to-requires c =
     let a = c.args in
     let e = c.from.ensures in
     (omega (arith, e, c.shared_slice_known-2-1.given 0), omega (arith, ap (λ n. length (number_text n)) e, first_room a.s a.items.now a.text.now a.at (some_there c.args.items.now c.is_empty.ensures c.if-is_empty.false) c.requires))
-
-pub loop-item-init : goal.loop-item-init
-loop-item-init c = let a = c.args in first_separated a.s a.items.now (some_there c.args.items.now c.is_empty.ensures c.if-is_empty.false) (wrote_as (ap number_text c.from.ensures) c.write_number-to.ensures)
 
 pub bounds-text-to : goal.bounds-text-to
 bounds-text-to c =
@@ -39,9 +36,6 @@ write_number-to-requires-in-loop-item c =
 
 pub loop-item-preserved : goal.loop-item-preserved
 loop-item-preserved c = let a = c.args in next_separated a.s a.items.now c.loop-item.invariant c.loop-item-test.true (wrote_as (ap number_text c.from-in-loop-item.ensures) c.write_number-to-in-loop-item.ensures)
-
-pub shape_of-text : goal.shape_of-text
-shape_of-text c = let a = c.args in wrote_long (all_separated a.s a.items.now (some_there c.args.items.now c.is_empty.ensures c.if-is_empty.false) (wrote_as (ap number_text c.from.ensures) c.write_number-to.ensures) c.loop-item.invariant c.loop-item-test.false)
 
 pub returns : goal.returns
 returns c = let a = c.args in all_separated a.s a.items.now (some_there c.args.items.now c.is_empty.ensures c.if-is_empty.false) (wrote_as (ap number_text c.from.ensures) c.write_number-to.ensures) c.loop-item.invariant c.loop-item-test.false
