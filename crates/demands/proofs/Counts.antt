@@ -1,6 +1,6 @@
 -- Request F-3 is met: the laws of `registry` over lists of entries, and what the promises say of one call.
 -- Assumes nothing.
-use Rattle.std.specs.Prelude.{Err, None, Ok, Option, Result, Some}
+use Rattle.std.specs.Prelude.{Err, Ok, Result}
 use Rattle.trees.specs.declared.refusal.Refusal.{Refusal}
 use Rattle.trees.specs.Refusal.{outcome_of, accepted, refused, done, check, Holds}
 use Prim.Native.Nat.{ℕ, ◌+◌}

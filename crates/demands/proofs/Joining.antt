@@ -1,15 +1,14 @@
 -- Request F-9 is met.
 -- Assumes nothing.
-use Rattle.std.specs.Prelude.{Err, None, Ok, Option, Result, Some}
+use Rattle.std.specs.Prelude.{Err, Ok, Result}
 use Rattle.trees.specs.declared.refusal.Refusal.{Refusal}
 use Rattle.forms.specs.declared.write.Form.{Form}
 use Rattle.trees.specs.Refusal.{outcome_of, accepted, done, Holds}
-use Prim.Native.Nat.{ℕ, ◌<◌}
-use native.Mathlib.Omega.{arith}
+use Prim.Native.Nat.{ℕ, min}
 use mathlib.Core.List.{List}
 use mathlib.Core.Path.{◌≡◌, refl, sym, ap, ◌∙◌, subst}
 use lib.ListN.{length, take}
-use lib.Seq.{take_all}
+use Rattle.std.proofs.lemmas.List.{take_min}
 use Rattle.theory.specs.Term.{Tree}
 use Rattle.theory.specs.Transducer.{Transducer, translate}
 use Rattle.theory.proofs.Terms.{conflict}
@@ -18,7 +17,6 @@ use Rattle.trees.specs.Code.{Ranked, code}
 use Rattle.trees.proofs.Stock.{stock_reads, stock_reads_outputs}
 use Rattle.formats.specs.Sheet.{file, Sheet, sheet_check}
 use Rattle.transducer.specs.Output.{Output}
-
 use Rattle.join.specs.Answers.{JoinedFile, joined_stock, Joins}
 use Rattle.join.proofs.Laws.{TranslateAlike, sheet_alike, joined_sheet, join_translates_any, join_output, JoinWritten, join_written, join_sheet, join_unique, join_alike_first, join_alike_second, join_assoc_files}
 use Rattle.canonical.specs.Answers.{SewAlike}
@@ -65,10 +63,10 @@ module _ {a b s t x : List ℕ} (Q : JoinsTo a b s t x) where
   written : JoinWritten a b s t Q.after Q.wrote.values
   written = join_written Q.answer Q.promise Q.wrote.answer
 
-  file_is : x ≡ file Q.wrote.values.0 written.counts written.bytes
+  file_is : x ≡ file Q.wrote.values.states written.counts written.bytes
   file_is = sym Q.wrote.bytes ∙ written.begins
 
-  sheet_is : Sheet (inputs a) (outputs b) x Q.wrote.values.0 written.joined.form
+  sheet_is : Sheet (inputs a) (outputs b) x Q.wrote.values.states written.joined.form
   sheet_is = sheet_of written.joined file_is
 
   stands_there : Holds (alphabet_check (joined_stock a b) (sheet_check (joined_stock a b) x done))
@@ -79,7 +77,7 @@ three_one : {a b c s t u x y z w : List ℕ} → JoinsTo a b s t x → JoinsTo (
 three_one A B C D = same_three (written A).fits (written C).fits (written C).alphabets' (written A).joined (file_is A) (written B).joined (file_is B) (written C).joined (file_is C) (written D).joined (file_is D)
 
 -- what is joined with a joined sheet is over the inputs of the first
-first_inputs : (a b : List ℕ) {c x u y : List ℕ} (Q : JoinsTo (joined_stock a b) c x u y) → Sheet (inputs a) (outputs c) y Q.wrote.values.0 (written Q).joined.form
+first_inputs : (a b : List ℕ) {c x u y : List ℕ} (Q : JoinsTo (joined_stock a b) c x u y) → Sheet (inputs a) (outputs c) y Q.wrote.values.states (written Q).joined.form
 first_inputs a b Q = rw (stock_reads (inputs a) (outputs b)) at (sheet_is Q)
 
 pub joining : Request9
@@ -97,16 +95,13 @@ joining = record {
 
 -- ---- of the functions themselves
 -- what an accepted call wrote
-wrote_file : (r : Result Form Refusal) (area : List ℕ) (v : ℕ × ℕ × ℕ) → outcome_of r ≡ accepted v → file_in r area ≡ take v.2 area
-wrote_file (Form k m n) area v e = let w : (k, m, n) ≡ v = cc in ap (λ w. take w.2 area) w
+wrote_file : (r : Result Form Refusal) (area : List ℕ) (v : Form) → outcome_of r ≡ accepted v → file_in r area ≡ take v.bytes area
+wrote_file (Ok u) area v e = let w : u ≡ v = cc in ap (λ (w : Form). take w.bytes area) w
 wrote_file (Err x) area v e = conflict (cc)
 
--- the part of the area that it is, in which an area that is too short for it would be whole
-pub file_part : (r : Result Form Refusal) (area : List ℕ) {k m n : ℕ} → r ≡ Form k m n → take n area ≡ file_in r area
-file_part r area e = rw e
-
-pub file_whole : (r : Result Form Refusal) (area : List ℕ) {k m n : ℕ} → r ≡ Form k m n → length area < n → area ≡ file_in r area
-file_whole r area {k} {m} {n} e h = rw e (sym (take_all n area (omega arith)))
+-- the part of the area that it is; of an area that is too short for it, all
+pub file_part : (r : Result Form Refusal) (area : List ℕ) {v : Form} {n : ℕ} → r ≡ Ok v → n ≡ min v.bytes (length area) → take n area ≡ file_in r area
+file_part r area {v} e h = rw (e, h) (take_min v.bytes area)
 
 -- joining what a call wrote, as the first sheet or as the second
 pub joins_first : {a b f f' t x x' : List ℕ} (r : Result Form Refusal) → f ≡ f' → Joins a b f t x x' r → Joins a b f' t x x' r

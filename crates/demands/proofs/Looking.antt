@@ -1,9 +1,9 @@
 -- Request F-6 is met: what an entry answers says what a question and a commit answer, and the promises leave no other answer.
 -- Assumes nothing.
-use Rattle.std.specs.Prelude.{Err, None, Ok, Option, Result, Some}
+use Rattle.std.specs.Prelude.{Err, Ok, Result}
 use Rattle.forms.specs.declared.write.Form.{Form}
 use Rattle.records.specs.declared.book.Foretold.{Foretold}
-use Rattle.trees.specs.Refusal.{outcome_of, refusal_number, accepted, refused, done, Holds}
+use Rattle.trees.specs.Refusal.{outcome_of, refusal_number, Outcome, accepted, refused, done, Holds}
 use Prim.Native.Nat.{ℕ, ◌+◌, ◌≤◌, ◌<◌}
 use native.Mathlib.Omega.{arith}
 use mathlib.Core.List.{List}
@@ -40,27 +40,30 @@ use Rattle.demands.proofs.Counts.{made_with}
 use Rattle.demands.proofs.First.{demand_1}
 
 -- ---- the question, beside an entry
-was_long : {s area before after : List ℕ} {h : Head} {rs : List Record} {v : ℕ × ℕ} (q : Result Foretold Refusal) → Questions s h rs area before after q → outcome_of q ≡ accepted v → longest ≤ length before
+-- equal answers tell equal numbers
+numbers_alike : {v w : Foretold} → ◌≡◌ {A = Outcome Foretold} (accepted v) (accepted w) → v.number ≡ w.number
+numbers_alike {v} {w} e = let u : v ≡ w = cc in ap (λ (x : Foretold). x.number) u
+
+was_long : {s area before after : List ℕ} {h : Head} {rs : List Record} {v : Foretold} (q : Result Foretold Refusal) → Questions s h rs area before after q → outcome_of q ≡ accepted v → longest ≤ length before
 unfolding Holds
 was_long q Q e = (accepted_holds (rw e at Q)).0.0
 
 module _ {s area area' before after : List ℕ} {h h' : Head} {rs rs' : List Record} where
   module _ (q : Result Foretold Refusal) (long : longest ≤ length before) (Q : Questions s h rs area before after q) where
-    number_asked : {n : ℕ} → Enters s h rs area h' rs' area' (Ok n) → (size : ℕ) × (outcome_of q ≡ accepted (n, size))
-    number_asked {n} E = let w = entry_answers long E in (w.0, (questions_one q (replying.Number n w.0) Q w.1.1).1)
+    number_asked : {n : ℕ} → Enters s h rs area h' rs' area' (Ok n) → (size : ℕ) × (outcome_of q ≡ accepted (record { number = n; size = size }))
+    number_asked {n} E = let w = entry_answers long E in (w.0, (questions_one q (Ok (record { number = n; size = w.0 })) Q w.1.1).1)
 
     refusal_asked : (p : Refusal) → Enters s h rs area h' rs' area' (Err p) → outcome_of q ≡ refused (refusal_number p)
     refusal_asked p E = (questions_one q (Err p) Q (entry_unanswered long p E)).1
 
-  would_get : {n size : ℕ} (q : Result Foretold Refusal) (r : Result ℕ Refusal) → Questions s h rs area before after q → Enters s h rs area h' rs' area' r → outcome_of q ≡ accepted (n, size) → outcome_of r ≡ accepted n
+  would_get : {n size : ℕ} (q : Result Foretold Refusal) (r : Result ℕ Refusal) → Questions s h rs area before after q → Enters s h rs area h' rs' area' r → outcome_of q ≡ accepted (record { number = n; size = size }) → outcome_of r ≡ accepted n
   would_get {n} {size} q (Ok k) Q E e =
       let (j, z) = number_asked q (was_long q Q e) Q E in
-      let w : ◌≡◌ {A = ℕ × ℕ} (k, j) (n, size) = cc in
-      ap (λ v. accepted v.0) w
+      ap (λ i. accepted i) (numbers_alike (sym z ∙ e))
   would_get q (Err p) Q E e = let z = refusal_asked q (was_long q Q e) Q p E in conflict (cc)
 
-  gets_asked : {n : ℕ} (q : Result Foretold Refusal) (r : Result ℕ Refusal) → longest ≤ length before → Questions s h rs area before after q → Enters s h rs area h' rs' area' r → outcome_of r ≡ accepted n → (size : ℕ) × (outcome_of q ≡ accepted (n, size))
-  gets_asked {n} q (Ok k) long Q E e = let w = number_asked q long Q E in let z : k ≡ n = cc in (w.0, w.1 ∙ ap (λ i. accepted (i, w.0)) z)
+  gets_asked : {n : ℕ} (q : Result Foretold Refusal) (r : Result ℕ Refusal) → longest ≤ length before → Questions s h rs area before after q → Enters s h rs area h' rs' area' r → outcome_of r ≡ accepted n → (size : ℕ) × (outcome_of q ≡ accepted (record { number = n; size = size }))
+  gets_asked {n} q (Ok k) long Q E e = let w = number_asked q long Q E in let z : k ≡ n = cc in (w.0, w.1 ∙ ap (λ i. accepted (record { number = i; size = w.0 })) z)
   gets_asked q (Err p) long Q E e = conflict (cc)
 
   refused_alike : (k : ℕ) (q : Result Foretold Refusal) (r : Result ℕ Refusal) → longest ≤ length before → Questions s h rs area before after q → Enters s h rs area h' rs' area' r → (outcome_of q ≡ refused k) ↔ (outcome_of r ≡ refused k)
@@ -79,7 +82,7 @@ clean_short {stock} C =
     let F = C.normal in
     omega (arith, ap length C.coded, file_short (inputs stock) C.states C.counts C.bytes F.alphabets.ins.few (encodes_counted (inputs stock) (outputs stock) C.states C.counts C.bytes F.form F.encodes))
 
-module _ {s area before after : List ℕ} {h : Head} {rs : List Record} {n size : ℕ} (q : Result Foretold Refusal) (Q : Questions s h rs area before after q) (e : outcome_of q ≡ accepted (n, size)) where
+module _ {s area before after : List ℕ} {h : Head} {rs : List Record} {n size : ℕ} (q : Result Foretold Refusal) (Q : Questions s h rs area before after q) (e : outcome_of q ≡ accepted (record { number = n; size = size })) where
   told_so : Holds (entry_check s h rs area done) × Foretells s h rs area before after n size
   unfolding Holds
   told_so = let w = accepted_holds (rw e at Q) in (w.0.1, w.1)
@@ -150,8 +153,8 @@ module _ {s area area₁ area₂ : List ℕ} {h h₁ h₂ : Head} {rs rs₁ rs�
   by_13_alone (Err p) r' E C e = absurd (entry_not_13 (Err p) E (sym (as_entry_refused (Err p) r' E C refl) ∙ e))
 
 -- ---- lists of calls
-foretold_so : {n size : ℕ} (q : Result Foretold Refusal) → outcome_of q ≡ accepted (n, size) → foretold q ≡ some n
-foretold_so {n} {size} (replying.Number k j) e = let w : ◌≡◌ {A = ℕ × ℕ} (k, j) (n, size) = cc in ap (λ v. some v.0) w
+foretold_so : {n size : ℕ} (q : Result Foretold Refusal) → outcome_of q ≡ accepted (record { number = n; size = size }) → foretold q ≡ some n
+foretold_so (Ok v) e = ap (λ i. some i) (numbers_alike e)
 foretold_so (Err p) e = conflict (cc)
 
 listing : Listing

@@ -1,6 +1,6 @@
 -- Request F-10 is met.
 -- Assumes nothing.
-use Rattle.std.specs.Prelude.{Option, Result}
+use Rattle.std.specs.Prelude.{Result}
 use Rattle.trees.specs.declared.refusal.Refusal.{Refusal}
 use Rattle.trees.specs.Refusal.{outcome_of, accepted}
 use Prim.Native.Nat.{ℕ, ◌<◌}
@@ -25,7 +25,7 @@ module _ {stock s x : List ℕ} (Q : CleansTo stock s x) where
   clean_sheet : Cleaned stock s Q.after Q.wrote.values
   clean_sheet = cleaned Q.answer Q.promise Q.wrote.answer
 
-  file_is : x ≡ file Q.wrote.values.0 clean_sheet.counts clean_sheet.bytes
+  file_is : x ≡ file Q.wrote.values.states clean_sheet.counts clean_sheet.bytes
   file_is = sym Q.wrote.bytes ∙ clean_sheet.begins
 
 -- a file under the wider alphabets

@@ -1,6 +1,6 @@
 -- Demand 2 is met: the laws of `trees`, `formats` and `transducer`, put together.
 -- Assumes nothing.
-use Rattle.std.specs.Prelude.{Err, None, Ok, Option, Result, Some}
+use Rattle.std.specs.Prelude.{Err, Ok, Option, Result}
 use Rattle.trees.specs.Refusal.{outcome_of, Outcome, accepted, refused, done, check, Holds, IsJudged, Judged}
 use Prim.Native.Nat.{ℕ, ◌+◌, ◌*◌, ◌≤◌}
 use native.Mathlib.Decide.{dec_le}

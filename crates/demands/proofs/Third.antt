@@ -1,12 +1,11 @@
 -- Demand 3 is met: the theorems of `canonical`, `comparison` and `registry`, put together.
 -- Assumes nothing.
-use Rattle.std.specs.Prelude.{Option, Result}
+use Rattle.std.specs.Prelude.{Option, Some, Result}
 use Rattle.trees.specs.declared.refusal.Refusal.{Refusal}
 use Rattle.forms.specs.declared.write.Form.{Form}
 use Rattle.witness.specs.declared.witness.Shown.{Shown}
 use Prim.Native.Nat.{ℕ, ◌≤◌}
 use mathlib.Core.List.{List}
-use mathlib.Core.Option.{Option, some}
 use mathlib.Core.Path.{◌≡◌, refl, sym, ◌∙◌}
 use lib.ListN.{length}
 use Rattle.theory.proofs.Equivalences.{equivalent_refl}
@@ -36,7 +35,7 @@ same r r' A A' long long' J J' =
     }
 
 -- ---- comparison
-found_differs : {stock s s' tree tree' address address' : List ℕ} (o : Option (ℕ × ℕ × ℕ × ℕ)) → Found stock s s' tree tree' address address' o → (v : ℕ × ℕ × ℕ × ℕ) → o ≡ some v → Differ stock s s' tree tree' address address' v.0 v.1 v.2 v.3
+found_differs : {stock s s' tree tree' address address' : List ℕ} (o : Option Shown) → Found stock s s' tree tree' address address' o → (v : Shown) → o ≡ Some v → Differ stock s s' tree tree' address address' v.nodes v.numbers v.left v.right
 found_differs {stock} {s} {s'} {tree} {tree'} {address} {address'} o F v e = rw e at F
 
 verdict : {stock s s' tree tree' address address' : List ℕ} (r : Result (Option Shown) Refusal) → Accepted stock s → Accepted stock s' → tree_area ≤ length tree → address_area ≤ length address → Compares stock s s' tree tree' address address' r → AlikeExactly stock s s' tree tree' address address' r

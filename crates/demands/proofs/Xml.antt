@@ -1,6 +1,6 @@
 -- Request F-4 is met.
 -- Assumes nothing.
-use Rattle.std.specs.Prelude.{Err, None, Ok, Option, Result, Some}
+use Rattle.std.specs.Prelude.{Err, Ok, Result}
 use Rattle.trees.specs.Refusal.{outcome_of, accepted, done, check, Holds, Judged}
 use Prim.Native.Nat.{ℕ, ◌≤◌}
 use native.Mathlib.Decide.{dec_le}
@@ -98,13 +98,6 @@ xml_plans = record {
 }
 
 -- ---- of the functions themselves
--- the promise of an answer that is known
-pub as_written : {stock s text text' : List ℕ} (r : Result ℕ Refusal) (n : ℕ) → r ≡ Ok n → WritesXml stock s text text' r → WritesXml stock s text text' (Ok n)
-as_written r n e C = rw e at C
-
-pub as_refused : {stock s text text' : List ℕ} (r : Result ℕ Refusal) (x : Refusal) → r ≡ Err x → WritesXml stock s text text' r → WritesXml stock s text text' (Err x)
-as_refused r x e C = rw e at C
-
 -- a plan that is not written is not read back
 pub not_written : {stock s text text' before : List ℕ} (r : Result ℕ Refusal) (x : Refusal) → r ≡ Err x → WritesXml stock s text text' r → ReadsBack stock s text before before (Err x)
 not_written {stock} {s} {text} r x e C = refused_early (alphabet_check stock (forms_check code xml stock s text done)) (check 12 _ done) refl (rw e at C)

@@ -1,5 +1,5 @@
 -- Request F-3 of document 02, how often a sheet was brought in, of whatever keeps the promises of the registry's entry points: each field is a sentence of its text. That 9 is the first check of an entry, and what a refusal leaves, are fields of demand 1.
-use Rattle.std.specs.Prelude.{Option, Result, ℕ, ◌+◌, ◌<◌, ◌⊎◌, ◌≢◌, ◌↔◌, ◌≡◌}
+use Rattle.std.specs.Prelude.{Result, ℕ, ◌+◌, ◌<◌, ◌⊎◌, ◌≢◌, ◌↔◌, ◌≡◌}
 use Rattle.trees.specs.declared.refusal.Refusal.{Refusal}
 use Rattle.trees.specs.Refusal.{outcome_of, accepted, refused}
 use mathlib.Core.List.{List, [], ◌∷◌, Memᴰ}

@@ -1,21 +1,20 @@
 -- Demand 1 of the user, whole, of whatever keeps the promises of the entry points: a field for each entry point. That each returns for every input is proved with its contract.
-use Rattle.std.specs.Prelude.{Option, Result, ℕ, ◌≤◌, List, [], ◌⊎◌, ◌≡◌, length}
+use Rattle.std.specs.Prelude.{Bool, Option, Result, ℕ, ◌≤◌, List, [], ◌⊎◌, ◌≡◌, length}
 use Rattle.trees.specs.declared.refusal.Refusal.{Refusal}
 use Rattle.forms.specs.declared.write.Form.{Form}
 use Rattle.witness.specs.declared.witness.Shown.{Shown}
 use Rattle.records.specs.declared.book.Foretold.{Foretold}
 use Rattle.trees.specs.Refusal.{outcome_of, Outcome, accepted, refused, Checks, done, check, Holds}
 use Rattle.trees.specs.Alphabets.{alphabet_check}
-use Rattle.trees.specs.Answers.{Nothing, alphabets_read, ReadsAlphabets, tree_read, ReadsTree}
+use Rattle.trees.specs.Answers.{Nothing, ReadsAlphabets, ReadsTree}
 use Rattle.formats.specs.Answers.{ReadsFile, HandsCounts, HandsMarks, WritesFile}
 use Rattle.formats.specs.Sheet.{longest, sheet_check, parts_check}
 use Rattle.trees.specs.Tree.{tree_check}
-use Rattle.trees.specs.declared.alphabet.AlphabetsRead.{AlphabetsRead}
-use Rattle.trees.specs.declared.tree.TreeRead.{TreeRead}
+use Rattle.trees.specs.declared.alphabet.AlphabetSizes.{AlphabetSizes}
+use Rattle.trees.specs.declared.tree.TreeSize.{TreeSize}
 use Rattle.queries.specs.Answers.{TestsLinear, FindsSymbol}
 use Rattle.transducer.specs.Answers.{room_check, levels_check, Translates}
 use Rattle.earliest.specs.Answers.{form_check, MakesEarliest}
-
 use Rattle.canonical.specs.Answers.{Cleans}
 use Rattle.join.specs.Answers.{joinable, Joins}
 use Rattle.codes.specs.Answers.{codes_area, WritesCodes}
@@ -46,8 +45,8 @@ pub record Demand1 : Type 1 where
   pub first_fails : (checks : Checks) (k : ℕ) → FirstFailing checks k → Holds checks → ⊥
   pub first_one : (checks : Checks) (j k : ℕ) → FirstFailing checks j → FirstFailing checks k → j ≡ k
   -- the readers, of a stock, a design and a sheet
-  pub alphabets : (stock : List ℕ) (r : AlphabetsRead) → ReadsAlphabets stock r → Answered (alphabet_check stock done) Nothing (alphabets_read r)
-  pub tree : (stock s : List ℕ) (r : TreeRead) → ReadsTree stock s r → Answered (alphabet_check stock (tree_check stock s done)) Nothing (tree_read r)
+  pub alphabets : (stock : List ℕ) (r : Result AlphabetSizes Refusal) → ReadsAlphabets stock r → Answered (alphabet_check stock done) Nothing (outcome_of r)
+  pub tree : (stock s : List ℕ) (r : Result TreeSize Refusal) → ReadsTree stock s r → Answered (alphabet_check stock (tree_check stock s done)) Nothing (outcome_of r)
   pub file : (stock s : List ℕ) (r : Result ℕ Refusal) → ReadsFile stock s r → Answered (alphabet_check stock (sheet_check stock s done)) Nothing (outcome_of r)
   -- a part of a file that is refused is empty
   pub counts : (stock s part : List ℕ) → HandsCounts stock s part → (Holds (alphabet_check stock (sheet_check stock s done)) → ⊥) → part ≡ []

@@ -1,5 +1,5 @@
 -- Request F-9 of document 02, sheet after sheet, of whatever keeps the promise of joining: each field is a sentence of its text. That the checks are made in their order is a field of demand 1.
-use Rattle.std.specs.Prelude.{Err, None, Ok, Option, Result, Some, ℕ, List, [], ◌≡◌, take}
+use Rattle.std.specs.Prelude.{Err, Ok, Result, ℕ, List, [], ◌≡◌, take}
 use Rattle.trees.specs.declared.refusal.Refusal.{Refusal}
 use Rattle.forms.specs.declared.write.Form.{Form}
 use Rattle.trees.specs.Refusal.{outcome_of, accepted, done, Holds}
@@ -9,7 +9,6 @@ use Rattle.trees.specs.Alphabets.{inputs, outputs, alphabet_check}
 use Rattle.trees.specs.Code.{Ranked, code}
 use Rattle.formats.specs.Sheet.{Sheet, sheet_check}
 use Rattle.transducer.specs.Output.{Output}
-
 use Rattle.join.specs.Answers.{joined_stock, Joins}
 use Rattle.canonical.specs.Answers.{SewAlike}
 use Rattle.demands.specs.Third.{Wrote}
@@ -25,7 +24,7 @@ pub record JoinsTo (a b s t x : List ℕ) : Type 0 where
 
 pub record Request9 : Type 0 where
   -- An accepted call is such a joining, of what stands at the start of its area.
-  pub joins : {a b s t before after : List ℕ} {v : ℕ × ℕ × ℕ} (r : Result Form Refusal) → Joins a b s t before after r → outcome_of r ≡ accepted v → JoinsTo a b s t (take v.2 after)
+  pub joins : {a b s t before after : List ℕ} {v : Form} (r : Result Form Refusal) → Joins a b s t before after r → outcome_of r ≡ accepted v → JoinsTo a b s t (take v.bytes after)
   -- The joined sheet's plan for a design is the second's plan for the first's plan, whatever their size;
   pub plan : {a b s t x : List ℕ} → JoinsTo a b s t x → {n m k : ℕ} {M N J : Transducer ℕ} → Sheet (inputs a) (outputs a) s n M → Sheet (inputs b) (outputs b) t m N → Sheet (inputs a) (outputs b) x k J
       → (d : Tree) → Ranked (λ y. ⊥) (inputs a) d → translate J d ≡ translate N (translate M d)
@@ -45,11 +44,11 @@ pub record Request9 : Type 0 where
 
 -- the file that a call wrote to the start of this area; no byte, where it was refused
 abbrev pub file_in : Result Form Refusal → List ℕ → List ℕ
-file_in (Form k m n) area = take n area
+file_in (Ok v) area = take v.bytes area
 file_in (Err r) area = []
 
 -- what the request says of four joinings of three sheets, both ways, where ab and bc are the joined stocks: if all are accepted, the two sheets joined last are the same bytes, and sew alike
 abbrev pub JoinsThree : List ℕ → List ℕ → List ℕ → List ℕ → List ℕ → Result Form Refusal → Result Form Refusal → Result Form Refusal → Result Form Refusal → List ℕ → List ℕ → Type 0
 JoinsThree a b c ab bc first left second right after after' =
-    ab ≡ joined_stock a b → bc ≡ joined_stock b c → (v v₁ v₂ v₃ : ℕ × ℕ × ℕ) → outcome_of first ≡ accepted v → outcome_of left ≡ accepted v₁ → outcome_of second ≡ accepted v₂ → outcome_of right ≡ accepted v₃
+    ab ≡ joined_stock a b → bc ≡ joined_stock b c → (v v₁ v₂ v₃ : Form) → outcome_of first ≡ accepted v → outcome_of left ≡ accepted v₁ → outcome_of second ≡ accepted v₂ → outcome_of right ≡ accepted v₃
     → (file_in left after ≡ file_in right after') × SewAlike (joined_stock a c) (file_in left after) (file_in right after')

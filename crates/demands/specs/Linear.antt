@@ -1,5 +1,5 @@
 -- Request F-2 of document 02, single means the lines that can be met, of whatever keeps the promise of the linear test: each field is a sentence of its text. That the checks are made in their order is a field of demand 1.
-use Rattle.std.specs.Prelude.{Option, Result, ℕ, ◌≤◌, ◌<◌, Bool, List, ◌≡◌, length}
+use Rattle.std.specs.Prelude.{Result, ℕ, ◌≤◌, ◌<◌, Bool, List, ◌≡◌, length}
 use Rattle.trees.specs.declared.refusal.Refusal.{Refusal}
 use Rattle.trees.specs.Refusal.{outcome_of, accepted, Decides}
 use Rattle.theory.specs.Linear.{Linear}

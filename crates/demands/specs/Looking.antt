@@ -1,6 +1,6 @@
 -- Request F-6 of document 02, look before entering, of whatever keeps the promises of the registry's entry points: each field is a sentence of its text.
 -- That the checks are made in their order, and what a refusal leaves, are the fields `question` and `commit` of demand 1.
-use Rattle.std.specs.Prelude.{Option, Result, ℕ, ◌≤◌, ◌<◌, ◌≢◌, ◌↔◌, ◌≡◌, length, take, drop}
+use Rattle.std.specs.Prelude.{Result, ℕ, ◌≤◌, ◌<◌, ◌≢◌, ◌↔◌, ◌≡◌, length, take, drop}
 use Rattle.trees.specs.declared.refusal.Refusal.{Refusal}
 use Rattle.forms.specs.declared.write.Form.{Form}
 use Rattle.records.specs.declared.book.Foretold.{Foretold}
@@ -21,16 +21,16 @@ use Rattle.demands.specs.Third.{Wrote}
 -- ---- the question
 pub record Looking : Type 0 where
   -- A question answers the number that an entry would get,
-  pub answers : {s area area' before after : List ℕ} {h h' : Head} {rs rs' : List Record} {n size : ℕ} (q : Result Foretold Refusal) (r : Result ℕ Refusal) → Questions s h rs area before after q → Enters s h rs area h' rs' area' r → outcome_of q ≡ accepted (n, size) → outcome_of r ≡ accepted n
+  pub answers : {s area area' before after : List ℕ} {h h' : Head} {rs rs' : List Record} {n size : ℕ} (q : Result Foretold Refusal) (r : Result ℕ Refusal) → Questions s h rs area before after q → Enters s h rs area h' rs' area' r → outcome_of q ≡ accepted (record { number = n; size = size }) → outcome_of r ≡ accepted n
   -- wherever the entry gets one and the editor's area has 20,483 bytes;
-  pub answered : {s area area' before after : List ℕ} {h h' : Head} {rs rs' : List Record} {n : ℕ} (q : Result Foretold Refusal) (r : Result ℕ Refusal) → longest ≤ length before → Questions s h rs area before after q → Enters s h rs area h' rs' area' r → outcome_of r ≡ accepted n → (size : ℕ) × (outcome_of q ≡ accepted (n, size))
+  pub answered : {s area area' before after : List ℕ} {h h' : Head} {rs rs' : List Record} {n : ℕ} (q : Result Foretold Refusal) (r : Result ℕ Refusal) → longest ≤ length before → Questions s h rs area before after q → Enters s h rs area h' rs' area' r → outcome_of r ≡ accepted n → (size : ℕ) × (outcome_of q ≡ accepted (record { number = n; size = size }))
   -- so with such an area it is refused as the entry would be, and with a shorter one by 1;
   pub refused_so : {s area area' before after : List ℕ} {h h' : Head} {rs rs' : List Record} (k : ℕ) (q : Result Foretold Refusal) (r : Result ℕ Refusal) → longest ≤ length before → Questions s h rs area before after q → Enters s h rs area h' rs' area' r → (outcome_of q ≡ refused k) ↔ (outcome_of r ≡ refused k)
   pub short : {s area before after : List ℕ} {h : Head} {rs : List Record} (q : Result Foretold Refusal) → length before < longest → Questions s h rs area before after q → outcome_of q ≡ refused 1
   -- and writes the clean sheet to the editor's area: its first bytes are what cleaning under the book's stock writes, with an area long enough,
-  pub writes : {s area before after room room' : List ℕ} {h : Head} {rs : List Record} {n size : ℕ} (q : Result Foretold Refusal) (r : Result Form Refusal) → Questions s h rs area before after q → outcome_of q ≡ accepted (n, size) → longest ≤ length room → Cleans (body rs area 0) s room room' r → (size ≤ length after) × Wrote r room' (take size after)
+  pub writes : {s area before after room room' : List ℕ} {h : Head} {rs : List Record} {n size : ℕ} (q : Result Foretold Refusal) (r : Result Form Refusal) → Questions s h rs area before after q → outcome_of q ≡ accepted (record { number = n; size = size }) → longest ≤ length room → Cleans (body rs area 0) s room room' r → (size ≤ length after) × Wrote r room' (take size after)
   -- and its other bytes keep their values.
-  pub rest : {s area before after : List ℕ} {h : Head} {rs : List Record} {n size : ℕ} (q : Result Foretold Refusal) → Questions s h rs area before after q → outcome_of q ≡ accepted (n, size) → (length after ≡ length before) × (drop size after ≡ drop size before)
+  pub rest : {s area before after : List ℕ} {h : Head} {rs : List Record} {n size : ℕ} (q : Result Foretold Refusal) → Questions s h rs area before after q → outcome_of q ≡ accepted (record { number = n; size = size }) → (length after ≡ length before) × (drop size after ≡ drop size before)
 
 -- ---- the commit
 pub record Committing : Type 0 where
@@ -60,7 +60,7 @@ pub record Listing : Type 1 where
   -- and with any question, with the book untouched.
   pub asks : {First : Book → Type 0} {s before after : List ℕ} {log : List (Call × Option ℕ)} (b : Book) (q : Result Foretold Refusal) → History First Calling log b → Questions s b.head b.records b.area before after q → History First Calling ((question s, foretold q) ∷ log) b
   -- With no making, entry or commit in between (questions, and calls that are refused, do no harm), and nobody else writing the book, a commit of the same sheet with the number that a question answered is accepted with it. Its areas are those of the book, long enough when the question was answered.
-  pub keeps : {s before after : List ℕ} {n size : ℕ} {between : List (Call × Option ℕ)} (b b₁ b₂ : Book) (q : Result Foretold Refusal) (r : Result ℕ Refusal) → Questions s b.head b.records b.area before after q → outcome_of q ≡ accepted (n, size)
+  pub keeps : {s before after : List ℕ} {n size : ℕ} {between : List (Call × Option ℕ)} (b b₁ b₂ : Book) (q : Result Foretold Refusal) (r : Result ℕ Refusal) → Questions s b.head b.records b.area before after q → outcome_of q ≡ accepted (record { number = n; size = size })
       → From b between b₁ → ((c : Call) (m : ℕ) → Memᴰ (c, some m) between → enters_file c ≡ nothing)
       → Commits s n b₁.head b₁.records b₁.area b₂.head b₂.records b₂.area r → outcome_of r ≡ accepted n
   -- Demand 3's list may now hold commits and questions too (a list of entries is one of calls): any two accepted entries or commits in it get one number exactly when their sheets sew alike.

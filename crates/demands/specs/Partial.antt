@@ -1,5 +1,5 @@
 -- Request F-10 of document 02, nothing is earlier than a clean sheet, of whatever keeps the promise of cleaning: each field is a sentence of its text. Blanks are variables, of names of any type A, all different or not.
-use Rattle.std.specs.Prelude.{Option, Result, ℕ, ◌<◌, List, ◌≡◌, length, take}
+use Rattle.std.specs.Prelude.{Result, ℕ, ◌<◌, List, ◌≡◌, length, take}
 use Rattle.trees.specs.declared.refusal.Refusal.{Refusal}
 use Rattle.forms.specs.declared.write.Form.{Form}
 use Rattle.trees.specs.Refusal.{outcome_of, accepted}
@@ -13,7 +13,6 @@ use Rattle.formats.specs.Answers.{ReadsFile}
 use Rattle.formats.specs.Samples.{S, T, T'}
 use Rattle.formats.specs.Sheet.{Sheet}
 use Rattle.transducer.specs.Answers.{Translates}
-
 use Rattle.canonical.specs.Answers.{Cleans}
 use Rattle.partial.specs.AsSymbol.{blank_stock, BlankSheet}
 use Rattle.partial.specs.Partial.{PartialTree, Lays, NothingEarlier, whole, partial_code}
@@ -30,7 +29,7 @@ pub record CleansTo (stock s x : List ℕ) : Type 0 where
 
 pub record Request10 : Type 1 where
   -- An accepted cleaning is such a call, of what stands at the start of its area.
-  pub cleans : {stock s before after : List ℕ} {v : ℕ × ℕ × ℕ} (r : Result Form Refusal) → Cleans stock s before after r → outcome_of r ≡ accepted v → CleansTo stock s (take v.2 after)
+  pub cleans : {stock s before after : List ℕ} {v : Form} (r : Result Form Refusal) → Cleans stock s before after r → outcome_of r ≡ accepted v → CleansTo stock s (take v.bytes after)
   -- What a sheet lays is defined for every sheet that 4 and 5 accept and every design with any number of blanks, and is one.
   pub lays : {A : Type 0} {stock s : List ℕ} {n : ℕ} {M : Transducer ℕ} → Sheet (inputs stock) (outputs stock) s n M → (d : Term A) → PartialTree (inputs stock) d → (t : Term (A × ℕ)) × Lays stock s d t
   pub lays_one : {A : Type 0} {stock s : List ℕ} {d : Term A} {t t' : Term (A × ℕ)} → Alphabets stock → Lays stock s d t → Lays stock s d t' → t ≡ t'

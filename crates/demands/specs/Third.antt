@@ -1,15 +1,14 @@
 -- Demand 3 of the user, whole, of whatever keeps the promises of the entry points: each field is a part of its text.
-use Rattle.std.specs.Prelude.{Option, Result, ℕ, ◌≤◌, ◌↔◌, ◌≡◌, length, take}
+use Rattle.std.specs.Prelude.{Option, Some, None, Result, ℕ, ◌≤◌, ◌↔◌, ◌≡◌, length, take}
 use Rattle.trees.specs.declared.refusal.Refusal.{Refusal}
 use Rattle.forms.specs.declared.write.Form.{Form}
 use Rattle.witness.specs.declared.witness.Shown.{Shown}
 use Rattle.trees.specs.Refusal.{outcome_of, accepted, done, Holds}
 use mathlib.Core.List.{List, Memᴰ}
-use Rattle.std.proofs.Math.Option.{Option, some, none as nothing}
+use Rattle.std.proofs.Math.Option.{Option as MathOption, some}
 use Rattle.trees.specs.Alphabets.{alphabet_check}
 use Rattle.formats.specs.Sheet.{longest, sheet_check}
 use Rattle.earliest.specs.Answers.{form_check}
-
 use Rattle.canonical.specs.Answers.{SewAlike, Cleans}
 use Rattle.witness.specs.Difference.{tree_area, address_area}
 use Rattle.comparison.specs.Answers.{Differ, Compares}
@@ -22,9 +21,9 @@ Accepted stock s = Holds (alphabet_check stock (sheet_check stock s (form_check 
 
 -- cleaning answered an acceptance, and x stands at the start of the area that it left
 pub record Wrote (r : Result Form Refusal) (after x : List ℕ) : Type 0 where
-  pub values : ℕ × ℕ × ℕ
+  pub values : Form
   pub answer : outcome_of r ≡ accepted values
-  pub bytes : take values.2 after ≡ x
+  pub bytes : take values.bytes after ≡ x
 
 -- cleaning wrote the same bytes for both exactly if they sew alike
 pub record SameExactly (stock s s' after after' : List ℕ) (r r' : Result Form Refusal) : Type 0 where
@@ -36,10 +35,10 @@ pub record SameExactly (stock s s' after after' : List ℕ) (r r' : Result Form 
 
 -- comparison answered alike exactly if they sew alike, and otherwise shows a tree of at most 1,536 nodes and an address at which the two output trees have different symbols
 pub record AlikeExactly (stock s s' tree tree' address address' : List ℕ) (r : Result (Option Shown) Refusal) : Type 0 where
-  pub verdict : Option (ℕ × ℕ × ℕ × ℕ)
+  pub verdict : Option Shown
   pub answer : outcome_of r ≡ accepted verdict
-  pub exact : (verdict ≡ nothing) ↔ SewAlike stock s s'
-  pub shown : (v : ℕ × ℕ × ℕ × ℕ) → verdict ≡ some v → Differ stock s s' tree tree' address address' v.0 v.1 v.2 v.3
+  pub exact : (verdict ≡ None) ↔ SewAlike stock s s'
+  pub shown : (v : Shown) → verdict ≡ Some v → Differ stock s s' tree tree' address address' v.nodes v.numbers v.left v.right
 
 -- what the demand says of two cleanings and a comparison of two sheets under one stock, with areas long enough
 abbrev pub Judges : List ℕ → List ℕ → List ℕ → (List ℕ × List ℕ) → (List ℕ × List ℕ) → (List ℕ × List ℕ) → (List ℕ × List ℕ) → Result Form Refusal → Result Form Refusal → Result (Option Shown) Refusal → Type 0
@@ -61,4 +60,4 @@ pub record Demand3 : Type 0 where
   -- Each clean sheet is accepted again, gives its sheet's plan on every design, and cleans to itself.
   pub again : {stock s before after x : List ℕ} (r : Result Form Refusal) → Cleans stock s before after r → Wrote r after x → Again stock s x
   -- And take any list of entries into a book just made for that stock, refused ones included (02, F-6: the list may now hold commits and questions too): any two accepted entries or commits in it get one number exactly when their sheets sew alike.
-  pub calls : {stock : List ℕ} {log : List (Call × Option ℕ)} {b : Book} → Calls stock log b → (c c' : Call) (s s' : List ℕ) (n n' : ℕ) → enters_file c ≡ some s → enters_file c' ≡ some s' → Memᴰ (c, some n) log → Memᴰ (c', some n') log → SewAlike stock s s' ↔ (n ≡ n')
+  pub calls : {stock : List ℕ} {log : List (Call × MathOption ℕ)} {b : Book} → Calls stock log b → (c c' : Call) (s s' : List ℕ) (n n' : ℕ) → enters_file c ≡ some s → enters_file c' ≡ some s' → Memᴰ (c, some n) log → Memᴰ (c', some n') log → SewAlike stock s s' ↔ (n ≡ n')

@@ -1,5 +1,5 @@
 -- Request F-4 of document 02, plans as XML, of whatever keeps the promises of the writer and the reader: each field is a sentence of its text. That the checks are made in their order is two fields of demand 1.
-use Rattle.std.specs.Prelude.{Option, Result, ℕ, ◌≤◌, List, [], ◌∷◌, ◌↔◌, ◌≡◌, length, take}
+use Rattle.std.specs.Prelude.{Result, ℕ, ◌≤◌, List, [], ◌∷◌, ◌↔◌, ◌≡◌, length, take}
 use Rattle.trees.specs.declared.refusal.Refusal.{Refusal}
 use Rattle.trees.specs.Refusal.{outcome_of, accepted, done, check, Judged}
 use Rattle.std.proofs.lemmas.List.Edits.{sets}

@@ -13,7 +13,6 @@ ghost use Rattle.demands.specs.Third.{Judges};
 ghost use Rattle.demands.specs.Joining.{file_in, JoinsThree};
 ghost use Rattle.demands.specs.Xml.{ReadsBack};
 
-use trees::refusal::Refusal;
 use canonical::normal::clean;
 use comparison::compare::compare;
 use formats::file::{read_transducer, transducer_counts, transducer_marks, write_transducer};
@@ -21,6 +20,8 @@ use forms::write::Form;
 use join::join::join;
 use queries::address::symbol_at;
 use transducer::translate::translate;
+use trees::refusal::Refusal;
+use witness::witness::Shown;
 use xml::read::read_xml;
 use xml::write::write_xml;
 
@@ -28,18 +29,14 @@ use xml::write::write_xml;
 pub fn read_and_write(stock: &[u8], sheet: &[u8], area: &mut [u8]) -> Result<usize, Refusal>
     ensures { ReadAndWritten stock.now sheet.now area.old area.new result }
 {
-    match read_transducer(stock, sheet) {
-        Ok(n) => {
-            let counts = transducer_counts(stock, sheet);
-            let marks = transducer_marks(stock, sheet);
-            write_transducer(stock, n, counts, marks, area)
-        }
-        Err(r) => Err(r),
-    }
+    let n = read_transducer(stock, sheet)?;
+    let counts = transducer_counts(stock, sheet);
+    let marks = transducer_marks(stock, sheet);
+    write_transducer(stock, n, counts, marks, area)
 }
 
 // What sewing and the place reader answer.
-#[derive(Drop)]
+#[derive(Clone, Copy, Debug, PartialEq, Eq)]
 pub struct Sewing {
     pub sewn: Result<usize, Refusal>,
     pub asked: Result<Option<usize>, Refusal>,
@@ -57,13 +54,13 @@ pub fn sew_and_ask(
     ensures finds_symbol { FindsSymbol stock.now sheet.now design.now address.now result.asked }
     ensures sews_and_asks { SewsAndAsks stock.now sheet.now design.now address.now area.old area.new result.sewn result.asked }
 {
-    let a = translate(stock, sheet, design, area);
-    let b = symbol_at(stock, sheet, design, address);
-    Sewing { sewn: a, asked: b }
+    let sewn = translate(stock, sheet, design, area);
+    let asked = symbol_at(stock, sheet, design, address);
+    Sewing { sewn, asked }
 }
 
 // What the three calls answer.
-#[derive(Drop)]
+#[derive(Clone, Copy, Debug, PartialEq, Eq)]
 pub struct Judgement {
     pub first: Result<Form, Refusal>,
     pub second: Result<Form, Refusal>,
@@ -96,7 +93,7 @@ pub fn judge(
 }
 
 // What the writer of XML and the reader answer.
-#[derive(Drop)]
+#[derive(Clone, Copy, Debug, PartialEq, Eq)]
 pub struct ReadBack {
     pub written: Result<usize, Refusal>,
     pub read: Result<usize, Refusal>,
@@ -107,20 +104,12 @@ pub fn write_and_read(stock: &[u8], plan: &[u8], text: &mut [u8], area: &mut [u8
     ensures writes_xml { WritesXml stock.now plan.now text.old text.new result.written }
     ensures reads_back { ReadsBack stock.now plan.now text.old area.old area.new result.read }
 {
-    let w = write_xml(stock, plan, text);
-    match w {
-        Ok(n) => {
-            let r = read_xml(stock, &text[..n], area);
-            ReadBack {
-                written: w,
-                read: r,
-            }
-        }
-        Err(x) => ReadBack {
-            written: w,
-            read: Err(x),
-        },
-    }
+    let written = write_xml(stock, plan, text);
+    let read = match written {
+        Ok(size) => read_xml(stock, &text[..size], area),
+        Err(refusal) => Err(refusal),
+    };
+    ReadBack { written, read }
 }
 
 // The file that a call wrote to the start of this area; no byte, where it was refused.
@@ -128,46 +117,13 @@ fn file_in(r: Result<Form, Refusal>, area: &[u8]) -> &[u8]
     ensures { result.now ≡ file_in r area.now }
 {
     match r {
-        Formed::Form(_, _, n) => {
-            if n > area.len() {
-                return area;
-            }
-            &area[..n]
-        }
-        Err(_) => &area[..0],
+        Ok(form) => &area[..form.bytes.min(area.len())],
+        Err(_) => &[],
     }
 }
 
-// Joins a sheet with one that a call wrote: that one first,
-fn join_after(
-    first: &[u8],
-    second: &[u8],
-    r: Result<Form, Refusal>,
-    area: &[u8],
-    sheet: &[u8],
-    to: &mut [u8],
-) -> Result<Form, Refusal>
-    ensures { Joins first.now second.now (file_in r area.now) sheet.now to.old to.new result }
-{
-    join(first, second, file_in(r, area), sheet, to)
-}
-
-// or that one second.
-fn join_before(
-    first: &[u8],
-    second: &[u8],
-    sheet: &[u8],
-    r: Result<Form, Refusal>,
-    area: &[u8],
-    to: &mut [u8],
-) -> Result<Form, Refusal>
-    ensures { Joins first.now second.now sheet.now (file_in r area.now) to.old to.new result }
-{
-    join(first, second, sheet, file_in(r, area), to)
-}
-
 // What four joinings of three sheets answer: the first with the second, and that with the third; the second with the third, and the first with that.
-#[derive(Drop)]
+#[derive(Clone, Copy, Debug, PartialEq, Eq)]
 pub struct BothWays {
     pub first: Result<Form, Refusal>,
     pub left: Result<Form, Refusal>,
@@ -197,13 +153,13 @@ pub fn join_three(
     ensures joins_three { JoinsThree a.now b.now c.now ab.now bc.now result.first result.left result.second result.right y.new w.new }
 {
     let first = join(a, b, s, t, x);
-    let left = join_after(ab, c, first, x, u, y);
+    let left = join(ab, c, file_in(first, x), u, y);
     let second = join(b, c, t, u, z);
-    let right = join_before(a, bc, s, second, z, w);
+    let right = join(a, bc, s, file_in(second, z), w);
     BothWays {
-        first: first,
-        left: left,
-        second: second,
-        right: right,
+        first,
+        left,
+        second,
+        right,
     }
 }

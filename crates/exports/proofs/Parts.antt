@@ -1,6 +1,6 @@
 -- How long the parts of an accepted file are.
 -- Assumes nothing.
-use Rattle.std.specs.Prelude.{Err, None, Ok, Option, Result, Some}
+use Rattle.std.specs.Prelude.{Ok, Result}
 use Rattle.trees.specs.declared.refusal.Refusal.{Refusal}
 use Prim.Native.Nat.{ℕ, ◌+◌, ◌*◌, ◌-◌, ◌≤◌}
 use native.Mathlib.Omega.{arith}
@@ -20,18 +20,14 @@ pub length_zero : (l : List ℕ) → length l ≡ 0 → l ≡ []
 length_zero [] h = refl
 length_zero (a ∷ l) h = absurd (omega arith)
 
--- the length of the counts, as the code computes it
-abbrev pub counts_size : ℕ → List ℕ → ℕ
-counts_size n ins = 2 + 2 * (n * length ins)
+-- a file of n states that was accepted, and where its counts end
+module _ (stock s : List ℕ) (n end : ℕ) {r : Result ℕ Refusal} (J : ReadsFile stock s r) (e : r ≡ Ok n) (i : end ≡ 1 + 2 * body_count (inputs stock) n) where
+  pub end_inside : (1 ≤ end) × (end ≤ length s)
+  end_inside = (omega (arith, i), omega (arith, i, accepted_long stock s n J e))
 
--- a file of n states that was accepted; ins are the ranks of the input symbols
-module _ (stock s : List ℕ) (n : ℕ) (ins : List ℕ) {r : Result ℕ Refusal} (J : ReadsFile stock s r) (e : r ≡ Ok n) (i : ins ≡ inputs stock) where
-  pub counts_inside : 1 + counts_size n ins ≤ length s
-  counts_inside = rw i (omega (arith, accepted_long stock s n J e))
-
-  pub parts_sized : FileParts stock s n (n, counts_size n ins, length s - (1 + counts_size n ins))
+  pub parts_sized : FileParts stock s n (n, end - 1, length s - end)
   parts_sized =
       let w = accepted_holds (rw e at J) in
       let S = w.1.1 in
       let c : length S.counts ≡ 2 * body_count (inputs stock) n = encodes_long (inputs stock) (outputs stock) n S.counts S.bytes w.1.0 S.encodes in
-      rw i (record { states = refl; machine = w.1.0; sheet = S; counts = omega arith; marks = omega (arith, ap length S.coded, length-append S.counts S.bytes) })
+      record { states = refl; machine = w.1.0; sheet = S; counts = omega (arith, i, c); marks = omega (arith, i, c, ap length S.coded, length-append S.counts S.bytes) }

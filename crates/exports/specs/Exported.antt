@@ -1,16 +1,19 @@
 -- What the exported functions return and leave: the number and the values of an answer that keeps the library's promise.
 use Rattle.trees.specs.Refusal.{outcome_of, Outcome, accepted, refused}
-use Rattle.std.specs.Prelude.{ℕ, ◌<◌, List, [], ◌⊎◌, ◌≡◌, length, drop}
-use Rattle.std.proofs.Math.Option.{Option, some, none as nothing}
+use Rattle.std.specs.Prelude.{Option, Some, None, Result, ℕ, ◌<◌, List, [], ◌⊎◌, ◌≡◌, length, drop}
+use Rattle.forms.specs.declared.write.Form.{Form}
+use Rattle.trees.specs.declared.alphabet.AlphabetSizes.{AlphabetSizes}
+use Rattle.trees.specs.declared.refusal.Refusal.{Refusal}
+use Rattle.trees.specs.declared.tree.TreeSize.{TreeSize}
+use Rattle.witness.specs.declared.witness.Shown.{Shown}
 use Rattle.theory.specs.Transducer.{Transducer}
 use Rattle.trees.specs.Alphabets.{inputs, outputs}
-use Rattle.trees.specs.Answers.{alphabets_read, ReadsAlphabets, tree_read, ReadsTree}
+use Rattle.trees.specs.Answers.{ReadsAlphabets, ReadsTree}
 use Rattle.formats.specs.Answers.{ReadsFile, WritesFile, HandsMarks}
 use Rattle.formats.specs.Sheet.{Sheet}
 use Rattle.queries.specs.Answers.{TestsLinear, FindsSymbol}
 use Rattle.transducer.specs.Answers.{Translates}
 use Rattle.theory.specs.Weight.{one_if}
-
 use Rattle.earliest.specs.Answers.{MakesEarliest}
 use Rattle.canonical.specs.Answers.{Cleans}
 use Rattle.join.specs.Answers.{Joins}
@@ -29,13 +32,23 @@ pub record Exported {E A L : Type 0} (Promise : E → Type 0) (outcome : E → O
   pub promise : Promise answer
   pub says : IsTold Left (outcome answer) before after r
 
+-- what is told of an answer without a value, of one whose value is a number, and of one that tells a form: its states and marks, and the length of its file
+abbrev pub TellsDone : Result (Unit {0}) Refusal → ℕ → Type 0
+TellsDone a r = Exported (λ e. e ≡ a) outcome_of (λ v after. after ≡ v) tt tt r
+
+abbrev pub TellsNumber : Result ℕ Refusal → ℕ → ℕ → ℕ → Type 0
+TellsNumber a before after r = Exported (λ e. e ≡ a) outcome_of (λ v after. after ≡ v) before after r
+
+abbrev pub TellsForm : Result Form Refusal → ℕ × ℕ × ℕ → ℕ × ℕ × ℕ → ℕ → Type 0
+TellsForm a before after r = Exported (λ e. e ≡ a) outcome_of (λ (v : Form) after. after ≡ (v.states, v.marks, v.bytes)) before after r
+
 -- the numbers of input and output symbols
 abbrev pub ExportsAlphabets : List ℕ → ℕ × ℕ → ℕ × ℕ → ℕ → Type 0
-ExportsAlphabets stock before after r = Exported (ReadsAlphabets stock) alphabets_read (λ v after. after ≡ v) before after r
+ExportsAlphabets stock before after r = Exported (ReadsAlphabets stock) outcome_of (λ (v : AlphabetSizes) after. after ≡ (v.inputs, v.outputs)) before after r
 
 -- the numbers of nodes and levels
 abbrev pub ExportsTree : List ℕ → List ℕ → ℕ × ℕ → ℕ × ℕ → ℕ → Type 0
-ExportsTree stock s before after r = Exported (ReadsTree stock s) tree_read (λ v after. after ≡ v) before after r
+ExportsTree stock s before after r = Exported (ReadsTree stock s) outcome_of (λ (v : TreeSize) after. after ≡ (v.nodes, v.levels)) before after r
 
 -- the number of states, and the lengths of the counts and of the marks
 pub record FileParts (stock s : List ℕ) (n : ℕ) (after : ℕ × ℕ × ℕ) : Type 0 where
@@ -62,26 +75,26 @@ ExportsTranslation stock file tree area area' before after r = Exported (Transla
 
 -- 1 and the symbol; 0 where there is none, and what stood for the symbol stays
 abbrev pub symbol_left : ℕ × ℕ → Option ℕ → ℕ × ℕ
-symbol_left before (some b) = (1, b)
-symbol_left before nothing = (0, before.1)
+symbol_left before (Some b) = (1, b)
+symbol_left before None = (0, before.1)
 
 abbrev pub ExportsSymbol : List ℕ → List ℕ → List ℕ → List ℕ → ℕ × ℕ → ℕ × ℕ → ℕ → Type 0
 ExportsSymbol stock file tree address before after r = Exported (FindsSymbol stock file tree address) outcome_of (λ v after. after ≡ symbol_left before v) before after r
 
 -- the numbers of states and marks, and the length of what was written; the promise says what is left in the area, also by a refusal
 abbrev pub ExportsEarliest : List ℕ → List ℕ → List ℕ → List ℕ → ℕ × ℕ × ℕ → ℕ × ℕ × ℕ → ℕ → Type 0
-ExportsEarliest stock file area area' before after r = Exported (MakesEarliest stock file area area') outcome_of (λ v after. after ≡ v) before after r
+ExportsEarliest stock file area area' before after r = Exported (MakesEarliest stock file area area') outcome_of (λ (v : Form) after. after ≡ (v.states, v.marks, v.bytes)) before after r
 
 abbrev pub ExportsClean : List ℕ → List ℕ → List ℕ → List ℕ → ℕ × ℕ × ℕ → ℕ × ℕ × ℕ → ℕ → Type 0
-ExportsClean stock file area area' before after r = Exported (Cleans stock file area area') outcome_of (λ v after. after ≡ v) before after r
+ExportsClean stock file area area' before after r = Exported (Cleans stock file area area') outcome_of (λ (v : Form) after. after ≡ (v.states, v.marks, v.bytes)) before after r
 
 abbrev pub ExportsJoin : List ℕ → List ℕ → List ℕ → List ℕ → List ℕ → List ℕ → ℕ × ℕ × ℕ → ℕ × ℕ × ℕ → ℕ → Type 0
-ExportsJoin first second file file' area area' before after r = Exported (Joins first second file file' area area') outcome_of (λ v after. after ≡ v) before after r
+ExportsJoin first second file file' area area' before after r = Exported (Joins first second file file' area area') outcome_of (λ (v : Form) after. after ≡ (v.states, v.marks, v.bytes)) before after r
 
 -- 1 if alike, and the other values stay; else 0 and the values
-abbrev pub comparison_left : ℕ × ℕ × ℕ × ℕ × ℕ → Option (ℕ × ℕ × ℕ × ℕ) → ℕ × ℕ × ℕ × ℕ × ℕ
-comparison_left before nothing = (1, before.1, before.2, before.3, before.4)
-comparison_left before (some v) = (0, v.0, v.1, v.2, v.3)
+abbrev pub comparison_left : ℕ × ℕ × ℕ × ℕ × ℕ → Option Shown → ℕ × ℕ × ℕ × ℕ × ℕ
+comparison_left before None = (1, before.1, before.2, before.3, before.4)
+comparison_left before (Some v) = (0, v.nodes, v.numbers, v.left, v.right)
 
 -- the numbers of nodes and of address numbers, and the two symbols; the promise says what is left in the areas, also by a refusal
 abbrev pub ExportsComparison : List ℕ → List ℕ → List ℕ → List ℕ → List ℕ → List ℕ → List ℕ → ℕ × ℕ × ℕ × ℕ × ℕ → ℕ × ℕ × ℕ × ℕ × ℕ → ℕ → Type 0

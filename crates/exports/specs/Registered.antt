@@ -1,5 +1,5 @@
 -- What the exported functions of the registry return and leave.
-use Rattle.std.specs.Prelude.{Option, Result, ℕ, zero, suc, ◌<◌, List, [], ◌⊎◌, ◌≡◌, length, take, drop}
+use Rattle.std.specs.Prelude.{Result, ℕ, zero, suc, ◌<◌, List, [], ◌⊎◌, ◌≡◌, length, take, drop}
 use Rattle.trees.specs.declared.refusal.Refusal.{Refusal}
 use Rattle.records.specs.declared.book.Foretold.{Foretold}
 use Rattle.trees.specs.Refusal.{outcome_of}
@@ -9,15 +9,9 @@ use Rattle.records.specs.declared.book.Head.{Head}
 use Rattle.records.specs.declared.book.Record.{Record}
 use Rattle.exports.specs.Exported.{Exported}
 
--- what is told of an answer to making, which has no value, of one to entry, whose value is the number of the normal form, and of one to a question, whose values are that number and the length of the clean file
-abbrev pub TellsMade : Result (Unit {0}) Refusal → ℕ → Type 0
-TellsMade a r = Exported (λ e. e ≡ a) outcome_of (λ v after. after ≡ v) tt tt r
-
-abbrev pub TellsEntered : Result ℕ Refusal → ℕ → ℕ → ℕ → Type 0
-TellsEntered a before after r = Exported (λ e. e ≡ a) outcome_of (λ v after. after ≡ v) before after r
-
+-- what is told of an answer to a question, whose values are the number that an entry would get and the length of the clean file
 abbrev pub TellsReply : Result Foretold Refusal → ℕ × ℕ → ℕ × ℕ → ℕ → Type 0
-TellsReply a before after r = Exported (λ e. e ≡ a) outcome_of (λ v after. after ≡ v) before after r
+TellsReply a before after r = Exported (λ e. e ≡ a) outcome_of (λ (v : Foretold) after. after ≡ (v.number, v.size)) before after r
 
 abbrev pub ExportsMaking : List ℕ → Head → List Record → List ℕ → Head → List Record → List ℕ → ℕ → Type 0
 ExportsMaking stock h rs area h' rs' area' r = Exported (Makes stock h rs area h' rs' area') outcome_of (λ v after. after ≡ v) tt tt r
@@ -26,7 +20,7 @@ abbrev pub ExportsEntry : List ℕ → Head → List Record → List ℕ → Hea
 ExportsEntry s h rs area h' rs' area' before after r = Exported (Enters s h rs area h' rs' area') outcome_of (λ v after. after ≡ v) before after r
 
 abbrev pub ExportsQuestion : List ℕ → Head → List Record → List ℕ → List ℕ → List ℕ → ℕ × ℕ → ℕ × ℕ → ℕ → Type 0
-ExportsQuestion s h rs area out out' before after r = Exported (Questions s h rs area out out') outcome_of (λ v after. after ≡ v) before after r
+ExportsQuestion s h rs area out out' before after r = Exported (Questions s h rs area out out') outcome_of (λ (v : Foretold) after. after ≡ (v.number, v.size)) before after r
 
 abbrev pub ExportsCommit : List ℕ → ℕ → Head → List Record → List ℕ → Head → List Record → List ℕ → ℕ → ℕ → ℕ → Type 0
 ExportsCommit s m h rs area h' rs' area' before after r = Exported (Commits s m h rs area h' rs' area') outcome_of (λ v after. after ≡ v) before after r

@@ -1,26 +1,27 @@
 // The library for Rust and C: numbers and slices of numbers only. Each function returns 0, or the refusal's number in the
 // table of documents 01 and 02, and gives its values through its last parameters, which a refusal leaves as they were. The two
 // that hand out a part of what is lent say what they return.
+// Stays: 1 and 0 for yes and no, and for whether values are given, since the interface has numbers only.
 #![tactic(auto)]
 
 ghost use Rattle.exports.specs.Exported.{ExportsAlphabets, ExportsTree, ExportsFile, ExportsWriting, ExportsLinear, ExportsTranslation, ExportsSymbol, ExportsEarliest, ExportsClean, ExportsJoin, ExportsComparison, ExportsShorter, ExportsCodes, ExportsXmlWriting, ExportsXmlReading};
 
+mod answer;
 pub mod registered;
 
+use crate::answer::{tell_done, tell_form, tell_number};
 use canonical::normal::clean;
 use codes::symbol::write_codes;
 use comparison::compare::compare;
 use comparison::shorter::shorter;
 use earliest::earliest::earliest_form;
-use formats::file::{read_transducer, transducer_marks, write_transducer};
-use forms::write::Form;
+use formats::file::{counts_end, read_transducer, transducer_marks, write_transducer};
 use join::join::join;
 use queries::address::symbol_at;
 use queries::linear::is_linear;
 use transducer::translate::translate;
-use trees::alphabet::{AlphabetsRead, input_ranks, read_alphabets};
-use trees::refusal::number_of;
-use trees::tree::{TreeRead, read_tree};
+use trees::alphabet::read_alphabets;
+use trees::tree::read_tree;
 use xml::read::read_xml;
 use xml::write::write_xml;
 
@@ -34,12 +35,12 @@ pub extern "C" fn caplune_read_alphabets(
     ensures { ExportsAlphabets stock.now (inputs.old, outputs.old) (inputs.new, outputs.new) result }
 {
     match read_alphabets(stock) {
-        AlphabetsRead::Symbols(p, b) => {
-            *inputs = p;
-            *outputs = b;
+        Ok(sizes) => {
+            *inputs = sizes.inputs;
+            *outputs = sizes.outputs;
             0
         }
-        AlphabetsRead::Refused(x) => number_of(x),
+        Err(refusal) => u32::from(refusal),
     }
 }
 
@@ -54,12 +55,12 @@ pub extern "C" fn caplune_read_tree(
     ensures { ExportsTree stock.now tree.now (nodes.old, levels.old) (nodes.new, levels.new) result }
 {
     match read_tree(stock, tree) {
-        TreeRead::Tree(n, l) => {
-            *nodes = n;
-            *levels = l;
+        Ok(size) => {
+            *nodes = size.nodes;
+            *levels = size.levels;
             0
         }
-        TreeRead::Refused(x) => number_of(x),
+        Err(refusal) => u32::from(refusal),
     }
 }
 
@@ -77,13 +78,13 @@ pub extern "C" fn caplune_read_transducer(
 {
     match read_transducer(stock, file) {
         Ok(n) => {
-            let size = 2 + 2 * (n * input_ranks(stock).len());
+            let end = counts_end(stock, n);
             *states = n;
-            *counts = size;
-            *marks = file.len() - (1 + size);
+            *counts = end - 1;
+            *marks = file.len() - end;
             0
         }
-        Err(x) => number_of(x),
+        Err(refusal) => u32::from(refusal),
     }
 }
 
@@ -99,13 +100,7 @@ pub extern "C" fn caplune_write_transducer(
 ) -> u32
     ensures { ExportsWriting stock.now states counts.now marks.now area.old area.new length.old length.new result }
 {
-    match write_transducer(stock, states, counts, marks, area) {
-        Ok(n) => {
-            *length = n;
-            0
-        }
-        Err(x) => number_of(x),
-    }
+    tell_number(write_transducer(stock, states, counts, marks, area), length)
 }
 
 // Whether a transducer is linear (01: single): 1 or 0.
@@ -114,15 +109,11 @@ pub extern "C" fn caplune_is_linear(stock: &[u8], file: &[u8], linear: &mut usiz
     ensures { ExportsLinear stock.now file.now linear.old linear.new result }
 {
     match is_linear(stock, file) {
-        LinearTest::Linear => {
-            *linear = 1;
+        Ok(is_so) => {
+            *linear = usize::from(is_so);
             0
         }
-        LinearTest::NotLinear => {
-            *linear = 0;
-            0
-        }
-        Err(x) => number_of(x),
+        Err(refusal) => u32::from(refusal),
     }
 }
 
@@ -137,13 +128,7 @@ pub extern "C" fn caplune_translate(
 ) -> u32
     ensures { ExportsTranslation stock.now file.now tree.now area.old area.new length.old length.new result }
 {
-    match translate(stock, file, tree, area) {
-        Ok(n) => {
-            *length = n;
-            0
-        }
-        Err(x) => number_of(x),
-    }
+    tell_number(translate(stock, file, tree, area), length)
 }
 
 // The symbol at an address of the output tree (01: the block at a place): 1 and the symbol; or 0 where there is no such
@@ -160,16 +145,16 @@ pub extern "C" fn caplune_symbol_at(
     ensures { ExportsSymbol stock.now file.now tree.now address.now (there.old, symbol.old) (there.new, symbol.new) result }
 {
     match symbol_at(stock, file, tree, address) {
-        Found::Symbol(b) => {
+        Ok(Some(found)) => {
             *there = 1;
-            *symbol = b;
+            *symbol = found;
             0
         }
-        Found::Nowhere => {
+        Ok(None) => {
             *there = 0;
             0
         }
-        Err(x) => number_of(x),
+        Err(refusal) => u32::from(refusal),
     }
 }
 
@@ -186,15 +171,7 @@ pub extern "C" fn caplune_earliest_form(
 ) -> u32
     ensures { ExportsEarliest stock.now file.now area.old area.new (states.old, marks.old, length.old) (states.new, marks.new, length.new) result }
 {
-    match earliest_form(stock, file, area) {
-        Formed::Form(k, m, n) => {
-            *states = k;
-            *marks = m;
-            *length = n;
-            0
-        }
-        Err(x) => number_of(x),
-    }
+    tell_form(earliest_form(stock, file, area), states, marks, length)
 }
 
 // Writes the normal form of a transducer (01: the clean sheet) to the start of the area: its states and marks, and how long
@@ -210,15 +187,7 @@ pub extern "C" fn caplune_clean(
 ) -> u32
     ensures { ExportsClean stock.now file.now area.old area.new (states.old, marks.old, length.old) (states.new, marks.new, length.new) result }
 {
-    match clean(stock, file, area) {
-        Formed::Form(k, m, n) => {
-            *states = k;
-            *marks = m;
-            *length = n;
-            0
-        }
-        Err(x) => number_of(x),
-    }
+    tell_form(clean(stock, file, area), states, marks, length)
 }
 
 // Writes the transducer of the second file after that of the first (02: the joined sheet) to the start of the area: its states
@@ -236,15 +205,12 @@ pub extern "C" fn caplune_join(
 ) -> u32
     ensures { ExportsJoin first.now second.now file1.now file2.now area.old area.new (states.old, marks.old, length.old) (states.new, marks.new, length.new) result }
 {
-    match join(first, second, file1, file2, area) {
-        Formed::Form(k, m, n) => {
-            *states = k;
-            *marks = m;
-            *length = n;
-            0
-        }
-        Err(x) => number_of(x),
-    }
+    tell_form(
+        join(first, second, file1, file2, area),
+        states,
+        marks,
+        length,
+    )
 }
 
 // Compares two transducers: `alike` is 1 if they are equivalent (01: sew alike), and the other numbers stay as they were. If
@@ -266,19 +232,19 @@ pub extern "C" fn caplune_compare(
     ensures { ExportsComparison stock.now first.now second.now tree.old tree.new address.old address.new (alike.old, nodes.old, numbers.old, left.old, right.old) (alike.new, nodes.new, numbers.new, left.new, right.new) result }
 {
     match compare(stock, first, second, tree, address) {
-        Comparison::Alike => {
+        Ok(None) => {
             *alike = 1;
             0
         }
-        Comparison::Differ(n, m, b, c) => {
+        Ok(Some(shown)) => {
             *alike = 0;
-            *nodes = n;
-            *numbers = m;
-            *left = b;
-            *right = c;
+            *nodes = shown.nodes;
+            *numbers = shown.numbers;
+            *left = shown.left;
+            *right = shown.right;
             0
         }
-        Err(x) => number_of(x),
+        Err(refusal) => u32::from(refusal),
     }
 }
 
@@ -314,10 +280,7 @@ pub extern "C" fn caplune_shorter<'a>(
 pub extern "C" fn caplune_write_codes(area: &mut [u8]) -> u32
     ensures { ExportsCodes area.old area.new result }
 {
-    match write_codes(area) {
-        Ok(()) => 0,
-        Err(x) => number_of(x),
-    }
+    tell_done(write_codes(area))
 }
 
 // Writes an output tree (01: plan) as XML to the start of the area `text`: how long the text is.
@@ -330,13 +293,7 @@ pub extern "C" fn caplune_write_xml(
 ) -> u32
     ensures { ExportsXmlWriting stock.now tree.now text.old text.new length.old length.new result }
 {
-    match write_xml(stock, tree, text) {
-        Ok(n) => {
-            *length = n;
-            0
-        }
-        Err(x) => number_of(x),
-    }
+    tell_number(write_xml(stock, tree, text), length)
 }
 
 // Reads the XML of an output tree (01: plan), and writes the tree to the start of the area: how many symbols it has.
@@ -349,11 +306,5 @@ pub extern "C" fn caplune_read_xml(
 ) -> u32
     ensures { ExportsXmlReading stock.now text.now area.old area.new length.old length.new result }
 {
-    match read_xml(stock, text, area) {
-        Ok(n) => {
-            *length = n;
-            0
-        }
-        Err(x) => number_of(x),
-    }
+    tell_number(read_xml(stock, text, area), length)
 }

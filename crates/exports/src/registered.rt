@@ -1,36 +1,14 @@
 // The registry (01: book) for Rust and C: the head behind a reference, the records as a run of structs. Thin functions over
-// those of `registry`, which answer by an enum; here the answer is a number, as in the other exported functions.
+// those of `registry`, which answer by a `Result`; here the answer is a number, as in the other exported functions.
 ghost use Rattle.std.specs.Prelude.{◌≡◌};
 ghost use Rattle.records.specs.Book.{record_at};
-ghost use Rattle.exports.specs.Registered.{TellsMade, TellsEntered, TellsReply, start_of, ExportsMaking, ExportsEntry, ExportsQuestion, ExportsCommit, ExportsBody};
+ghost use Rattle.exports.specs.Registered.{TellsReply, start_of, ExportsMaking, ExportsEntry, ExportsQuestion, ExportsCommit, ExportsBody};
 
-use records::book::{Head, Record};
+use crate::answer::{tell_done, tell_number};
+use records::book::{Foretold, Head, Record};
 use records::entry::{any_number, this_number};
 use registry::lent::{body, enter, make, question};
-use trees::refusal::number_of;
-
-// The number of an answer to making.
-fn tell_made(answer: Result<(), Refusal>) -> u32
-    ensures { TellsMade answer result }
-{
-    match answer {
-        Ok(()) => 0,
-        Err(x) => number_of(x),
-    }
-}
-
-// The number of an answer to entry; the number that a transducer got is left behind the reference.
-fn tell_entered(answer: Result<usize, Refusal>, number: &mut usize) -> u32
-    ensures { TellsEntered answer number.old number.new result }
-{
-    match answer {
-        Ok(n) => {
-            *number = n;
-            0
-        }
-        Err(x) => number_of(x),
-    }
-}
+use trees::refusal::Refusal;
 
 // The number of an answer to a question; the number that an entry would get and the length of the clean file are left behind
 // the references.
@@ -38,12 +16,12 @@ fn tell_reply(answer: Result<Foretold, Refusal>, number: &mut usize, size: &mut 
     ensures { TellsReply answer (number.old, size.old) (number.new, size.new) result }
 {
     match answer {
-        Reply::Number(n, bytes) => {
-            *number = n;
-            *size = bytes;
+        Ok(foretold) => {
+            *number = foretold.number;
+            *size = foretold.size;
             0
         }
-        Err(x) => number_of(x),
+        Err(refusal) => u32::from(refusal),
     }
 }
 
@@ -63,14 +41,7 @@ fn tell_body(r: Record, size: usize, start: &mut usize) -> usize
 fn record_at(records: &[Record], i: usize) -> Record
     ensures { result ≡ record_at records.now i }
 {
-    if i < records.len() {
-        return records[i];
-    }
-    Record {
-        start: 0,
-        size: 0,
-        count: 0,
-    }
+    records.get(i).copied().unwrap_or(Record::UNUSED)
 }
 
 // Makes a registry with the alphabets `stock`.
@@ -84,7 +55,7 @@ pub extern "C" fn caplune_make_registry(
     ensures { ExportsMaking stock.now head.old records.old area.old head.new records.new area.new result }
 {
     let answer = make(head, records, area, stock);
-    tell_made(answer)
+    tell_done(answer)
 }
 
 // Enters the transducer of a file: its normal form is found or added, and gets this number.
@@ -100,7 +71,7 @@ pub extern "C" fn caplune_enter(
 {
     let entry = any_number();
     let answer = enter(head, records, area, file, entry);
-    tell_entered(answer, number)
+    tell_number(answer, number)
 }
 
 // A question: the number that an entry of the transducer of a file would get, and how long its clean file is, which is
@@ -136,7 +107,7 @@ pub extern "C" fn caplune_commit(
 {
     let commit = this_number(claim);
     let answer = enter(head, records, area, file, commit);
-    tell_entered(answer, number)
+    tell_number(answer, number)
 }
 
 // The body with this number: its length, and where it starts in the area; 0 and 0 for an empty part, which is that of 0, of a

@@ -1,6 +1,6 @@
 -- What `report` promises comes to: every text is at most 36,911 bytes long, so that an area that is not refused begins with the whole text.
 -- Assumes nothing.
-use Rattle.std.specs.Prelude.{Err, None, Ok, Option, Result, Some}
+use Rattle.std.specs.Prelude.{Ok, Result}
 use Rattle.trees.specs.declared.refusal.Refusal.{Refusal}
 use Prim.Native.Nat.{ℕ, ◌≤◌}
 use native.Mathlib.Omega.{arith}

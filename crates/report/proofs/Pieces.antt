@@ -1,23 +1,36 @@
 -- Pieces of text, one behind the other.
 -- Assumes nothing.
-use Prim.Native.Nat.{ℕ, ◌+◌, ◌≤◌, ◌<◌}
+use Prim.Native.Nat.{ℕ, suc, ◌+◌, ◌-◌, ◌≤◌, ◌<◌}
 use native.Mathlib.Numerals.{add-one}
 use native.Mathlib.Omega.{arith}
 use mathlib.Core.List.{List, [], ◌∷◌, ◌++◌}
-use mathlib.Core.Path.{◌≡◌, refl, ap, sym}
-use lib.ListN.{length, get_or, drop, set, length-append, drop_of_length-le}
+use mathlib.Core.Path.{◌≡◌, refl, ap, sym, ◌∙◌}
+use Rattle.std.specs.Prelude.{Bool, true, false}
+use Rattle.std.proofs.Common.{nat_eq}
+use Rattle.theory.proofs.Terms.{conflict}
+use lib.ListN.{length, get_or, drop, take, set, length-append, drop_of_length-le}
 use lib.Seq.{drop-cons}
+use Rattle.std.proofs.lemmas.Bool.{eqb-true}
+use Rattle.std.proofs.lemmas.List.{take_all}
 use Rattle.trees.specs.Refusal as refusals
 use Rattle.trees.specs.declared.refusal.Refusal.{Refusal}
 use Rattle.trees.specs.declared.refusal.Refusal.TheVariants.{ShortArea, BadAlphabets, BadTree, BadContents, BadBody, LongOutput, OverLimits, FullRegistry, BadRegistry, DeepOutput, BadOutput, ShortTarget, OtherNumber, OtherAlphabet, JoinOverLimits}
 use Rattle.codes.specs.Codes.{symbol_code}
-use Rattle.formats.proofs.Writing.{Writing, begin, room_word, word_more, finish, then, wrote_as, wrote_long}
+use Rattle.formats.proofs.Writing.{Writing, room_word, word_more, finish, then, wrote_as, wrote_long}
 use Rattle.formats.specs.Inner.Written.{Wrote}
 use Rattle.report.specs.Text.{number_text, rest, separated, differ_word, at_word, sizes_line, place_text, differ_line}
 
 -- one byte
 pub one_byte : (t : List ℕ) (at x : ℕ) → Wrote t (set t at x) at (at + 1) (x ∷ [])
 one_byte t at x = record { wrote = refl; behind = refl }
+
+-- ---- whether there are numbers
+pub none_there : (xs : List ℕ) {b : Bool} → b ≡ nat_eq (length xs) 0 → b ≡ true → length xs ≡ 0
+none_there xs e f = eqb-true (length xs) 0 (sym e ∙ f)
+
+pub some_there : (xs : List ℕ) {b : Bool} → b ≡ nat_eq (length xs) 0 → b ≡ false → 0 < length xs
+some_there [] e f = let y = sym f ∙ e in conflict (cc)
+some_there (x ∷ xs) e f = omega arith
 
 -- ---- numbers with a byte between them
 module _ (s : ℕ) (items : List ℕ) where
@@ -29,22 +42,25 @@ module _ (s : ℕ) (items : List ℕ) where
       go [] e = refl
       go (x ∷ xs) e = absurd (omega arith)
 
-  separated_first : 0 < length items → separated s items ≡ number_text (get_or items 0 0) ++ rest s (drop 1 items)
+  -- the numbers behind the first
+  abbrev others : List ℕ
+  others = take (length items - 1) (drop 1 items)
+
+  separated_first : 0 < length items → separated s items ≡ number_text (get_or items 0 0) ++ rest s others
   unfolding separated
   separated_first h = go items h
     where
-      go : (items : List ℕ) → 0 < length items → separated s items ≡ number_text (get_or items 0 0) ++ rest s (drop 1 items)
+      go : (items : List ℕ) → 0 < length items → separated s items ≡ number_text (get_or items 0 0) ++ rest s (take (length items - 1) (drop 1 items))
       go [] h = absurd (omega arith)
-      go (x ∷ xs) h = refl
+      go (x ∷ xs) h = rw (take_all (suc (length xs) - 1) xs (omega arith))
 
-  rest_next : (k : ℕ) → k < length items → rest s (drop k items) ≡ (s ∷ number_text (get_or items k 0)) ++ rest s (drop (k + 1) items)
+  rest_next : (k : ℕ) → k < length others → rest s (drop k others) ≡ (s ∷ number_text (get_or others k 0)) ++ rest s (drop (k + 1) others)
   unfolding rest
-  rest_next k h = rw (add-one, drop-cons items k 0 h)
+  rest_next k h = rw (add-one, drop-cons others k 0 h)
 
-  -- The text is t, and what the numbers from number 1 on leave from `from` on is what those from number k on leave from `to` on.
-  pub record Separating (start : List ℕ) (from k to : ℕ) (t : List ℕ) : Type 0 where
-    pub inside : k ≤ length items
-    pub writing : Writing (rest s (drop 1 items)) from start (rest s (drop k items)) to t
+  -- The text is t, and what the others leave from `from` on is what those from number k on leave from `to` on.
+  abbrev pub Separating : List ℕ → ℕ → ℕ → ℕ → List ℕ → Type 0
+  Separating start from k to t = Writing (rest s others) from start (rest s (drop k others)) to t
 
   -- there is none
   pub none_separated : (t : List ℕ) (at : ℕ) → length items ≡ 0 → Wrote t t at at (separated s items)
@@ -52,26 +68,23 @@ module _ (s : ℕ) (items : List ℕ) where
 
   -- the first one is written
   pub first_room : (t : List ℕ) (at : ℕ) → 0 < length items → at + length (separated s items) ≤ length t → at + length (number_text (get_or items 0 0)) ≤ length t
-  first_room t at some h = omega (arith, ap length (separated_first some), length-append (number_text (get_or items 0 0)) (rest s (drop 1 items)))
+  first_room t at some h = omega (arith, ap length (separated_first some), length-append (number_text (get_or items 0 0)) (rest s others))
 
   module _ {t u : List ℕ} {at m : ℕ} (some : 0 < length items) (W : Wrote t u at m (number_text (get_or items 0 0))) where
-    pub first_separated : Separating u m 1 m u
-    first_separated = record { inside = some; writing = begin (rest s (drop 1 items)) u m }
-
-    rest_room : at + length (separated s items) ≤ length t → m + length (rest s (drop 1 items)) ≤ length u
-    rest_room h = omega (arith, ap length (separated_first some), length-append (number_text (get_or items 0 0)) (rest s (drop 1 items)), W.behind, wrote_long W)
+    rest_room : at + length (separated s items) ≤ length t → m + length (rest s others) ≤ length u
+    rest_room h = omega (arith, ap length (separated_first some), length-append (number_text (get_or items 0 0)) (rest s others), W.behind, wrote_long W)
 
     -- and the others
     module _ {k to : ℕ} {w : List ℕ} (S : Separating u m k to w) where
-      pub next_room : k < length items → at + length (separated s items) ≤ length t → to + 1 + length (number_text (get_or items k 0)) ≤ length w
-      next_room there h = omega (arith, room_word S.writing (s ∷ number_text (get_or items k 0)) (rest s (drop (k + 1) items)) (rest_next k there) (rest_room h))
+      pub next_room : k < length others → at + length (separated s items) ≤ length t → to + 1 + length (number_text (get_or others k 0)) ≤ length w
+      next_room there h = omega (arith, room_word S (s ∷ number_text (get_or others k 0)) (rest s (drop (k + 1) others)) (rest_next k there) (rest_room h))
 
-      pub all_separated : length items ≤ k → Wrote t w at to (separated s items)
+      pub all_separated : length others ≤ k → Wrote t w at to (separated s items)
       unfolding rest
-      all_separated h = let f = finish S.writing (ap (rest s) (drop_of_length-le items {i = k} h)) in wrote_as (sym (separated_first some)) (then W (record { wrote = f.1; behind = f.0 }))
+      all_separated h = let f = finish S (ap (rest s) (drop_of_length-le others {i = k} h)) in wrote_as (sym (separated_first some)) (then W (record { wrote = f.1; behind = f.0 }))
 
-  pub next_separated : {start t u : List ℕ} {from k to m : ℕ} → Separating start from k to t → k < length items → Wrote (set t to s) u (to + 1) m (number_text (get_or items k 0)) → Separating start from (k + 1) m u
-  next_separated {t = t} {k = k} {to} S there W = let N = then (one_byte t to s) W in record { inside = omega arith; writing = word_more S.writing (s ∷ number_text (get_or items k 0)) (rest s (drop (k + 1) items)) (rest_next k there) N.behind N.wrote }
+  pub next_separated : {start t u : List ℕ} {from k to m : ℕ} → Separating start from k to t → k < length others → Wrote (set t to s) u (to + 1) m (number_text (get_or others k 0)) → Separating start from (k + 1) m u
+  next_separated {t = t} {k = k} {to} S there W = let N = then (one_byte t to s) W in word_more S (s ∷ number_text (get_or others k 0)) (rest s (drop (k + 1) others)) (rest_next k there) N.behind N.wrote
 
 -- ---- an address
 pub root_text : (v : List ℕ) → length v ≡ 0 → place_text v ≡ 45 ∷ []

@@ -1,10 +1,10 @@
 -- The lines for two files: what cleaning and comparing them answered, and what was written of it.
 -- Assumes nothing.
-use Rattle.std.specs.Prelude.{Err, None, Ok, Option, Result, Some}
+use Rattle.std.specs.Prelude.{Err, None, Ok, Option, Result, Some, true}
+use Rattle.std.specs.Result.{is_ok}
 use Rattle.forms.specs.declared.write.Form.{Form}
 use Rattle.witness.specs.declared.witness.Shown.{Shown}
-use Prim.Native.Nat.{ℕ, ◌+◌, ◌-◌, ◌≤◌, ◌<◌}
-use native.Mathlib.Nat.{sub-zero}
+use Prim.Native.Nat.{ℕ, ◌+◌, ◌≤◌, ◌<◌}
 use native.Mathlib.Omega.{arith}
 use mathlib.Core.List.{List, ◌++◌}
 use mathlib.Core.Logic.{◌⊎◌, inl, inr}
@@ -53,15 +53,17 @@ module _ {stock s : List ℕ} {k m : ℕ} (S : Sizes stock s k m) where
 
 -- cleaning a file that passes all checks gives it
 module _ {stock s before after : List ℕ} {r : Result Form Refusal} (J : Cleans stock s before after r) where
-  pub normal_sizes : {k m n : ℕ} → r ≡ formed.Form k m n → Sizes stock s k m
+  pub normal_sizes : {v : Form} → r ≡ Ok v → Sizes stock s v.states v.marks
   unfolding Holds
   normal_sizes e =
       let w = accepted_holds (rw e at J) in
       record { counts = w.1.0; bytes = w.1.1.0; normal = w.1.1.1.0; two = sym w.1.1.1.1.marks }
 
-  pub normal_there : {x : Refusal} → r ≡ Err x → longest ≤ length before → Holds (clean_check stock s) → ⊥
-  unfolding Holds
-  normal_there e h w = (refused_fails (rw e at J)).0 (h, w)
+-- and is not refused then
+pub normal_there : {stock s before after : List ℕ} (r : Result Form Refusal) → Cleans stock s before after r → longest ≤ length before → Holds (clean_check stock s) → is_ok r ≡ true
+unfolding Holds
+normal_there (Ok v) J h w = refl
+normal_there (Err x) J h w = absurd ((refused_fails J).0 (h, w))
 
 -- ---- two: what both pass, each passes
 pub record BothHold (stock s s' : List ℕ) : Type 0 where
@@ -122,7 +124,7 @@ module _ (stock s s' : List ℕ) (H : Holds (pair_check stock s s')) {d : Tree} 
 
 -- ---- what the comparison answered
 module _ {stock s s' tree tree' address address' : List ℕ} {r : Result (Option Shown) Refusal} (J : Compares stock s s' tree tree' address address' r) where
-  module _ (e : r ≡ compared.Alike) where
+  module _ (e : r ≡ Ok None) where
     pub alike_holds : Holds (pair_check stock s s')
     unfolding Holds
     alike_holds = (accepted_holds (rw e at J)).0.1
@@ -130,39 +132,39 @@ module _ {stock s s' tree tree' address address' : List ℕ} {r : Result (Option
     pub alike_reported : {area u after : List ℕ} {m n : ℕ} → text_area ≤ length area → WroteBoth stock s s' area u m → Wrote u after m n alike_line → Reports stock s s' area after (Ok n)
     alike_reported room B W = three_lines room alike_holds (inl ((accepted_holds (rw e at J)).1.0, refl)) B W
 
-  module _ {nodes numbers b b' : ℕ} (e : r ≡ compared.Differ nodes numbers b b') where
+  module _ {v : Shown} (e : r ≡ Ok (Some v)) where
     pub differ_holds : Holds (pair_check stock s s')
     unfolding Holds
     differ_holds = (accepted_holds (rw e at J)).0.1
 
-    pub answer : Differ stock s s' tree tree' address address' nodes numbers b b'
+    pub answer : Differ stock s s' tree tree' address address' v.nodes v.numbers v.left v.right
     answer = (accepted_holds (rw e at J)).1
 
-    pub differ_bounded : Bounded answer.shown answer.place b b'
+    pub differ_bounded : Bounded answer.shown answer.place v.left v.right
     differ_bounded = differing_bounded stock s s' differ_holds answer.differ
 
-    pub nodes_few : nodes ≤ 1536
+    pub nodes_few : v.nodes ≤ 1536
     nodes_few = omega (arith, answer.written.nodes_are, differ_bounded.nodes)
 
-    pub numbers_few : numbers ≤ 16128
+    pub numbers_few : v.numbers ≤ 16128
     numbers_few = omega (arith, answer.written.numbers_are, differ_bounded.numbers)
 
     -- the areas begin with the tree and the address
     module _ (h : tree_area ≤ length tree) (h' : address_area ≤ length address) where
-      tree_is : take (nodes - 0) tree' ≡ code answer.shown
-      tree_is = let n = code_size answer.shown in rw (sub-zero nodes) (written_take (code answer.shown) tree tree' nodes (answer.written.nodes_are ∙ sym n) (omega (arith, n, differ_bounded.nodes)) answer.written.tree_wrote)
+      tree_is : take v.nodes tree' ≡ code answer.shown
+      tree_is = let n = code_size answer.shown in written_take (code answer.shown) tree tree' v.nodes (answer.written.nodes_are ∙ sym n) (omega (arith, n, differ_bounded.nodes)) answer.written.tree_wrote
 
-      address_is : take (numbers - 0) address' ≡ answer.place
-      address_is = rw (sub-zero numbers) (written_take answer.place address address' numbers answer.written.numbers_are (omega (arith, differ_bounded.numbers)) answer.written.address_wrote)
+      address_is : take v.numbers address' ≡ answer.place
+      address_is = written_take answer.place address address' v.numbers answer.written.numbers_are (omega (arith, differ_bounded.numbers)) answer.written.address_wrote
 
-      line_is : differ_line (take (nodes - 0) tree') (take (numbers - 0) address') b b' ≡ differ_line (code answer.shown) answer.place b b'
-      line_is = ap₂ (λ x y. differ_line x y b b') tree_is address_is
+      line_is : differ_line (take v.nodes tree') (take v.numbers address') v.left v.right ≡ differ_line (code answer.shown) answer.place v.left v.right
+      line_is = ap₂ (λ x y. differ_line x y v.left v.right) tree_is address_is
 
-      pub differ_short : length (separated 44 (take (nodes - 0) tree')) + length (place_text (take (numbers - 0) address')) + 18 ≤ 36880
-      differ_short = omega (arith, ap length line_is, differ_bounded.line, differ_long (take (nodes - 0) tree') (take (numbers - 0) address') b b')
+      pub differ_short : length (separated 44 (take v.nodes tree')) + length (place_text (take v.numbers address')) + 18 ≤ 36880
+      differ_short = omega (arith, ap length line_is, differ_bounded.line, differ_long (take v.nodes tree') (take v.numbers address') v.left v.right)
 
-      pub differ_reported : {area u after : List ℕ} {m n : ℕ} → text_area ≤ length area → WroteBoth stock s s' area u m → Wrote u after m n (differ_line (take (nodes - 0) tree') (take (numbers - 0) address') b b') → Reports stock s s' area after (Ok n)
-      differ_reported room B W = three_lines room differ_holds (inr (record { tree = answer.shown; place = answer.place; left = b; right = b'; differ = answer.differ; says = line_is })) B W
+      pub differ_reported : {area u after : List ℕ} {m n : ℕ} → text_area ≤ length area → WroteBoth stock s s' area u m → Wrote u after m n (differ_line (take v.nodes tree') (take v.numbers address') v.left v.right) → Reports stock s s' area after (Ok n)
+      differ_reported room B W = three_lines room differ_holds (inr (record { tree = answer.shown; place = answer.place; left = v.left; right = v.right; differ = answer.differ; says = line_is })) B W
 
   pub refusal_reported : {x : Refusal} {area after : List ℕ} {n : ℕ} → r ≡ Err x → tree_area ≤ length tree → address_area ≤ length address → text_area ≤ length area → Wrote area after 0 n (refused_line (refusal_number x)) → Reports stock s s' area after (Ok n)
   refusal_reported {x} e h h' room W = printed_text room (record { outcome = refused (refusal_number x); judged = refused_early (pair_check stock s s') done tt (past (h, h') (rw e at J)); says = refl }) W

@@ -1,7 +1,7 @@
 -- What the function that writes the lines of the program `sheets` promises.
-use Rattle.std.specs.Prelude.{Err, None, Ok, Option, Result, Some, ℕ, ◌*◌, ◌≤◌, List, ◌++◌, ◌⊎◌, ◌≡◌, length}
+use Rattle.std.specs.Prelude.{Result, ℕ, ◌*◌, ◌≤◌, List, ◌++◌, ◌⊎◌, ◌≡◌, length}
 use Rattle.trees.specs.declared.refusal.Refusal.{Refusal}
-use Rattle.trees.specs.Refusal.{outcome_of, Outcome, accepted, refused, refusal_number, Judged, check, done}
+use Rattle.trees.specs.Refusal.{outcome_of, Outcome, accepted, refused, Judged, check, done}
 use Rattle.std.proofs.lemmas.List.Edits.{sets}
 use Rattle.theory.specs.Term.{Tree}
 use Rattle.theory.specs.Transducer.{Transducer}

@@ -8,7 +8,6 @@ ghost use Rattle.report.specs.Inner.Writing.{clean_check, WroteNormal, WroteBoth
 use crate::text::{write_alike, write_differ, write_refused, write_sizes};
 use canonical::normal::clean;
 use comparison::compare::compare;
-use forms::write::Form;
 use trees::refusal::Refusal;
 
 // Writes the line of the normal form of the transducer of the file `sheet`, behind a word.
@@ -16,11 +15,10 @@ fn write_normal(stock: &[u8], sheet: &[u8], text: &mut [u8], at: usize, word: &[
     requires { Holds (clean_check stock.now sheet.now) × (at + length word.now + 9 ≤ length text.old) }
     ensures { WroteNormal stock.now sheet.now word.now text.old text.new at result }
 {
+    // Stays: an array of fixed size, since nothing is allocated (docs/AREAS.md).
     let mut normal = [0u8; 20483];
-    match clean(stock, sheet, &mut normal) {
-        Formed::Form(states, marks, _) => write_sizes(text, at, word, states, marks),
-        Err(_) => at,
-    }
+    let form = clean(stock, sheet, &mut normal).unwrap();
+    write_sizes(text, at, word, form.states, form.marks)
 }
 
 // Writes the lines of both normal forms.
@@ -42,21 +40,21 @@ pub fn report(stock: &[u8], first: &[u8], second: &[u8], area: &mut [u8]) -> Res
     let mut tree = [0u8; 1536];
     let mut address = [0u8; 16128];
     match compare(stock, first, second, &mut tree, &mut address) {
-        Comparison::Alike => {
+        Ok(None) => {
             let at = write_both(stock, first, second, area);
             Ok(write_alike(area, at))
         }
-        Comparison::Differ(nodes, numbers, left, right) => {
+        Ok(Some(shown)) => {
             let at = write_both(stock, first, second, area);
             Ok(write_differ(
                 area,
                 at,
-                &tree[0..nodes],
-                &address[0..numbers],
-                left,
-                right,
+                &tree[..shown.nodes],
+                &address[..shown.numbers],
+                shown.left,
+                shown.right,
             ))
         }
-        Err(r) => Ok(write_refused(area, r)),
+        Err(refusal) => Ok(write_refused(area, refusal)),
     }
 }

@@ -7,10 +7,10 @@ ghost use Rattle.formats.specs.Inner.Written.{Wrote};
 
 use codes::symbol::symbol_code;
 use formats::file::write_word;
-use trees::bytes::wide;
-use trees::refusal::{Refusal, number_of};
+use trees::refusal::Refusal;
 
 // A number below 10,000 in decimal.
+// Stays: it calls itself for the digits in front, since there is no buffer for them (nothing is allocated, docs/AREAS.md).
 pub(crate) fn write_number(text: &mut [u8], at: usize, n: usize) -> usize
     requires { (n < 10000) × (at + length (number_text n) ≤ length text.old) }
     ensures { Wrote text.old text.new at result (number_text n) }
@@ -29,15 +29,13 @@ pub(crate) fn write_separated(text: &mut [u8], at: usize, s: u8, items: &[u8]) -
     requires { at + length (separated s items.now) ≤ length text.old }
     ensures { Wrote text.old text.new at result (separated s items.now) }
 {
-    if items.len() == 0 {
+    if items.is_empty() {
         return at;
     }
-    let mut to = write_number(text, at, wide(items[0]));
-    let mut k = 1;
-    while k < items.len() {
+    let mut to = write_number(text, at, usize::from(items[0]));
+    for item in &items[1..] {
         text[to] = s;
-        to = write_number(text, to + 1, wide(items[k]));
-        k += 1;
+        to = write_number(text, to + 1, usize::from(*item));
     }
     to
 }
@@ -47,11 +45,11 @@ pub(crate) fn write_address(text: &mut [u8], at: usize, address: &[u8]) -> usize
     requires { at + length (place_text address.now) ≤ length text.old }
     ensures { Wrote text.old text.new at result (place_text address.now) }
 {
-    if address.len() == 0 {
-        text[at] = 45;
+    if address.is_empty() {
+        text[at] = b'-';
         return at + 1;
     }
-    write_separated(text, at, 46, address)
+    write_separated(text, at, b'.', address)
 }
 
 // A space and the code of an output symbol.
@@ -59,7 +57,7 @@ pub(crate) fn write_symbol(text: &mut [u8], at: usize, k: usize) -> usize
     requires { (k < 64) × (at + 3 ≤ length text.old) }
     ensures { Wrote text.old text.new at result (32 ∷ symbol_code k) }
 {
-    text[at] = 32;
+    text[at] = b' ';
     let code = symbol_code(k);
     write_word(text, at + 1, &code)
 }
@@ -70,7 +68,7 @@ pub(crate) fn write_refused(text: &mut [u8], r: Refusal) -> usize
     ensures { Wrote text.old text.new 0 result (refused_line (refusals.refusal_number r)) }
 {
     let a = write_word(text, 0, b"refused ");
-    let b = write_number(text, a, number_of(r) as usize);
+    let b = write_number(text, a, u32::from(r) as usize);
     write_word(text, b, b"\n")
 }
 
@@ -113,7 +111,7 @@ pub(crate) fn write_differ(
     ensures { Wrote text.old text.new at result (differ_line tree.now address.now left right) }
 {
     let a = write_word(text, at, b"differ ");
-    let b = write_separated(text, a, 44, tree);
+    let b = write_separated(text, a, b',', tree);
     let c = write_word(text, b, b" at ");
     let d = write_address(text, c, address);
     let e = write_symbol(text, d, left);

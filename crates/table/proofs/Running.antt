@@ -1,6 +1,6 @@
 -- Calls of which the entry of the same file is known: there are such calls, and every one is answered as that entry is.
 -- Assumes nothing.
-use Rattle.std.specs.Prelude.{Err, None, Ok, Option, Result, Some}
+use Rattle.std.specs.Prelude.{Err, Ok, Result}
 use Rattle.records.specs.declared.book.Foretold.{Foretold}
 use Rattle.trees.specs.Refusal.{outcome_of, refusal_number, Outcome, accepted, refused}
 use Prim.Native.Nat.{ℕ, ◌≤◌}
@@ -76,7 +76,7 @@ module _ {End : Book → Type 0} {calls : List (Call × Outcome ℕ)} {b : Book}
     commits_other o A = refused_commit OtherNumber (other_refused J.1 o) A
 
     pub asks : AllRun End calls b → AllRun End ((question s, accepted n) ∷ calls) b
-    asks A = looks (λ before long. let w = entry_answers long J.1 in (w.1.0, (replying.Number n w.0, (w.1.1, refl)))) A
+    asks A = looks (λ before long. let w = entry_answers long J.1 in (w.1.0, (Ok (record { number = n; size = w.0 }), (w.1.1, refl)))) A
 
   -- ---- the entry is refused
   module _ (q : Refusal) (J : Entry b s (Err q) b) (A : AllRun End calls b) where

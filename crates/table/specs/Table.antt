@@ -1,5 +1,5 @@
 -- The starred samples of document 01 as rows of one table: what a row may say, what that comes to by the definitions that the promises are made of, and the rows.
-use Rattle.std.specs.Prelude.{Option, Result, ℕ, ◌*◌, ◌≤◌, ◌<◌, List, [], ◌∷◌, ◌≡◌, length, get_or}
+use Rattle.std.specs.Prelude.{Result, ℕ, ◌*◌, ◌≤◌, ◌<◌, List, [], ◌∷◌, ◌≡◌, length, get_or}
 use Rattle.trees.specs.declared.refusal.Refusal.{Refusal}
 use Rattle.records.specs.declared.book.Foretold.{Foretold}
 use Rattle.trees.specs.Refusal.{outcome_of, Outcome, accepted, refused, done, Holds}
@@ -60,8 +60,8 @@ pub record DifferOn (stock first second design place : List ℕ) (b b' : ℕ) : 
   pub difference : Difference (inputs stock) (outputs stock) machine machine' shown place b b'
 
 -- the number that a question answers
-abbrev pub number_in : Outcome (ℕ × ℕ) → Outcome ℕ
-number_in (accepted v) = accepted v.0
+abbrev pub number_in : Outcome Foretold → Outcome ℕ
+number_in (accepted v) = accepted v.number
 number_in (refused k) = refused k
 
 -- a question of the file s, lent b and an area that is long enough, is answered so

@@ -22,9 +22,6 @@ module _ {t u : List ℕ} {at n to : ℕ} (low : n < 10000) (more : 10 ≤ n) (W
 pub bounds-text-at : goal.bounds-text-at
 bounds-text-at t c = omega (arith, ap length (number_digit c.args.n c.if-n-lt10.true), c.requires)
 
-pub overflow_add-result : goal.overflow_add-result
-overflow_add-result t c = omega (arith, ap length (number_digit c.args.n c.if-n-lt10.true), c.requires)
-
 pub returns-then-n-lt10 : goal.returns-then-n-lt10
 returns-then-n-lt10 t c = let a = c.args in wrote_as (sym (number_digit a.n c.if-n-lt10.true)) (one_byte a.text.now a.at (48 + a.n))
 
@@ -41,9 +38,6 @@ bounds-text-to t c = let p = c.requires in omega (arith, room p.0 c.if-n-lt10.fa
 
 pub overflow_add-result-2 : goal.overflow_add-result-2
 overflow_add-result-2 t c = let p = c.requires in omega (arith, room p.0 c.if-n-lt10.false c.write_number-to.ensures p.1, c.write_number-to.auto.text)
-
-pub shape_of-text : goal.shape_of-text
-shape_of-text t c = let p = c.requires in wrote_long (last p.0 c.if-n-lt10.false c.write_number-to.ensures)
 
 pub returns : goal.returns
 returns t c = let p = c.requires in last p.0 c.if-n-lt10.false c.write_number-to.ensures

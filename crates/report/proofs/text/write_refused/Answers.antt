@@ -10,15 +10,15 @@ use Rattle.report.proofs.text.write_refused.Goals as goal
 
 pub write_number-b-requires : goal.write_number-b-requires
 write_number-b-requires c =
-    let k = c.number_of.result in
-    let l : k < 100 = omega (arith, c.number_of.ensures, refusal_low c.args.r) in
+    let k = c.from.result in
+    let l : k < 100 = omega (arith, c.from.ensures, refusal_low c.args.r) in
     (omega arith, omega (arith, number_two k l, c.requires))
 
 pub write_word-requires : goal.write_word-requires
 write_word-requires c =
-    let k = c.number_of.result in
-    let l : k < 100 = omega (arith, c.number_of.ensures, refusal_low c.args.r) in
+    let k = c.from.result in
+    let l : k < 100 = omega (arith, c.from.ensures, refusal_low c.args.r) in
     omega (arith, number_two k l, c.requires)
 
 pub returns : goal.returns
-returns c = then (then c.write_word-a.ensures (wrote_as (ap number_text c.number_of.ensures) c.write_number-b.ensures)) c.write_word.ensures
+returns c = then (then c.write_word-a.ensures (wrote_as (ap number_text c.from.ensures) c.write_number-b.ensures)) c.write_word.ensures
