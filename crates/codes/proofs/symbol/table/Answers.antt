@@ -1,8 +1,8 @@
 -- `table` meets its contract: the definition is computed. Assumes nothing.
 use mathlib.Core.Path.{refl}
-use Rattle.codes.specs.Inner.Table.{code_table}
+use Rattle.codes.specs.Inner.Table.{coded}
 use Rattle.codes.proofs.symbol.table.Goals as goal
 
 pub returns : goal.returns
-unfolding code_table
+unfolding coded
 returns c = refl
