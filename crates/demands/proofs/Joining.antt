@@ -4,11 +4,10 @@ use Rattle.std.specs.Prelude.{Err, Ok, Result}
 use Rattle.trees.specs.declared.refusal.Refusal.{Refusal}
 use Rattle.forms.specs.declared.write.Form.{Form}
 use Rattle.trees.specs.Refusal.{outcome_of, accepted, done, Holds}
-use Prim.Native.Nat.{ℕ, min}
+use Prim.Native.Nat.{ℕ}
 use mathlib.Core.List.{List}
 use mathlib.Core.Path.{◌≡◌, refl, sym, ap, ◌∙◌, subst}
-use lib.ListN.{length, take}
-use Rattle.std.proofs.lemmas.List.{take_min}
+use lib.ListN.{take}
 use Rattle.theory.specs.Term.{Tree}
 use Rattle.theory.specs.Transducer.{Transducer, translate}
 use Rattle.theory.proofs.Terms.{conflict}
@@ -98,10 +97,6 @@ joining = record {
 wrote_file : (r : Result Form Refusal) (area : List ℕ) (v : Form) → outcome_of r ≡ accepted v → file_in r area ≡ take v.bytes area
 wrote_file (Ok u) area v e = let w : u ≡ v = cc in ap (λ (w : Form). take w.bytes area) w
 wrote_file (Err x) area v e = conflict (cc)
-
--- the part of the area that it is; of an area that is too short for it, all
-pub file_part : (r : Result Form Refusal) (area : List ℕ) {v : Form} {n : ℕ} → r ≡ Ok v → n ≡ min v.bytes (length area) → take n area ≡ file_in r area
-file_part r area {v} e h = rw (e, h) (take_min v.bytes area)
 
 -- joining what a call wrote, as the first sheet or as the second
 pub joins_first : {a b f f' t x x' : List ℕ} (r : Result Form Refusal) → f ≡ f' → Joins a b f t x x' r → Joins a b f' t x x' r

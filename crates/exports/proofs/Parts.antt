@@ -22,8 +22,8 @@ length_zero (a ∷ l) h = absurd (omega arith)
 
 -- a file of n states that was accepted, and where its counts end
 module _ (stock s : List ℕ) (n end : ℕ) {r : Result ℕ Refusal} (J : ReadsFile stock s r) (e : r ≡ Ok n) (i : end ≡ 1 + 2 * body_count (inputs stock) n) where
-  pub end_inside : (1 ≤ end) × (end ≤ length s)
-  end_inside = (omega (arith, i), omega (arith, i, accepted_long stock s n J e))
+  pub end_inside : end ≤ length s
+  end_inside = omega (arith, i, accepted_long stock s n J e)
 
   pub parts_sized : FileParts stock s n (n, end - 1, length s - end)
   parts_sized =

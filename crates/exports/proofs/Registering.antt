@@ -21,10 +21,6 @@ front_of {p} k l e =
     let h : length p ≤ k = omega (arith, ap length e, length-take k l, min-le_left k (length l)) in
     sym (take-length p) ∙ ap (take (length p)) e ∙ take-take (length p) k l h
 
-pub start_some : (r : Record) (n : ℕ) → 0 < n → r.start ≡ start_of r n
-start_some r zero h = absurd (omega arith)
-start_some r (suc n) h = refl
-
 module _ (h : Head) (rs : List Record) (area : List ℕ) (i : ℕ) (part : List ℕ) (J : HandsBody h rs area i part) where
   body_some : 0 < length part → ExportsBody h rs area i (record_at rs i).start (length part)
   body_some g =

@@ -29,11 +29,7 @@ fn tell_reply(answer: Result<Foretold, Refusal>, number: &mut usize, size: &mut 
 fn tell_body(r: Record, size: usize, start: &mut usize) -> usize
     ensures { (result ≡ size) × (start.new ≡ start_of r size) }
 {
-    if size == 0 {
-        *start = 0;
-        return 0;
-    }
-    *start = r.start;
+    *start = if size == 0 { 0 } else { r.start };
     size
 }
 

@@ -37,6 +37,7 @@ pub fn report(stock: &[u8], first: &[u8], second: &[u8], area: &mut [u8]) -> Res
     if area.len() < 36911 {
         return Err(Refusal::ShortArea);
     }
+    // Stays: arrays of fixed size, since nothing is allocated (docs/AREAS.md).
     let mut tree = [0u8; 1536];
     let mut address = [0u8; 16128];
     match compare(stock, first, second, &mut tree, &mut address) {

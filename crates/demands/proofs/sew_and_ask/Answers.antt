@@ -3,5 +3,5 @@ use borrow.Author.Rules.{rules}
 use Rattle.demands.proofs.Second.{sewn_and_asked}
 use Rattle.demands.proofs.sew_and_ask.Goals as goal
 
-pub returns : goal.returns
-returns c = search (sewn_and_asked, rules)
+pub returns-clause-sews_and_asks : goal.returns-clause-sews_and_asks
+returns-clause-sews_and_asks c = search (sewn_and_asked, rules)
