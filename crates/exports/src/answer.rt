@@ -1,5 +1,6 @@
 // What an exported function returns of the library's answer, and leaves behind its references: 0 and the values of an
 // acceptance; or the number of a refusal, and all as it was.
+// Stays: the answers with two numbers are told where they are asked for, since each is a struct of its own.
 ghost use Rattle.exports.specs.Exported.{TellsDone, TellsNumber, TellsForm};
 
 use forms::write::Form;
