@@ -40,7 +40,7 @@ impl Spelled<16384, 64> for Product<'_> {
         let s = &self.marks1[from..to];
         let mut ends = [0u16; 64];
         note_ends(self.second, s, &mut ends);
-        let len = apply(
+        let to = apply(
             self.second,
             self.starts2,
             self.marks2,
@@ -50,8 +50,8 @@ impl Spelled<16384, 64> for Product<'_> {
             0,
             letters,
             0,
-        );
-        (len <= 64).then_some(Span { from: 0, to: len })
+        )?;
+        Some(Span { from: 0, to })
     }
 
     fn spell_initial(&self, letters: &mut [u32; 64]) -> Option<Span> {
@@ -62,7 +62,7 @@ impl Spelled<16384, 64> for Product<'_> {
         note_ends(self.second, s, &mut ends);
         let start = usize::from(self.starts2[0]);
         let end = usize::from(self.starts2[1]);
-        let len = walk(
+        let to = walk(
             self.second,
             self.starts2,
             self.marks2,
@@ -73,7 +73,7 @@ impl Spelled<16384, 64> for Product<'_> {
             0,
             letters,
             0,
-        );
-        (len <= 64).then_some(Span { from: 0, to: len })
+        )?;
+        Some(Span { from: 0, to })
     }
 }

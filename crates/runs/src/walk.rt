@@ -1,9 +1,8 @@
 // What a state of the second transducer gives on a right-hand side of the first, as letters: symbols, and calls of pairs of states.
-ghost use Rattle.std.specs.Prelude.{◌≡◌, ◌+◌, ◌*◌, ◌^◌, ◌≤◌, ◌<◌, length, set};
+ghost use Rattle.std.specs.Prelude.{◌≡◌, ◌+◌, ◌*◌, ◌^◌, ◌≤◌, ◌<◌, List, [], ◌∷◌, length};
 ghost use Rattle.trees.specs.Alphabets.{Alphabets, inputs};
 ghost use Rattle.formats.specs.Inner.Layout.{body_number};
-ghost use Rattle.transducer.specs.Inner.Written.{Limits, Wrote};
-ghost use Rattle.runs.specs.Inner.Walked.{IsBody, Ended, Ready, Walkable, applied, walked};
+ghost use Rattle.runs.specs.Inner.Walked.{IsBody, Ended, Ready, Walkable, WroteLetters, applied, walked};
 
 use discovery::queue::CALL;
 use transducer::children::skip;
@@ -33,19 +32,20 @@ pub fn note_ends(stock: &[u8], s: &[u8], ends: &mut [u16; 64])
     }
 }
 
-// Writes one letter at `at`, where there is room for it.
-fn put(letters: &mut [u32; 64], at: usize, x: usize)
-    requires { (length letters.old ≤ 64) × (x < 2 ^ 32) }
-    ensures { letters.new ≡ set letters.old at x }
+// Writes one letter at `at` and says where it ends, or `None` where there is no room for it.
+fn put(letters: &mut [u32; 64], at: usize, x: usize) -> Option<usize>
+    requires { (at ≤ 64) × (x < 2 ^ 32) }
+    ensures { WroteLetters (x ∷ []) at letters.old letters.new result }
 {
-    if at < 64 {
-        letters[at] = x as u32;
+    if at == 64 {
+        return None;
     }
+    letters[at] = x as u32;
+    Some(at + 1)
 }
 
-// Writes what state p gives on the term at mark number k of the body `s`, from `at` on, and says where that ends, or 65 where there
-// are more than 64 letters: then no more is written.
-// Stay: the parameters and the answer 65, which are in the contracts that `join` and its proofs cite.
+// Writes what state p gives on the term at mark number k of the body `s`, from `at` on, and says where that ends, or `None` where
+// there are more than 64 letters.
 #[cycle(apply_walk)]
 pub fn apply(
     stock: &[u8],
@@ -57,15 +57,14 @@ pub fn apply(
     k: usize,
     letters: &mut [u32; 64],
     at: usize,
-) -> usize
-    requires { Ready stock.now starts.now marks.now s.now ends.now p k × Limits (length letters.old) at 64 }
-    ensures { Wrote (applied stock.now starts.now marks.now s.now p k) at 64 letters.old letters.new result × (length letters.new ≡ length letters.old) }
+) -> Option<usize>
+    requires { Ready stock.now starts.now marks.now s.now ends.now p k × (at ≤ 64) }
+    ensures { WroteLetters (applied stock.now starts.now marks.now s.now p k) at letters.old letters.new result }
 {
     let i = usize::from(s[2 * k]);
     let x = usize::from(s[2 * k + 1]);
     if i > 0 {
-        put(letters, at, CALL * i + PAIR * x + p);
-        return at + 1;
+        return put(letters, at, CALL * i + PAIR * x + p);
     }
     let b = body_of(stock, p, x);
     let from = usize::from(starts[b]);
@@ -86,33 +85,20 @@ pub fn walk(
     below: usize,
     letters: &mut [u32; 64],
     at: usize,
-) -> usize
-    requires { Walkable stock.now starts.now marks.now s.now ends.now from to below × Limits (length letters.old) at 64 }
-    ensures { Wrote (walked stock.now starts.now marks.now s.now below from to) at 64 letters.old letters.new result × (length letters.new ≡ length letters.old) }
+) -> Option<usize>
+    requires { Walkable stock.now starts.now marks.now s.now ends.now from to below × (at ≤ 64) }
+    ensures { WroteLetters (walked stock.now starts.now marks.now s.now below from to) at letters.old letters.new result }
 {
-    let mut w = at;
+    let mut end = at;
     for j in from..to {
-        if w > 64 {
-            return w;
-        }
         let i = usize::from(marks[2 * j]);
         let x = usize::from(marks[2 * j + 1]);
         if i == 0 {
-            put(letters, w, x);
-            w += 1;
+            end = put(letters, end, x)?;
             continue;
         }
-        w = apply(
-            stock,
-            starts,
-            marks,
-            s,
-            ends,
-            x,
-            skip(ends, below, i - 1),
-            letters,
-            w,
-        );
+        let k = skip(ends, below, i - 1);
+        end = apply(stock, starts, marks, s, ends, x, k, letters, end)?;
     }
-    w
+    Some(end)
 }

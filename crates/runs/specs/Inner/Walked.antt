@@ -1,6 +1,7 @@
 -- What a state of the second transducer writes on a right-hand side of the first, letter by letter: the marks of its own right-hand side in order, for each call what the state called
 -- writes on the child, and where it meets a call of the first, the letter of the pair.
-use Rattle.std.specs.Prelude.{ℕ, ◌+◌, ◌*◌, ◌<◌, ◌≤◌, List, ◌≡◌, length, get_or, drop}
+use Rattle.std.specs.Prelude.{ℕ, ◌+◌, ◌*◌, ◌<◌, ◌≤◌, List, Option, None, Some, ◌≡◌, length, get_or, drop}
+use Rattle.std.proofs.lemmas.List.Edits.{sets}
 use Rattle.theory.specs.Compose.{assoc}
 use Rattle.theory.specs.Inner.Forests.{letters}
 use Rattle.theory.specs.Inner.PairCodes.{pair_code}
@@ -47,6 +48,12 @@ applied stock starts bytes s p k = spelt (paired (run (tabled (inputs stock) (ou
 -- what its marks number `from` up to `to` write, over the terms that stand from mark number `below` of s on
 unfoldable pub walked : List ℕ → List ℕ → List ℕ → List ℕ → ℕ → ℕ → ℕ → List ℕ
 walked stock starts bytes s below from to = spell (answered (tabled (inputs stock) (outputs stock) starts bytes) (terms_at (inputs stock) s below)) (part bytes from to)
+
+-- w was written from `at` on, and r is where it ends; or none, where that is past 64: then the letters may be anything
+pub record WroteLetters (w : List ℕ) (at : ℕ) (before after : List ℕ) (r : Option ℕ) : Type 0 where
+  pub over : r ≡ None → 64 < at + length w
+  pub end : (n : ℕ) → r ≡ Some n → (n ≡ at + length w) × (n ≤ 64)
+  pub wrote : (n : ℕ) → r ≡ Some n → after ≡ sets before at w
 
 -- s is the marks of a right-hand side of the first transducer
 pub record IsBody (mids s : List ℕ) : Type 0 where

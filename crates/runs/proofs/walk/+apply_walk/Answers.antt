@@ -1,20 +1,16 @@
--- `apply` and `walk` meet their contracts. What falls from call to call: the marks of the first transducer's body from here on, 65 times, and the marks of the second's that are left. The loop's invariant: writing what is left from here ends as writing all from the start, if there is room. Assumes nothing.
+-- `apply` and `walk` meet their contracts. What falls from call to call: the marks of the first transducer's body from here on, 65 times, and the marks of the second's that are left. The loop's invariant: writing what is left from here ends as writing all from the start. Assumes nothing.
 use Prim.Native.Nat.{◌+◌, ◌*◌}
 use native.Mathlib.Omega.{arith}
 use mathlib.Core.List.{[], ◌∷◌}
 use mathlib.Core.Path.{◌≡◌, refl, sym, ap, ◌∙◌}
 use lib.ListN.{length, length-set}
 use Rattle.runs.specs.Inner.Walked.{applied, walked}
-use Rattle.transducer.proofs.Filling.{begin, one_more_lem, word_more, wrote_as, finish}
+use Rattle.runs.proofs.Lettering.{wrote_as, piece_more, piece_over, finish}
 use Rattle.runs.proofs.Walks.{walk_symbol, walk_end, ready_few, apply_call, symbol_fits, body_few, body_walk, apply_walk, to_skip, child_after, to_apply, call_walk}
 use Rattle.runs.proofs.walk.+apply_walk.Goals as goal
 
 pub apply-returns-then-i-gt0 : goal.apply-returns-then-i-gt0
-apply-returns-then-i-gt0 t c =
-    let a = c.args in
-    let P = c.requires in
-    let x = 65536 * c.from-i.result + 128 * c.from-x.result + a.p in
-    (wrote_as (apply_call P.0 c.from-i.ensures c.from-x.ensures c.if-i-gt0.true) (finish (one_more_lem (begin (x ∷ []) a.letters.now P.1) x [] P.1.low refl refl c.put.ensures) refl), ap length c.put.ensures ∙ length-set a.letters.now a.at x)
+apply-returns-then-i-gt0 t c = wrote_as (apply_call c.requires.0 c.from-i.ensures c.from-x.ensures c.if-i-gt0.true) c.put.ensures
 
 pub apply-bounds-starts-b : goal.apply-bounds-starts-b
 apply-bounds-starts-b t c = omega (arith, c.body_of-b.ensures, (symbol_fits c.requires.0 c.from-i.ensures c.from-x.ensures (omega (arith, c.if-i-gt0.false))).1)
@@ -32,7 +28,7 @@ pub apply-returns : goal.apply-returns
 apply-returns t c =
     let P = c.requires in
     let z : c.from-i.result ≡ 0 = omega (arith, c.if-i-gt0.false) in
-    (wrote_as (apply_walk P.0 c.from-i.ensures c.from-x.ensures z c.body_of-b.ensures c.from-from.ensures c.from-to.ensures) c.walk.ensures.0, c.walk.ensures.1)
+    wrote_as (apply_walk P.0 c.from-i.ensures c.from-x.ensures z c.body_of-b.ensures c.from-from.ensures c.from-to.ensures) c.walk.ensures
 
 pub walk-loop-j-preserved-then-i-eq0 : goal.walk-loop-j-preserved-then-i-eq0
 walk-loop-j-preserved-then-i-eq0 t c =
@@ -40,27 +36,41 @@ walk-loop-j-preserved-then-i-eq0 t c =
     let l = c.loop-j in
     let x = c.from-x.result in
     let e = walk_symbol a.stock.now a.starts.now a.marks.now a.s.now a.below l.j a.to c.loop-j-test.true c.requires.0.inside (sym c.from-i.ensures ∙ c.if-i-eq0.true) c.from-x.ensures in
-    one_more_lem l.invariant x (walked a.stock.now a.starts.now a.marks.now a.s.now a.below (l.j + 1) a.to) (omega (arith, c.if-w-gt64.false)) e refl c.put.ensures
+    piece_more l.invariant (x ∷ []) (walked a.stock.now a.starts.now a.marks.now a.s.now a.below (l.j + 1) a.to) e c.put.ensures c.in_ok-end.was
 
-pub walk-skip-requires : goal.walk-skip-requires
-walk-skip-requires t c =
+pub walk-skip-k-requires : goal.walk-skip-k-requires
+walk-skip-k-requires t c =
     let l = c.loop-j in
     λ k h. to_skip c.requires.0 l.j (omega arith) c.loop-j-test.true c.from-i.ensures c.from-x.ensures c.if-i-eq0.false k (omega arith)
 
-pub walk-apply-w-requires : goal.walk-apply-w-requires
-walk-apply-w-requires t c =
+pub walk-apply-requires : goal.walk-apply-requires
+walk-apply-requires t c =
     let P = c.requires in
     let l = c.loop-j in
-    (omega (arith, c.loop-j-test.true, child_after P.0 l.j (omega arith) c.loop-j-test.true c.from-i.ensures c.from-x.ensures c.if-i-eq0.false c.skip.ensures), (to_apply P.0 l.j (omega arith) c.loop-j-test.true c.from-i.ensures c.from-x.ensures c.if-i-eq0.false c.skip.ensures, record { low = omega (arith, c.if-w-gt64.false); inside = omega (arith, l.invariant.same, P.1.inside); small = P.1.small }))
+    (omega (arith, c.loop-j-test.true, child_after P.0 l.j (omega arith) c.loop-j-test.true c.from-i.ensures c.from-x.ensures c.if-i-eq0.false c.skip-k.ensures), (to_apply P.0 l.j (omega arith) c.loop-j-test.true c.from-i.ensures c.from-x.ensures c.if-i-eq0.false c.skip-k.ensures, l.invariant.low))
 
 pub walk-loop-j-preserved : goal.walk-loop-j-preserved
 walk-loop-j-preserved t c =
     let a = c.args in
     let l = c.loop-j in
-    word_more l.invariant (applied a.stock.now a.starts.now a.marks.now a.s.now c.from-x.result c.skip.result) (walked a.stock.now a.starts.now a.marks.now a.s.now a.below (l.j + 1) a.to) (call_walk c.requires.0 l.j (omega arith) c.loop-j-test.true c.from-i.ensures c.from-x.ensures c.if-i-eq0.false c.skip.ensures) c.apply-w.ensures.1 c.apply-w.ensures.0
+    piece_more l.invariant (applied a.stock.now a.starts.now a.marks.now a.s.now c.from-x.result c.skip-k.result) (walked a.stock.now a.starts.now a.marks.now a.s.now a.below (l.j + 1) a.to) (call_walk c.requires.0 l.j (omega arith) c.loop-j-test.true c.from-i.ensures c.from-x.ensures c.if-i-eq0.false c.skip-k.ensures) c.apply.ensures c.in_ok-end-2.was
+
+pub walk-returns-in_err-end : goal.walk-returns-in_err-end
+walk-returns-in_err-end t c =
+    let a = c.args in
+    let l = c.loop-j in
+    let x = c.from-x.result in
+    let e = walk_symbol a.stock.now a.starts.now a.marks.now a.s.now a.below l.j a.to c.loop-j-test.true c.requires.0.inside (sym c.from-i.ensures ∙ c.if-i-eq0.true) c.from-x.ensures in
+    rw c.from_residual.ensures (piece_over l.invariant (x ∷ []) (walked a.stock.now a.starts.now a.marks.now a.s.now a.below (l.j + 1) a.to) e c.put.ensures c.in_err-end.was)
+
+pub walk-returns-in_err-end-2 : goal.walk-returns-in_err-end-2
+walk-returns-in_err-end-2 t c =
+    let a = c.args in
+    let l = c.loop-j in
+    rw c.from_residual-in_err-end-2.ensures (piece_over l.invariant (applied a.stock.now a.starts.now a.marks.now a.s.now c.from-x.result c.skip-k.result) (walked a.stock.now a.starts.now a.marks.now a.s.now a.below (l.j + 1) a.to) (call_walk c.requires.0 l.j (omega arith) c.loop-j-test.true c.from-i.ensures c.from-x.ensures c.if-i-eq0.false c.skip-k.ensures) c.apply.ensures c.in_err-end-2.was)
 
 pub walk-returns : goal.walk-returns
 walk-returns t c =
     let a = c.args in
     let l = c.loop-j in
-    (finish l.invariant (walk_end a.stock.now a.starts.now a.marks.now a.s.now a.below l.j a.to (omega (arith, c.requires.0.ordered)) (omega (arith, c.loop-j-test.false))), l.invariant.same)
+    finish l.invariant (walk_end a.stock.now a.starts.now a.marks.now a.s.now a.below l.j a.to (omega (arith, c.requires.0.ordered)) (omega (arith, c.loop-j-test.false)))
