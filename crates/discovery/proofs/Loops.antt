@@ -1,33 +1,27 @@
 -- What the loops answer that add the bodies of a transducer: how many states have been met, or that the form is over the limits of a file.
 -- Assumes nothing.
 use Rattle.std.specs.Prelude.{None, Option, Some}
-use Prim.Native.Nat.{ℕ, ◌≤◌}
-use native.Mathlib.Omega.{arith}
+use Prim.Native.Nat.{ℕ}
 use mathlib.Core.List.{List}
-use mathlib.Core.Path.{◌≡◌}
-use lib.ListN.{length, set, replicate, length-set, length-replicate}
-use lib.Seq.{get_or-set_same}
+use mathlib.Core.Path.{◌≡◌, refl}
 use Rattle.theory.specs.Transducer.{Transducer}
 use Rattle.theory.proofs.Terms.{conflict}
 use Rattle.trees.specs.Alphabets.{Leaf}
 use Rattle.discovery.specs.Inner.Letters.{spelt}
-use Rattle.discovery.specs.Inner.Bodies.{TooLarge, AddsBody}
+use Rattle.discovery.specs.Inner.Bodies.{TooLarge, counted, AddsBody}
 use Rattle.discovery.specs.Inner.Discovering.{ByNumbers, Empty, Found, Adds, AddsAll, Discovers}
 use Rattle.discovery.proofs.Finished.{found_layout, found_packed, found_met}
-use Rattle.discovery.proofs.Queues.{queue_none}
 use Rattle.discovery.proofs.Stages.{found_initial}
 use Rattle.discovery.proofs.TooLarge.{initial_over}
 
--- ---- the start
--- nothing is there: no state has been met, and the first body starts at the first mark
-pub empty_start : (starts out : List ℕ) (n w : ℕ) → n ≡ 192 → 2050 ≤ length starts → length out ≡ 16384 → Empty w (set starts 0 0) out (replicate n 0) (replicate w 0)
-empty_start starts out n w e h g = record {
-  queue = queue_none n w e;
-  wide = length-replicate {A = ℕ} w 0;
-  long = omega (arith, length-set starts 0 0);
-  room = g;
-  start = get_or-set_same starts 0 0 0 (omega arith);
-}
+-- ---- whether there is an answer
+pub none_counted : {A : Type 0} {r : Option A} (n : ℕ) → r ≡ None → counted r n ≡ None
+none_counted {r = None} n e = refl
+none_counted {r = Some a} n e = conflict (cc)
+
+pub some_counted : {A : Type 0} {r : Option A} {a : A} {n : ℕ} → r ≡ Some a → counted r n ≡ Some n
+some_counted {r = None} e = conflict (cc)
+some_counted {r = Some a} e = refl
 
 -- ---- the bodies of E
 module _ {ins outs : List ℕ} {w : ℕ} {E : Transducer ℕ} {starts out list place : List ℕ} where

@@ -3,8 +3,9 @@
 ghost use Rattle.std.specs.Prelude.{ℕ, ◌+◌, ◌≤◌, ◌<◌, List, ◌≡◌, length};
 ghost use Rattle.theory.specs.Transducer.{Transducer};
 ghost use Rattle.discovery.specs.Inner.Discovering.{Numbered, Spells, Empty, Found, Adds, AddsAll, Discovers};
+ghost use Rattle.discovery.specs.Inner.Bodies.{counted};
 
-use crate::queue::add_body;
+use crate::queue::{Queue, add_body};
 use trees::bytes::Span;
 
 // A transducer whose states are numbers below W, and whose right-hand sides are spelt into an area of L letters.
@@ -42,15 +43,14 @@ fn add_initial<S: Spelled<W, L>, const W: usize, const L: usize>(
     letters: &mut [u32; L],
     starts: &mut [u16],
     out: &mut [u8],
-    list: &mut [u16],
-    place: &mut [u8],
-) -> Option<usize>
-    requires { S.ready source.now × Numbered (S.ins source.now) (S.outs source.now) W (S.transducer source.now) (S.valid source.now) × Empty W starts.old out.old list.old place.old }
-    ensures { Adds (S.ins source.now) (S.outs source.now) (S.transducer source.now) W 0 starts.new out.new list.new place.new result }
+    queue: &mut Queue<W>,
+) -> Option<()>
+    requires { S.ready source.now × Numbered (S.ins source.now) (S.outs source.now) W (S.transducer source.now) (S.valid source.now) × Empty W starts.old out.old queue.old.list queue.old.place × (queue.old.met ≡ 0) }
+    ensures { Adds (S.ins source.now) (S.outs source.now) (S.transducer source.now) W 0 starts.new out.new queue.new.list queue.new.place (counted result queue.new.met) }
 {
     let span = source.spell_initial(letters)?;
     let spelt = &letters[..];
-    add_body(&spelt[span.from..span.to], 0, starts, out, list, place, 0)
+    add_body(&spelt[span.from..span.to], 0, starts, out, queue)
 }
 
 // Adds the right-hand sides of the state number p.
@@ -60,45 +60,40 @@ fn add_state<S: Spelled<W, L>, const W: usize, const L: usize>(
     p: usize,
     starts: &mut [u16],
     out: &mut [u8],
-    list: &mut [u16],
-    place: &mut [u8],
-    met: usize,
-) -> Option<usize>
-    requires { S.ready source.now × Numbered (S.ins source.now) (S.outs source.now) W (S.transducer source.now) (S.valid source.now) × Found (S.ins source.now) (S.transducer source.now) W p starts.old out.old list.old place.old met × (p < met) }
-    ensures { Adds (S.ins source.now) (S.outs source.now) (S.transducer source.now) W (p + 1) starts.new out.new list.new place.new result }
+    queue: &mut Queue<W>,
+) -> Option<()>
+    requires { S.ready source.now × Numbered (S.ins source.now) (S.outs source.now) W (S.transducer source.now) (S.valid source.now) × Found (S.ins source.now) (S.transducer source.now) W p starts.old out.old queue.old.list queue.old.place queue.old.met × (p < queue.old.met) }
+    ensures { Adds (S.ins source.now) (S.outs source.now) (S.transducer source.now) W (p + 1) starts.new out.new queue.new.list queue.new.place (counted result queue.new.met) }
 {
     let symbols = source.symbols();
-    let c = usize::from(list[p]);
-    let mut n = met;
+    let c = usize::from(queue.list[p]);
     for a in 0..symbols {
         let span = source.spell_rhs(c, a, letters)?;
         let b = 1 + p * symbols + a;
         let spelt = &letters[..];
-        n = add_body(&spelt[span.from..span.to], b, starts, out, list, place, n)?;
+        add_body(&spelt[span.from..span.to], b, starts, out, queue)?;
     }
-    Some(n)
+    Some(())
 }
 
-// Adds the right-hand sides of every state that is met; the list of these grows meanwhile.
+// Adds the right-hand sides of every state that is met.
 fn add_states<S: Spelled<W, L>, const W: usize, const L: usize>(
     source: &S,
     letters: &mut [u32; L],
     starts: &mut [u16],
     out: &mut [u8],
-    list: &mut [u16],
-    place: &mut [u8],
-    met: usize,
-) -> Option<usize>
-    requires { S.ready source.now × Numbered (S.ins source.now) (S.outs source.now) W (S.transducer source.now) (S.valid source.now) × Found (S.ins source.now) (S.transducer source.now) W 0 starts.old out.old list.old place.old met }
-    ensures { AddsAll (S.ins source.now) (S.outs source.now) (S.transducer source.now) W starts.new out.new list.new place.new result }
+    queue: &mut Queue<W>,
+) -> Option<()>
+    requires { S.ready source.now × Numbered (S.ins source.now) (S.outs source.now) W (S.transducer source.now) (S.valid source.now) × Found (S.ins source.now) (S.transducer source.now) W 0 starts.old out.old queue.old.list queue.old.place queue.old.met }
+    ensures { AddsAll (S.ins source.now) (S.outs source.now) (S.transducer source.now) W starts.new out.new queue.new.list queue.new.place (counted result queue.new.met) }
 {
-    let mut n = met;
     let mut p = 0;
-    while p < n {
-        n = add_state(source, letters, p, starts, out, list, place, n)?;
+    // The queue grows while its states are read.
+    while p < queue.met {
+        add_state(source, letters, p, starts, out, queue)?;
         p += 1;
     }
-    Some(n)
+    Some(())
 }
 
 // Puts the bodies into a table: `starts` says where they start in `out`. How many states there are, or that the form is over the limits of a file.
@@ -111,17 +106,9 @@ pub fn discover<S: Spelled<W, L>, const W: usize, const L: usize>(
     ensures { Discovers (S.ins source.now) (S.outs source.now) (S.transducer source.now) starts.new out.new result }
 {
     let mut letters = [0u32; L];
-    let mut list = [0u16; 192];
-    let mut place = [0u8; W];
+    let mut queue = Queue::new();
     starts[0] = 0;
-    let met = add_initial(source, &mut letters, starts, out, &mut list, &mut place)?;
-    add_states(
-        source,
-        &mut letters,
-        starts,
-        out,
-        &mut list,
-        &mut place,
-        met,
-    )
+    add_initial(source, &mut letters, starts, out, &mut queue)?;
+    add_states(source, &mut letters, starts, out, &mut queue)?;
+    Some(queue.met)
 }

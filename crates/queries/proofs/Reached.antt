@@ -2,15 +2,15 @@
 -- Assumes nothing.
 use Rattle.std.specs.Prelude.{Ok}
 use Rattle.trees.specs.Refusal.{Holds, Decides}
-use Prim.Native.Nat.{ℕ, suc, ◌+◌, ◌*◌, ◌≤◌, ◌<◌}
+use Prim.Native.Nat.{ℕ, ◌+◌, ◌*◌, ◌≤◌, ◌<◌}
 use native.Mathlib.Decide.{ℕ_discrete}
 use native.Mathlib.Omega.{arith}
 use mathlib.Core.Bool.{Bool, true, false}
-use mathlib.Core.List.{List, ◌∷◌}
+use mathlib.Core.List.{List}
 use mathlib.Core.Logic.{by_cases, ⊎_elim}
 use mathlib.Core.Option.{some, some-injective}
 use mathlib.Core.Path.{◌≡◌, refl, sym, ap, ◌∙◌}
-use lib.ListN.{length, get_or, get_elem?, take, replicate, length-replicate}
+use lib.ListN.{length, get_or, get_elem?}
 use Rattle.theory.specs.Discovered.{Read, ReadRhs, no_rhs, read_rhs, ReadStates, read_initial, read_state}
 use Rattle.theory.specs.Linear.{Linear}
 use Rattle.theory.specs.Term.{Term}
@@ -29,8 +29,6 @@ use Rattle.transducer.proofs.Opening.{Opened, opened_sheet, opened_right, opened
 use Rattle.forms.specs.Alphabet.{alphabet, children_inside, children_of_lem}
 use Rattle.forms.proofs.Files.{encoded_wf, same_file}
 use Rattle.forms.proofs.Leaves.{linear_leaf}
-use Rattle.discovery.specs.Inner.Queue.{Queue}
-use Rattle.discovery.proofs.Queues.{queue_none}
 use Rattle.queries.specs.Answers.{TestsLinear}
 use Rattle.queries.specs.Linear.{LinearFile}
 use Rattle.queries.specs.Inner.Uses.{Once, LowBodies}
@@ -123,18 +121,10 @@ of_file l S F = let k = F.alphabets.leaf in linear_leaf k l (identical_linear (e
 pub to_file : {stock s : List ℕ} {n : ℕ} {M : Transducer ℕ} (A : Alphabets stock) → Sheet (inputs stock) (outputs stock) s n M → Linear (alphabet (inputs stock) A.leaf) M → LinearFile stock s
 to_file {n = n} {M} A S L = record { alphabets = A; states = n; machine = M; sheet = S; linear = L }
 
-zeros : (k w : ℕ) → k ≤ w → take k (replicate {A = ℕ} w 0) ≡ replicate k 0
-zeros ℕ.zero w h = refl
-zeros (suc k) ℕ.zero h = absurd (omega arith)
-zeros (suc k) (suc w) h = ap (◌∷◌ 0) (zeros k w (omega arith))
-
 module _ {stock s : List ℕ} {n : ℕ} {ins counts bytes : List ℕ} (O : Opened stock s n ins counts bytes) (starts : List ℕ) (S : Starts counts starts (body_count ins n)) where
-  -- the bodies are in their places, and no state has been met
-  pub opened_bodies : (w : ℕ) → w ≡ 192 → length starts ≡ 2050 → LowBodies (1 + length (take n (replicate {A = ℕ} 128 0)) * length ins) (length (take n (replicate {A = ℕ} 128 0))) starts bytes × Queue (replicate w 0) (take n (replicate {A = ℕ} 128 0)) 0
-  opened_bodies w e k =
-      let B = low_bodies O.encodes starts S (opened_right O) (opened_low O) k in
-      let z : take n (replicate {A = ℕ} 128 0) ≡ replicate n 0 = zeros n 128 B.few in
-      rw (z, length-replicate {A = ℕ} n 0) (B, queue_none w n e)
+  -- the bodies are in their places
+  pub opened_bodies : length starts ≡ 2050 → LowBodies (1 + n * length ins) n starts bytes
+  opened_bodies k = low_bodies O.encodes starts S (opened_right O) (opened_low O) k
 
   pub tested : (b : Bool) → ReadsTable (length ins) (λ j. get_or starts j 0) bytes b → TestsLinear stock s (Ok b)
   unfolding Holds

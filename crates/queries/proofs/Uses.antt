@@ -26,13 +26,14 @@ use Rattle.queries.specs.Inner.Reading.{mark_calls, ReadMarks, Reads}
 -- ---- what a reading answers
 module _ {Stop : Type 0} {Read : List ℕ → Type 0} {list place : List ℕ} where
   pub reads_twice : Stop → Reads Stop Read list place None
-  reads_twice s = record { stop = λ e. s; read = λ n e. conflict (cc); queue = λ n e. conflict (cc) }
+  reads_twice s = record { stop = λ e. s; read = λ n e. conflict (cc); queue = λ n e. conflict (cc); wide = λ n e. conflict (cc) }
 
-  pub reads_met : {n : ℕ} → Read (met_of list n) → Queue list place n → Reads Stop Read list place (Some n)
-  reads_met {n} R Q = record {
+  pub reads_met : {n : ℕ} → Read (met_of list n) → Queue list place n → length place ≡ 128 → Reads Stop Read list place (Some n)
+  reads_met {n} R Q w = record {
     stop = λ e. conflict (cc);
     read = λ m e. let z : n ≡ m = cc in rw (← z) R;
     queue = λ m e. let z : n ≡ m = cc in rw (← z) Q;
+    wide = λ m e. w;
   }
 
 -- ---- the calls among marks
@@ -52,8 +53,8 @@ calls_call (suc i) x ms h = refl
 pub record Passed (bytes : List ℕ) (from to : ℕ) (L : List ℕ) (seen : List Bool) (n j : ℕ) (list place : List ℕ) : Type 0 where
   pub five : length seen ≡ 5
   pub flags : (k : ℕ) → 1 ≤ k → uses k (part bytes from to) ≡ one_if (get_or seen k false) + uses k (part bytes j to)
-  pub low : Low (length place) (part bytes j to)
-  pub few : length place ≤ 128
+  pub low : Low 128 (part bytes j to)
+  pub wide : length place ≡ 128
   pub queue : Queue list place n
   pub rest : (L' : List ℕ) → ReadCalls (mark_calls (part bytes j to)) (met_of list n) L' → ReadCalls (mark_calls (part bytes from to)) L L'
 
@@ -64,21 +65,21 @@ at_most_one false = omega arith
 module _ {bytes list place L : List ℕ} {from to n j : ℕ} {seen : List Bool} (W : Passed bytes from to L seen n j list place) where
   -- a state more can be entered
   pub few_met : n < 192
-  few_met = omega (arith, queue_few W.queue, W.few)
+  few_met = omega (arith, queue_few W.queue, W.wide)
 
   -- all marks are passed
   pub pass_all : to ≤ j → 2 * to ≤ length bytes → Reads (Once (part bytes from to) → ⊥) (ReadMarks (part bytes from to) L) list place (Some n)
   unfolding uses mark_calls
   pass_all h g =
       let e : part bytes j to ≡ [] = drop_of_length-le (take to (pairs bytes)) {i = j} (omega (arith, length-take-le to (pairs bytes) (pairs_length bytes to g))) in
-      reads_met (λ k p. omega (arith, W.flags k p, ap (uses k) e, at_most_one (get_or seen k false)), W.rest (met_of list n) (rw e no_call)) W.queue
+      reads_met (λ k p. omega (arith, W.flags k p, ap (uses k) e, at_most_one (get_or seen k false)), W.rest (met_of list n) (rw e no_call)) W.queue W.wide
 
   -- the next mark, of child i or, where i is 0, a symbol
   module _ (less : j < to) (inside : 2 * to ≤ length bytes) {i : ℕ} (e : i ≡ get_or bytes (2 * j) 0) where
     next : part bytes j to ≡ (i, get_or bytes (2 * j + 1) 0) ∷ part bytes (j + 1) to
     next = part_cons bytes j to less inside ∙ ap (λ a. (a, get_or bytes (2 * j + 1) 0) ∷ part bytes (j + 1) to) (sym e)
 
-    next_low : ((i ≤ 4) × (1 ≤ i → get_or bytes (2 * j + 1) 0 < length place)) × Low (length place) (part bytes (j + 1) to)
+    next_low : ((i ≤ 4) × (1 ≤ i → get_or bytes (2 * j + 1) 0 < 128)) × Low 128 (part bytes (j + 1) to)
     unfolding Low
     next_low = rw next at W.low
 
@@ -86,7 +87,7 @@ module _ {bytes list place L : List ℕ} {from to n j : ℕ} {seen : List Bool} 
     child_low = omega (arith, next_low.0.0)
 
     pub state_low : 0 < i → {q : ℕ} → q ≡ get_or bytes (2 * j + 1) 0 → q < length place
-    state_low h f = rw f (next_low.0.1 h)
+    state_low h f = omega (arith, next_low.0.1 h, f, W.wide)
 
     -- how the mark counts for child k
     next_flags : (k : ℕ) → 1 ≤ k → uses k (part bytes from to) ≡ one_if (get_or seen k false) + (one_if (eqb i k) + uses k (part bytes (j + 1) to))
@@ -102,7 +103,7 @@ module _ {bytes list place L : List ℕ} {from to n j : ℕ} {seen : List Bool} 
       five = W.five;
       flags = λ k h. omega (arith, next_flags k h, ap one_if (ne_eqb i k (λ q. omega arith)));
       low = next_low.1;
-      few = W.few;
+      wide = W.wide;
       queue = W.queue;
       rest = λ L' R. W.rest L' (rw (ap mark_calls next ∙ calls_symbol i _ _ z) R);
     }
@@ -111,8 +112,8 @@ module _ {bytes list place L : List ℕ} {from to n j : ℕ} {seen : List Bool} 
     pass_call p f x E = record {
       five = length-set seen i true ∙ W.five;
       flags = λ k h. by_case k h (ℕ_discrete k i);
-      low = rw E.wide next_low.1;
-      few = rw E.wide W.few;
+      low = next_low.1;
+      wide = E.wide ∙ W.wide;
       queue = E.queue;
       rest = λ L' R. W.rest L' (rw (ap mark_calls next ∙ calls_call i _ _ p) (one_call (rw x at E.entered.1) R));
     }

@@ -45,6 +45,11 @@ pub record BodiesBefore (ins : List ℕ) (E : Transducer ℕ) (w b : ℕ) (start
   pub initial : 0 < b → BodyAt starts out place 0 E.initial
   pub rhs : (q a : ℕ) → a < length ins → body_number ins q a < b → BodyAt starts out place (body_number ins q a) (E.rhs (get_or list q 0) a)
 
+-- how many states have been met, n, unless there is no answer
+abbrev pub counted : {A : Type 0} → Option A → ℕ → Option ℕ
+counted None n = None
+counted (Some a) n = Some n
+
 -- body b, with the letters s, was added; or it, or the states met with it, or all bodies with it are too many
 pub record AddsBody (s : List ℕ) (b : ℕ) (starts out list place : List ℕ) (met : ℕ) (starts' out' list' place' : List ℕ) (r : Option ℕ) : Type 0 where
   pub over : r ≡ None → (64 < length s) ⊎ (8192 < get_or starts b 0 + length s) ⊎ ((L : List ℕ) × (ReadCalls (letter_calls s) (met_of list met) L × (128 < length L)))

@@ -37,6 +37,7 @@ pub record Reads (Stop : Type 0) (Read : List ℕ → Type 0) (list place : List
   pub stop : r ≡ None → Stop
   pub read : (n : ℕ) → r ≡ Some n → Read (met_of list n)
   pub queue : (n : ℕ) → r ≡ Some n → Queue list place n
+  pub wide : (n : ℕ) → r ≡ Some n → length place ≡ 128
 
 -- reading came to a state of the list of which a body calls a child twice
 pub record Stopped (P : ℕ) (start : ℕ → ℕ) (bytes : List ℕ) : Type 0 where

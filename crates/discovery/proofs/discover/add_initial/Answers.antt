@@ -1,5 +1,6 @@
 -- `add_initial` meets its contract: the letters of the initial term are added as the first body, unless they are too many. Assumes nothing.
 use native.Mathlib.Omega.{arith}
+use borrow.Author.Rules.{rules}
 use mathlib.Core.Path.{refl}
 use mathlib.Core.Logic.{inl}
 use Rattle.discovery.proofs.Loops.{adds_initial, adds_none}
@@ -16,9 +17,10 @@ pub add_body-requires : goal.add_body-requires
 add_body-requires g c =
     let X = c.requires.1.numbers in
     let M = c.requires.2 in
-    (M.queue, omega arith, rw (c.spell_initial.ensures.spelled _ c.in_ok-span.was, M.wide) (initial_sayable X), omega (arith, M.long), omega (arith, M.start), M.room)
+    let z = c.requires.3 in
+    (search rules, (rw z M.queue, omega (arith, z), rw (c.spell_initial.ensures.spelled _ c.in_ok-span.was, M.wide) (initial_sayable X), omega (arith, M.long), omega (arith, M.start), M.room))
 
 pub returns : goal.returns
 returns g c =
     let X = c.requires.1.numbers in
-    adds_initial X (c.requires.1.leaf) c.requires.2 c.add_body.ensures (c.spell_initial.ensures.spelled _ c.in_ok-span.was)
+    adds_initial X (c.requires.1.leaf) c.requires.2 (rw c.requires.3 at c.add_body.ensures) (c.spell_initial.ensures.spelled _ c.in_ok-span.was)

@@ -8,6 +8,5 @@ use Rattle.discovery.proofs.discover.add_state.Given as goal
 abbrev pub invariant-loop-a : goal.invariant-loop-a
 invariant-loop-a g l = record {
   starts : length l.starts ≡ length l.initial.starts;
-  list : length l.list ≡ length l.initial.list;
-  stage : Stage (g.S.Spelled.ins l.source) (g.S.Spelled.transducer l.source) g.row.W l.p l.c l.a (met_of l.initial.list l.met) l.starts l.out l.list l.place l.n;
+  stage : Stage (g.S.Spelled.ins l.source) (g.S.Spelled.transducer l.source) g.row.W l.p l.c l.a (met_of l.initial.queue.list l.initial.queue.met) l.starts l.out l.queue.list l.queue.place l.queue.met;
 }

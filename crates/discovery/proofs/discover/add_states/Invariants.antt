@@ -8,8 +8,7 @@ use Rattle.discovery.proofs.discover.add_states.Given as goal
 abbrev pub invariant-loop-p : goal.invariant-loop-p
 invariant-loop-p g l = record {
   starts : length l.starts ≡ length l.initial.starts;
-  list : length l.list ≡ length l.initial.list;
-  found : Found (g.S.Spelled.ins l.source) (g.S.Spelled.transducer l.source) g.row.W l.p l.starts l.out l.list l.place l.n;
+  found : Found (g.S.Spelled.ins l.source) (g.S.Spelled.transducer l.source) g.row.W l.p l.starts l.out l.queue.list l.queue.place l.queue.met;
 }
 
 abbrev pub decreases-loop-p : goal.decreases-loop-p

@@ -4,5 +4,5 @@ use native.Mathlib.Omega.{arith}
 use Rattle.discovery.proofs.Queues.{adds_over, over_states}
 use Rattle.discovery.proofs.queue.add_body.Goals as goal
 
-pub returns-then-n-gt128 : goal.returns-then-n-gt128
-returns-then-n-gt128 c = adds_over (inr (inr (over_states c.copy_marks-n.ensures (omega (arith, c.if-n-gt128.true)))))
+pub returns-then-queue-gt128 : goal.returns-then-queue-gt128
+returns-then-queue-gt128 g c = adds_over (inr (inr (over_states c.copy_marks.ensures (omega (arith, c.if-queue-gt128.true)))))

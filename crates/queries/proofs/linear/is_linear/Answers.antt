@@ -1,9 +1,8 @@
 -- `is_linear` meets its contract. Assumes nothing.
 use Prim.Native.Nat.{ℕ}
 use native.Mathlib.Omega.{arith}
-use mathlib.Core.Path.{refl, sym, ◌∙◌}
-use lib.ListN.{replicate, length-replicate}
-use lib.Seq.{length-take-le}
+use mathlib.Core.Path.{◌∙◌}
+use lib.ListN.{length-replicate}
 use Rattle.std.proofs.lemmas.Result.{err_from_is_err_and}
 use Rattle.trees.specs.Refusal.{done as no_more}
 use Rattle.formats.proofs.Verdicts.{accepted_alphabets, accepted_states, accepted_long}
@@ -23,14 +22,8 @@ slice_bounds-fill_starts-end c = omega (arith, c.counts_end-from.ensures, accept
 pub fill_starts-requires : goal.fill_starts-requires
 fill_starts-requires c = starts_fit (opened_at c.args.stock.now c.args.sheet.now c.in_ok-n.n c.read_transducer.ensures c.in_ok-n.was c.counts_end-from.result c.counts_end-from.ensures c.input_ranks-inputs.ensures)
 
-pub slice_bounds-places-end : goal.slice_bounds-places-end
-slice_bounds-places-end c = omega (arith, accepted_states c.args.stock.now c.args.sheet.now c.in_ok-n.n c.read_transducer.ensures c.in_ok-n.was)
-
-pub slice_bounds-place-end : goal.slice_bounds-place-end
-slice_bounds-place-end c = sym (length-take-le c.in_ok-n.n (replicate 128 0) (omega (arith, accepted_states c.args.stock.now c.args.sheet.now c.in_ok-n.n c.read_transducer.ensures c.in_ok-n.was)))
-
 pub read_reached-requires : goal.read_reached-requires
-read_reached-requires c = let F = c.fill_starts in opened_bodies (opened_at c.args.stock.now c.args.sheet.now c.in_ok-n.n c.read_transducer.ensures c.in_ok-n.was c.counts_end-from.result c.counts_end-from.ensures c.input_ranks-inputs.ensures) F.new.starts F.ensures.starts 192 refl (F.auto.starts ∙ length-replicate {A = ℕ} 2050 0)
+read_reached-requires c = let F = c.fill_starts in opened_bodies (opened_at c.args.stock.now c.args.sheet.now c.in_ok-n.n c.read_transducer.ensures c.in_ok-n.was c.counts_end-from.result c.counts_end-from.ensures c.input_ranks-inputs.ensures) F.new.starts F.ensures.starts (F.auto.starts ∙ length-replicate {A = ℕ} 2050 0)
 
 pub returns : goal.returns
 returns c = let F = c.fill_starts in tested (opened_at c.args.stock.now c.args.sheet.now c.in_ok-n.n c.read_transducer.ensures c.in_ok-n.was c.counts_end-from.result c.counts_end-from.ensures c.input_ranks-inputs.ensures) F.new.starts F.ensures.starts c.read_reached.result c.read_reached.ensures
