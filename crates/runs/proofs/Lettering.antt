@@ -3,8 +3,8 @@
 use Prim.Native.Nat.{ℕ, ◌+◌, ◌≤◌, ◌<◌}
 use native.Mathlib.Omega.{arith}
 use mathlib.Core.Path.{◌≡◌, refl, sym, ap, ◌∙◌}
-use mathlib.Core.List.{List, [], ◌∷◌, ◌++◌}
-use lib.ListN.{length, set, length-append}
+use mathlib.Core.List.{List, [], ◌++◌}
+use lib.ListN.{length, length-append}
 use lib.Seq.{sets}
 use Rattle.std.specs.Prelude.{Option, None, Some}
 use Rattle.theory.proofs.Terms.{conflict}

@@ -1,22 +1,21 @@
 -- `apply` and `walk` meet their contracts. What falls from call to call: the marks of the first transducer's body from here on, 65 times, and the marks of the second's that are left. The loop's invariant: writing what is left from here ends as writing all from the start. Assumes nothing.
-use Prim.Native.Nat.{◌+◌, ◌*◌}
+use Prim.Native.Nat.{◌+◌}
 use native.Mathlib.Omega.{arith}
 use mathlib.Core.List.{[], ◌∷◌}
-use mathlib.Core.Path.{◌≡◌, refl, sym, ap, ◌∙◌}
-use lib.ListN.{length, length-set}
-use Rattle.runs.specs.Inner.Walked.{applied, walked}
+use mathlib.Core.Path.{◌≡◌, sym, ◌∙◌}
+use Rattle.runs.specs.Inner.Tables.{applied_by, walked_by}
 use Rattle.runs.proofs.Lettering.{wrote_as, piece_more, piece_over, finish}
 use Rattle.runs.proofs.Walks.{walk_symbol, walk_end, ready_few, apply_call, symbol_fits, body_few, body_walk, apply_walk, to_skip, child_after, to_apply, call_walk}
-use Rattle.runs.proofs.walk.+apply_walk.Goals as goal
+use Rattle.runs.proofs.walk.Tables.+apply_walk.Goals as goal
 
 pub apply-returns-then-i-gt0 : goal.apply-returns-then-i-gt0
 apply-returns-then-i-gt0 t c = wrote_as (apply_call c.requires.0 c.from-i.ensures c.from-x.ensures c.if-i-gt0.true) c.put.ensures
 
-pub apply-bounds-starts-b : goal.apply-bounds-starts-b
-apply-bounds-starts-b t c = omega (arith, c.body_of-b.ensures, (symbol_fits c.requires.0 c.from-i.ensures c.from-x.ensures (omega (arith, c.if-i-gt0.false))).1)
+pub apply-bounds-self-b : goal.apply-bounds-self-b
+apply-bounds-self-b t c = omega (arith, c.body_of-b.ensures, (symbol_fits c.requires.0 c.from-i.ensures c.from-x.ensures (omega (arith, c.if-i-gt0.false))).1)
 
-pub apply-bounds-starts-b-2 : goal.apply-bounds-starts-b-2
-apply-bounds-starts-b-2 t c = omega (arith, c.body_of-b.ensures, (symbol_fits c.requires.0 c.from-i.ensures c.from-x.ensures (omega (arith, c.if-i-gt0.false))).1)
+pub apply-bounds-self-b-2 : goal.apply-bounds-self-b-2
+apply-bounds-self-b-2 t c = omega (arith, c.body_of-b.ensures, (symbol_fits c.requires.0 c.from-i.ensures c.from-x.ensures (omega (arith, c.if-i-gt0.false))).1)
 
 pub apply-walk-requires : goal.apply-walk-requires
 apply-walk-requires t c =
@@ -33,10 +32,11 @@ apply-returns t c =
 pub walk-loop-j-preserved-then-i-eq0 : goal.walk-loop-j-preserved-then-i-eq0
 walk-loop-j-preserved-then-i-eq0 t c =
     let a = c.args in
+    let s = a.self.now in
     let l = c.loop-j in
     let x = c.from-x.result in
-    let e = walk_symbol a.stock.now a.starts.now a.marks.now a.s.now a.below l.j a.to c.loop-j-test.true c.requires.0.inside (sym c.from-i.ensures ∙ c.if-i-eq0.true) c.from-x.ensures in
-    piece_more l.invariant (x ∷ []) (walked a.stock.now a.starts.now a.marks.now a.s.now a.below (l.j + 1) a.to) e c.put.ensures c.in_ok-end.was
+    let e = walk_symbol s.stock.now s.starts.now s.marks.now s.s.now a.below l.j a.to c.loop-j-test.true c.requires.0.inside (sym c.from-i.ensures ∙ c.if-i-eq0.true) c.from-x.ensures in
+    piece_more l.invariant (x ∷ []) (walked_by a.self.now a.below (l.j + 1) a.to) e c.put.ensures c.in_ok-end.was
 
 pub walk-skip-k-requires : goal.walk-skip-k-requires
 walk-skip-k-requires t c =
@@ -53,24 +53,26 @@ pub walk-loop-j-preserved : goal.walk-loop-j-preserved
 walk-loop-j-preserved t c =
     let a = c.args in
     let l = c.loop-j in
-    piece_more l.invariant (applied a.stock.now a.starts.now a.marks.now a.s.now c.from-x.result c.skip-k.result) (walked a.stock.now a.starts.now a.marks.now a.s.now a.below (l.j + 1) a.to) (call_walk c.requires.0 l.j (omega arith) c.loop-j-test.true c.from-i.ensures c.from-x.ensures c.if-i-eq0.false c.skip-k.ensures) c.apply.ensures c.in_ok-end-2.was
+    piece_more l.invariant (applied_by a.self.now c.from-x.result c.skip-k.result) (walked_by a.self.now a.below (l.j + 1) a.to) (call_walk c.requires.0 l.j (omega arith) c.loop-j-test.true c.from-i.ensures c.from-x.ensures c.if-i-eq0.false c.skip-k.ensures) c.apply.ensures c.in_ok-end-2.was
 
 pub walk-returns-in_err-end : goal.walk-returns-in_err-end
 walk-returns-in_err-end t c =
     let a = c.args in
+    let s = a.self.now in
     let l = c.loop-j in
     let x = c.from-x.result in
-    let e = walk_symbol a.stock.now a.starts.now a.marks.now a.s.now a.below l.j a.to c.loop-j-test.true c.requires.0.inside (sym c.from-i.ensures ∙ c.if-i-eq0.true) c.from-x.ensures in
-    rw c.from_residual.ensures (piece_over l.invariant (x ∷ []) (walked a.stock.now a.starts.now a.marks.now a.s.now a.below (l.j + 1) a.to) e c.put.ensures c.in_err-end.was)
+    let e = walk_symbol s.stock.now s.starts.now s.marks.now s.s.now a.below l.j a.to c.loop-j-test.true c.requires.0.inside (sym c.from-i.ensures ∙ c.if-i-eq0.true) c.from-x.ensures in
+    rw c.from_residual.ensures (piece_over l.invariant (x ∷ []) (walked_by a.self.now a.below (l.j + 1) a.to) e c.put.ensures c.in_err-end.was)
 
 pub walk-returns-in_err-end-2 : goal.walk-returns-in_err-end-2
 walk-returns-in_err-end-2 t c =
     let a = c.args in
     let l = c.loop-j in
-    rw c.from_residual-in_err-end-2.ensures (piece_over l.invariant (applied a.stock.now a.starts.now a.marks.now a.s.now c.from-x.result c.skip-k.result) (walked a.stock.now a.starts.now a.marks.now a.s.now a.below (l.j + 1) a.to) (call_walk c.requires.0 l.j (omega arith) c.loop-j-test.true c.from-i.ensures c.from-x.ensures c.if-i-eq0.false c.skip-k.ensures) c.apply.ensures c.in_err-end-2.was)
+    rw c.from_residual-in_err-end-2.ensures (piece_over l.invariant (applied_by a.self.now c.from-x.result c.skip-k.result) (walked_by a.self.now a.below (l.j + 1) a.to) (call_walk c.requires.0 l.j (omega arith) c.loop-j-test.true c.from-i.ensures c.from-x.ensures c.if-i-eq0.false c.skip-k.ensures) c.apply.ensures c.in_err-end-2.was)
 
 pub walk-returns : goal.walk-returns
 walk-returns t c =
     let a = c.args in
+    let s = a.self.now in
     let l = c.loop-j in
-    finish l.invariant (walk_end a.stock.now a.starts.now a.marks.now a.s.now a.below l.j a.to (omega (arith, c.requires.0.ordered)) (omega (arith, c.loop-j-test.false)))
+    finish l.invariant (walk_end s.stock.now s.starts.now s.marks.now s.s.now a.below l.j a.to (omega (arith, c.requires.0.ordered)) (omega (arith, c.loop-j-test.false)))
