@@ -94,12 +94,11 @@ impl Tables<'_> {
         for j in from..to {
             let i = usize::from(self.marks[2 * j]);
             let x = usize::from(self.marks[2 * j + 1]);
-            if i == 0 {
-                end = put(letters, end, x)?;
-                continue;
-            }
-            let k = skip(ends, below, i - 1);
-            end = self.apply(x, k, letters, end)?;
+            end = if i == 0 {
+                put(letters, end, x)?
+            } else {
+                self.apply(x, skip(ends, below, i - 1), letters, end)?
+            };
         }
         Some(end)
     }
