@@ -3,7 +3,7 @@ ghost use Rattle.trees.specs.Alphabets.{inputs, outputs};
 ghost use Rattle.join.specs.Inner.Discovering.{product_of, TablesOf, IsPairOf};
 
 use discovery::discover::Spelled;
-use runs::walk::{PAIR, apply, body_of, note_ends, walk};
+use runs::walk::{PAIR, Tables, body_of, note_ends};
 use trees::alphabet::input_ranks;
 use trees::bytes::Span;
 
@@ -40,17 +40,14 @@ impl Spelled<16384, 64> for Product<'_> {
         let s = &self.marks1[from..to];
         let mut ends = [0u16; 64];
         note_ends(self.second, s, &mut ends);
-        let to = apply(
-            self.second,
-            self.starts2,
-            self.marks2,
+        let tables = Tables {
+            stock: self.second,
+            starts: self.starts2,
+            marks: self.marks2,
             s,
-            &ends,
-            c % PAIR,
-            0,
-            letters,
-            0,
-        )?;
+            ends: &ends,
+        };
+        let to = tables.apply(c % PAIR, 0, letters, 0)?;
         Some(Span { from: 0, to })
     }
 
@@ -60,20 +57,16 @@ impl Spelled<16384, 64> for Product<'_> {
         let s = &self.marks1[from..to];
         let mut ends = [0u16; 64];
         note_ends(self.second, s, &mut ends);
+        let tables = Tables {
+            stock: self.second,
+            starts: self.starts2,
+            marks: self.marks2,
+            s,
+            ends: &ends,
+        };
         let start = usize::from(self.starts2[0]);
         let end = usize::from(self.starts2[1]);
-        let to = walk(
-            self.second,
-            self.starts2,
-            self.marks2,
-            s,
-            &ends,
-            start,
-            end,
-            0,
-            letters,
-            0,
-        )?;
+        let to = tables.walk(start, end, 0, letters, 0)?;
         Some(Span { from: 0, to })
     }
 }

@@ -2,9 +2,9 @@
 -- Assumes nothing.
 use Prim.Native.Nat.{ℕ, ◌+◌, ◌≤◌, ◌<◌}
 use native.Mathlib.Omega.{arith}
-use mathlib.Core.Path.{◌≡◌, refl, sym, ap, ◌∙◌}
-use mathlib.Core.List.{List, [], ◌∷◌, ◌++◌}
-use lib.ListN.{length, set, length-append}
+use mathlib.Core.Path.{◌≡◌, sym, ap, ◌∙◌}
+use mathlib.Core.List.{List, [], ◌++◌}
+use lib.ListN.{length, length-append}
 use lib.Seq.{sets}
 use Rattle.std.specs.Prelude.{Option, None, Some}
 use Rattle.theory.proofs.Terms.{conflict}
@@ -30,9 +30,6 @@ pub record Lettering (whole : List ℕ) (at : ℕ) (start left : List ℕ) (w : 
   pub low : w ≤ 64
   pub place : w + length left ≡ at + length whole
   pub same_end : sets start at whole ≡ sets now w left
-
-pub begin : (whole start : List ℕ) {at : ℕ} → at ≤ 64 → Lettering whole at start whole at start
-begin whole start h = record { low = h; place = refl; same_end = refl }
 
 module _ {whole start left now : List ℕ} {at w : ℕ} (W : Lettering whole at start left w now) where
   -- a piece more

@@ -1,2 +1,3 @@
 -- What only inner functions and their proofs speak of.
 pub mod Walked
+pub mod Tables

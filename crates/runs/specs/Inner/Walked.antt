@@ -49,7 +49,7 @@ applied stock starts bytes s p k = spelt (paired (run (tabled (inputs stock) (ou
 unfoldable pub walked : List ℕ → List ℕ → List ℕ → List ℕ → ℕ → ℕ → ℕ → List ℕ
 walked stock starts bytes s below from to = spell (answered (tabled (inputs stock) (outputs stock) starts bytes) (terms_at (inputs stock) s below)) (part bytes from to)
 
--- w was written from `at` on, and r is where it ends; or none, where that is past 64: then the letters may be anything
+-- w was written from `at` on, and r is where it ends; or none, where that is past 64: then `after` may be anything
 pub record WroteLetters (w : List ℕ) (at : ℕ) (before after : List ℕ) (r : Option ℕ) : Type 0 where
   pub over : r ≡ None → 64 < at + length w
   pub end : (n : ℕ) → r ≡ Some n → (n ≡ at + length w) × (n ≤ 64)
