@@ -1,6 +1,6 @@
 -- What is noted of states and trees: the sizes and levels of what states write, and where it stands. Nothing at first, then one more.
 -- Assumes nothing.
-use Prim.Native.Nat.{ℕ, suc, ◌+◌, ◌-◌, ◌/◌, ◌%◌, ◌≤◌, ◌<◌, min}
+use Prim.Native.Nat.{ℕ, suc, ◌+◌, ◌-◌, ◌/◌, ◌%◌, ◌≤◌, ◌<◌}
 use native.Mathlib.Omega.{arith}
 use mathlib.Core.Bool.{Bool, true, false}
 use mathlib.Core.Path.{◌≡◌, refl, sym, ap, ap₂, ◌∙◌}
@@ -10,7 +10,7 @@ use lib.ListN.{length, get_or, set, take, drop, length-set, length-drop, replica
 use lib.Seq.{sets, sets-eq, length-sets, take_at, drop_at, length-take-le, drop-set-add, take-set-le, get_or-set_same, get_or-set_other}
 use borrow.Author.Tests.{eqb-true, eqb-false}
 use Rattle.std.specs.List.{copy_within}
-use Rattle.transducer.specs.Inner.Written.{applied, applied_levels, note_key, few_levels, Noted, StandsAt, Standing, Limits, Wrote, Levelled}
+use Rattle.transducer.specs.Inner.Written.{applied, applied_levels, note_key, few_levels, Noted, StandsAt, Standing, Wrote}
 
 zeros : (n k : ℕ) → ◌≡◌ {A = ℕ} (get_or (replicate n 0) k 0) 0
 zeros ℕ.zero k = refl
@@ -134,30 +134,29 @@ copy_is l from to n at e h g =
     let m : length (take n D) ≡ n = length-take-le n D (omega (arith, length-drop from l)) in
     rw z (sym (sets-eq (take n D) l at (omega arith) ∙ ap (λ k. take at l ++ take n D ++ drop (at + k) l) m))
 
--- what state q writes on the tree at p is noted at k, n symbols: r is where it ends from `at` on, or one past the limit
-module _ {ins starts bytes depths s keys sizes places area : List ℕ} {at limit : ℕ} (S : Standing ins starts bytes depths s keys sizes places area at) (L : Limits (length area) at limit) (k q p : ℕ) {n r : ℕ} (h : p < 4096) (e : get_or keys k 0 / 512 ≡ note_key q p) (z : n ≡ get_or sizes k 0) (f : r ≡ min (at + n) (limit + 1)) where
-  size_there : n ≡ length (applied ins starts bytes s q p)
+-- what state q writes on the tree at p is noted at k, n symbols
+module _ {ins starts bytes depths s keys sizes places area : List ℕ} {at : ℕ} (S : Standing ins starts bytes depths s keys sizes places area at) (k q p : ℕ) {n : ℕ} (h : p < 4096) (e : get_or keys k 0 / 512 ≡ note_key q p) (z : n ≡ get_or sizes k 0) where
+  pub size_there : n ≡ length (applied ins starts bytes s q p)
   size_there = z ∙ S.noted.right k q p h e
 
-  ends_at : r ≡ min (at + length (applied ins starts bytes s q p)) (limit + 1)
-  ends_at = f ∙ ap (λ n. min (at + n) (limit + 1)) size_there
+  -- r is where it ends from `at` on
+  module _ {limit r : ℕ} (f : (r ≡ at + n) × (r ≤ limit)) where
+    ends_at : r ≡ at + length (applied ins starts bytes s q p)
+    ends_at = omega (arith, f.0, size_there)
 
-  pub levels_noted : {levels : ℕ} → levels ≡ get_or keys k 0 % 512 → Levelled (applied_levels ins starts bytes depths s q p) limit r levels
-  levels_noted g = let l = g ∙ S.noted.levels k q p h e in record { few = omega arith; right = λ _. l }
+    -- there is no room for it
+    pub no_room : length area < r → Wrote (applied ins starts bytes s q p) at limit area area r × Standing ins starts bytes depths s keys sizes places area r
+    no_room g = (record { end = ends_at; low = f.1; wrote = λ l. absurd (omega (arith, ends_at)) }, standing_later S (omega (arith, ends_at)))
 
-  -- there is no room for it
-  pub no_room : length area < r → Wrote (applied ins starts bytes s q p) at limit area area r × Standing ins starts bytes depths s keys sizes places area r
-  no_room g = (record { end = ends_at; wrote = λ l. absurd (omega (arith, ends_at, L.inside)) }, standing_later S (omega (arith, ends_at, L.low)))
+    -- there is, and it stands already, up to m
+    module _ {m : ℕ} (g : r ≤ length area) (y : m ≡ get_or places k 0) (i : 0 < m) where
+      stood : StandsAt (applied ins starts bytes s q p) area m at
+      stood = rw y (S.stands k q p h e (omega arith))
 
-  -- there is, and it stands already, up to m
-  module _ {m : ℕ} (g : r ≤ length area) (y : m ≡ get_or places k 0) (i : 0 < m) where
-    stood : StandsAt (applied ins starts bytes s q p) area m at
-    stood = rw y (S.stands k q p h e (omega arith))
+      pub copy_fits : (n ≤ m) × (m - n + n ≤ at) × (at + n ≤ length area)
+      copy_fits = (omega (arith, size_there, stood.long), omega (arith, size_there, stood.long, stood.before), omega (arith, f.0))
 
-    pub copy_fits : (n ≤ m) × (m - n + n ≤ at) × (at + n ≤ length area)
-    copy_fits = (omega (arith, size_there, stood.long), omega (arith, size_there, stood.long, stood.before), omega (arith, f, L.inside))
-
-    pub copied_again : {area' : List ℕ} → area' ≡ sets area at (take n (drop (m - n) area)) → Wrote (applied ins starts bytes s q p) at limit area area' r × Standing ins starts bytes depths s keys sizes places area' r
-    copied_again w =
-        let v = w ∙ ap (λ n. sets area at (take n (drop (m - n) area))) size_there ∙ ap (sets area at) (stood.there (omega (arith, stood.before, f, L.inside))) in
-        (record { end = ends_at; wrote = λ _. v }, standing_on (applied ins starts bytes s q p) S v (omega (arith, ends_at, L.inside)))
+      pub copied_again : {area' : List ℕ} → area' ≡ sets area at (take n (drop (m - n) area)) → Wrote (applied ins starts bytes s q p) at limit area area' r × Standing ins starts bytes depths s keys sizes places area' r
+      copied_again w =
+          let v = w ∙ ap (λ n. sets area at (take n (drop (m - n) area))) size_there ∙ ap (sets area at) (stood.there (omega (arith, stood.before, f.0))) in
+          (record { end = ends_at; low = f.1; wrote = λ _. v }, standing_on (applied ins starts bytes s q p) S v ends_at)

@@ -21,7 +21,7 @@ use Rattle.formats.specs.Inner.Layout.{pairs, mark_at, mark_of, offset, body, bo
 use Rattle.trees.specs.Inner.Decode.{Whole}
 use Rattle.trees.specs.Inner.Measured.{WholeTree, MeasuredAll}
 use Rattle.trees.specs.Tree.{InputTree, tree_check}
-use Rattle.trees.specs.declared.refusal.Refusal.TheVariants.{BadTree, LongOutput, DeepOutput}
+use Rattle.trees.specs.declared.refusal.Refusal.TheVariants.{BadTree}
 use Rattle.trees.specs.declared.tree.Extent.{Extent}
 use Rattle.trees.specs.Inner.Measured.{some_extent}
 use Rattle.formats.proofs.Counts.{few_bodies, in_bounds}
@@ -165,7 +165,8 @@ module _ {stock : List ℕ} {n : ℕ} {counts bytes : List ℕ} (X : Machine sto
         given_levels : (depths : List ℕ) → ((j : ℕ) → j < body_count ins n → DepthsAt (outputs stock) starts bytes depths j) → walked_levels ins starts bytes depths s 0 0 to ≡ levels (translate (transducer (inputs stock) (outputs stock) n (offset counts) bytes) (tree (inputs stock) s))
         given_levels depths D = ap (λ i. walked_levels i starts bytes depths s 0 0 to) e ∙ gives_levels starts machine_right machine_wholes (rw e at S) long s to f read_whole.one depths (rw e at D)
 
-        module _ {before after outs : List ℕ} {k m : ℕ} (o : outs ≡ outputs stock) (depths : List ℕ) (D : (j : ℕ) → j < body_count ins n → DepthsAt outs starts bytes depths j) (E : Emitted (walked ins starts bytes s 0 0 to) (walked_levels ins starts bytes depths s 0 0 to) before after k m) where
+        -- what is answered of what was written is answered of the parts
+        module _ {outs : List ℕ} (o : outs ≡ outputs stock) (depths : List ℕ) (D : (j : ℕ) → j < body_count ins n → DepthsAt outs starts bytes depths j) where
           output_levels : walked_levels ins starts bytes depths s 0 0 to ≡ levels (translate (transducer (inputs stock) (outputs stock) n (offset counts) bytes) (tree (inputs stock) s))
           output_levels = given_levels depths (rw o at D)
 
@@ -175,22 +176,18 @@ module _ {stock : List ℕ} {n : ℕ} {counts bytes : List ℕ} (X : Machine sto
           output_long : length (walked ins starts bytes s 0 0 to) ≡ size (translate (transducer (inputs stock) (outputs stock) n (offset counts) bytes) (tree (inputs stock) s))
           output_long = ap length given_code ∙ code_size _
 
-          pub too_long : length before < k → TranslatesBy stock n counts bytes s before after (Err LongOutput)
-          too_long h =
-              let (l, a) = E.full h in
-              pass tree_there (refuse (λ w. omega (arith, output_long, w.1.1, ap size (output_unique w.1.0 (output_read s read_whole)))) a)
+          pub parts_translate : {before after : List ℕ} (x : Result ℕ Refusal) → Emitted (walked ins starts bytes s 0 0 to) (walked_levels ins starts bytes depths s 0 0 to) before after x → TranslatesBy stock n counts bytes s before after x
+          unfolding IsJudged
+          parts_translate {before} {after} x J = go x J.verdict
+            where
+              O : OutputBy stock n counts bytes s (translate (transducer (inputs stock) (outputs stock) n (offset counts) bytes) (tree (inputs stock) s))
+              O = output_read s read_whole
 
-          -- there is room for it
-          room_there : k ≤ length before → (t : Tree) × (OutputBy stock n counts bytes s t × (size t ≤ length before))
-          room_there h = (_, (output_read s read_whole, omega (arith, output_long, (E.fits h).0)))
-
-          pub too_deep : k ≤ length before → 256 < m → TranslatesBy stock n counts bytes s before after (Err DeepOutput)
-          too_deep h g = pass tree_there (pass (room_there h) (refuse (λ w. omega (arith, (E.fits h).1, output_levels, w.1.1, ap levels (output_unique w.1.0 (output_read s read_whole)))) (E.deep g)))
-
-          pub all_written : k ≤ length before → m ≤ 256 → TranslatesBy stock n counts bytes s before after (Ok k)
-          all_written h g =
-              let O = output_read s read_whole in
-              pass tree_there (pass (room_there h) (pass (_, (O, omega (arith, (E.fits h).1, output_levels))) (accept (_, (O, (E.fits h).0 ∙ output_long, E.wrote h g ∙ ap (sets before 0) given_code)))))
+              go : (x : Result ℕ Refusal) → IsJudged (after ≡ before) (λ k. (k ≡ length (walked ins starts bytes s 0 0 to)) × (after ≡ sets before 0 (walked ins starts bytes s 0 0 to))) (check 6 (length (walked ins starts bytes s 0 0 to) ≤ length before) (check 10 (walked_levels ins starts bytes depths s 0 0 to ≤ 256) no_more)) (outcome_of x) → TranslatesBy stock n counts bytes s before after x
+              go x (inl (h, q, kept)) = rw q (pass tree_there (refuse (λ w. h (omega (arith, output_long, w.1.1, ap size (output_unique w.1.0 O)))) kept))
+              go x (inr (R, inl (h, q, kept))) = rw q (pass tree_there (pass (_, (O, omega (arith, output_long, R))) (refuse (λ w. h (omega (arith, output_levels, w.1.1, ap levels (output_unique w.1.0 O)))) kept)))
+              go (Ok k) (inr (R, inr (L, (e, a)))) = pass tree_there (pass (_, (O, omega (arith, output_long, R))) (pass (_, (O, omega (arith, output_levels, L))) (accept (_, (O, e ∙ output_long, a ∙ ap (sets before 0) given_code)))))
+              go (Err y) (inr (R, inr (L, u))) = absurd u
 
 -- ---- the file: what is answered of its parts is answered of it
 module _ {stock sheet ins counts bytes design : List ℕ} {n : ℕ} (O : Opened stock sheet n ins counts bytes) where

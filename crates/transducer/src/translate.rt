@@ -1,10 +1,10 @@
 // Translation (01: sewing): what the transducer of a file gives on an input tree.
-ghost use Rattle.std.specs.Prelude.{◌≡◌, ◌+◌, ◌/◌, ◌%◌, ◌^◌, ◌≤◌, ◌<◌, min, max, length, get_or, set};
+ghost use Rattle.std.specs.Prelude.{Option, Some, None, ◌≡◌, ◌+◌, ◌/◌, ◌%◌, ◌^◌, ◌≤◌, ◌<◌, max, length, get_or, set};
 ghost use Rattle.formats.specs.Inner.Layout.{body_number};
 ghost use Rattle.transducer.specs.Answers.{Translates};
 ghost use Rattle.transducer.specs.Inner.Machine.{Machine, TranslatesBy};
-ghost use Rattle.transducer.specs.Inner.Written.{few_levels, note_key, Limits, Wrote, Levelled, Emitted};
-ghost use Rattle.transducer.specs.Inner.Tables.{applied_by, walked_by, applied_levels_by, walked_levels_by, CanApply, CanWalk, NotedBy, Stands};
+ghost use Rattle.transducer.specs.Inner.Written.{few_levels, note_key, Counted, Emitted};
+ghost use Rattle.transducer.specs.Inner.Tables.{applied_by, walked_by, applied_levels_by, walked_levels_by, CanApply, CanWalk, NotedBy, Stands, EmittedBy};
 
 use crate::children::{fill_ends, skip};
 use crate::depth::fill_depths;
@@ -15,6 +15,7 @@ use trees::refusal::Refusal;
 use trees::tree::measure_all;
 
 // Where what was written ends, and how many levels it has, or 257 where there are more.
+// Stays: 257, since an output of more levels that has room is refused by 10, and one that has none by 6.
 #[derive(Clone, Copy, Debug, PartialEq, Eq)]
 struct Emission {
     end: usize,
@@ -74,12 +75,15 @@ fn deeper(levels: usize, depth: u8, more: usize) -> usize
     levels.max((usize::from(depth) + more).min(257))
 }
 
-// `have` and `n` more, or one past `limit` where that passes it.
-fn added(have: usize, n: usize, limit: usize) -> usize
-    requires { (have ≤ limit) × (limit + 1 < 2 ^ 64) }
-    ensures { result ≡ min (have + n) (limit + 1) }
+// `have` and `n` more, or `None` where that passes `limit`.
+fn added(have: usize, n: usize, limit: usize) -> Option<usize>
+    requires { have ≤ limit }
+    ensures { Counted have n limit result }
 {
-    have.saturating_add(n).min(limit + 1)
+    if n > limit - have {
+        return None;
+    }
+    Some(have + n)
 }
 
 // Writes one symbol at `at`, where there is room for it.
@@ -101,8 +105,8 @@ impl Tables<'_> {
     }
 
     // Writes what state `q` gives on the tree at `p`, from `at` on, if there is room for it, and says where
-    // that ends, or one past `limit` where it passes that, and its levels. What is noted to stand in `out`
-    // is copied from there. The tree has at most `left` levels.
+    // that ends and its levels, or `None` where it passes `limit`. What is noted to stand in `out` is copied
+    // from there. The tree has at most `left` levels.
     #[cycle(apply_walk)]
     fn apply(
         &self,
@@ -113,38 +117,36 @@ impl Tables<'_> {
         notes: &mut Notes,
         out: &mut [u8],
         limit: usize,
-    ) -> Emission
-        requires { CanApply self.now q p left × Stands self.now notes.old out.old at × Limits (length out.old) at limit }
-        ensures wrote { Wrote (applied_by self.now q p) at limit out.old out.new result.end }
-        ensures levelled { Levelled (applied_levels_by self.now q p) limit result.end result.levels }
-        ensures standing { Stands self.now notes.new out.new result.end }
+    ) -> Option<Emission>
+        requires { CanApply self.now q p left × Stands self.now notes.old out.old at × (at ≤ limit) }
+        ensures { EmittedBy self.now (applied_by self.now q p) (applied_levels_by self.now q p) at limit out.old out.new notes.new result }
     {
         let k = slot(q, p);
         let key = note_key(q, p);
         let note = notes.keys[k];
         if note / 512 == key {
             let n = notes.sizes[k] as usize;
-            let end = added(at, n, limit);
+            let end = added(at, n, limit)?;
             let levels = (note % 512) as usize;
             if end > out.len() {
-                return Emission { end, levels };
+                return Some(Emission { end, levels });
             }
             let place = notes.places[k] as usize;
             if place > 0 {
                 out.copy_within(place - n..place, at);
-                return Emission { end, levels };
+                return Some(Emission { end, levels });
             }
         }
         let b = self.body_at(q, p);
         let from = usize::from(self.starts[b]);
         let to = usize::from(self.starts[b + 1]);
-        let w = self.walk(from, to, p + 1, left - 1, at, notes, out, limit);
-        if w.end <= limit.min(u32::MAX as usize) {
+        let w = self.walk(from, to, p + 1, left - 1, at, notes, out, limit)?;
+        if w.end <= u32::MAX as usize {
             notes.keys[k] = noted(key, w.levels);
             notes.sizes[k] = (w.end - at) as u32;
             notes.places[k] = w.end as u32;
         }
-        w
+        Some(w)
     }
 
     // The same of the marks number `from` up to `to`, over the trees that stand from `below` on: each call
@@ -160,34 +162,29 @@ impl Tables<'_> {
         notes: &mut Notes,
         out: &mut [u8],
         limit: usize,
-    ) -> Emission
-        requires { CanWalk self.now from to below left × Stands self.now notes.old out.old at × Limits (length out.old) at limit }
-        ensures wrote { Wrote (walked_by self.now below from to) at limit out.old out.new result.end }
-        ensures levelled { Levelled (walked_levels_by self.now below from to) limit result.end result.levels }
-        ensures standing { Stands self.now notes.new out.new result.end }
+    ) -> Option<Emission>
+        requires { CanWalk self.now from to below left × Stands self.now notes.old out.old at × (at ≤ limit) }
+        ensures { EmittedBy self.now (walked_by self.now below from to) (walked_levels_by self.now below from to) at limit out.old out.new notes.new result }
     {
         let ends = self.ends;
         let mut end = at;
         let mut levels = 0;
         for j in from..to {
-            if end > limit {
-                return Emission { end, levels };
-            }
             let i = usize::from(self.marks[2 * j]);
             let x = self.marks[2 * j + 1];
             let d = self.depths[j];
             if i == 0 {
                 put(out, end, x);
-                end += 1;
+                end = added(end, 1, limit)?;
                 levels = deeper(levels, d, 1);
                 continue;
             }
             let p = skip(ends, below, i - 1);
-            let part = self.apply(usize::from(x), p, left, end, notes, out, limit);
+            let part = self.apply(usize::from(x), p, left, end, notes, out, limit)?;
             end = part.end;
             levels = deeper(levels, d, part.levels);
         }
-        Emission { end, levels }
+        Some(Emission { end, levels })
     }
 
     // Walks the marks number 0 up to `to` over the whole input tree of `left` levels, where nothing is noted
@@ -199,21 +196,19 @@ impl Tables<'_> {
         notes: &mut Notes,
         out: &mut [u8],
         limit: usize,
-    ) -> Emission
-        requires { CanWalk self.now 0 to 0 left × NotedBy self.now notes.old × Limits (length out.old) 0 limit }
-        ensures wrote { Wrote (walked_by self.now 0 0 to) 0 limit out.old out.new result.end }
-        ensures levelled { Levelled (walked_levels_by self.now 0 0 to) limit result.end result.levels }
-        ensures noted { NotedBy self.now notes.new }
+    ) -> Option<Emission>
+        requires { CanWalk self.now 0 to 0 left × NotedBy self.now notes.old }
+        ensures { EmittedBy self.now (walked_by self.now 0 0 to) (walked_levels_by self.now 0 0 to) 0 limit out.old out.new notes.new result }
     {
         notes.places = [0; 4096];
         self.walk(0, to, 0, left, 0, notes, out, limit)
     }
 
-    // Writes what they give, if there is room and it has at most 256 levels: to a place of its own first,
-    // where an output of at most 8,192 symbols is copied from.
-    fn emit(&self, to: usize, left: usize, out: &mut [u8]) -> Emission
+    // Writes what they give, if there is room and it has at most 256 levels, and says where that ends: to a
+    // place of its own first, where an output of at most 8,192 symbols is copied from.
+    fn emit(&self, to: usize, left: usize, out: &mut [u8]) -> Result<usize, Refusal>
         requires { CanWalk self.now 0 to 0 left }
-        ensures { Emitted (walked_by self.now 0 0 to) (walked_levels_by self.now 0 0 to) out.old out.new result.end result.levels }
+        ensures { Emitted (walked_by self.now 0 0 to) (walked_levels_by self.now 0 0 to) out.old out.new result }
     {
         let mut notes = Notes {
             keys: [0; 4096],
@@ -221,15 +216,24 @@ impl Tables<'_> {
             places: [0; 4096],
         };
         let mut short = [0u8; 8192];
-        let w = self.fill(to, left, &mut notes, &mut short, out.len().max(8192));
-        if w.end > out.len() || w.levels > 256 {
-            return w;
+        let w = self
+            .fill(to, left, &mut notes, &mut short, out.len().max(8192))
+            .ok_or(Refusal::LongOutput)?;
+        if w.end > out.len() {
+            return Err(Refusal::LongOutput);
+        }
+        if w.levels > 256 {
+            return Err(Refusal::DeepOutput);
         }
         if w.end <= 8192 {
             copy_at(&short[..w.end], out, 0);
-            return w;
+            return Ok(w.end);
         }
-        self.fill(to, left, &mut notes, out, out.len())
+        // It ends where it ended before: there is room for it.
+        let again = self
+            .fill(to, left, &mut notes, out, out.len())
+            .ok_or(Refusal::LongOutput)?;
+        Ok(again.end)
     }
 }
 
@@ -264,14 +268,7 @@ fn translate_by(
         s,
         ends: &ends,
     };
-    let w = tables.emit(to, tree.levels, out);
-    if w.end > out.len() {
-        return Err(Refusal::LongOutput);
-    }
-    if w.levels > 256 {
-        return Err(Refusal::DeepOutput);
-    }
-    Ok(w.end)
+    tables.emit(to, tree.levels, out)
 }
 
 // Translates the tree of the file `design` by the transducer of the file `sheet`, into `out`.

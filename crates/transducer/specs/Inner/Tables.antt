@@ -1,8 +1,9 @@
 -- What is said of a translation's tables and of its notes, each as one value.
-use Rattle.std.specs.Prelude.{ℕ, List}
+use Rattle.std.specs.Prelude.{ℕ, ◌+◌, ◌<◌, List, Option, Some, None, ◌≡◌, length}
+use Rattle.transducer.specs.declared.translate.Emission.{Emission}
 use Rattle.transducer.specs.declared.translate.Notes.{Notes}
 use Rattle.transducer.specs.declared.translate.Tables.{Tables}
-use Rattle.transducer.specs.Inner.Written.{applied, walked, applied_levels, walked_levels, Ready, Walkable, Noted, Standing, Depths}
+use Rattle.transducer.specs.Inner.Written.{applied, walked, applied_levels, walked_levels, Ready, Walkable, few_levels, Noted, Standing, Depths, Wrote}
 
 -- what state q writes on the tree at p, and its levels
 abbrev pub applied_by : Tables → ℕ → ℕ → List ℕ
@@ -31,3 +32,10 @@ NotedBy t n = Noted t.ins.now t.starts.now t.marks.now t.depths.now t.s.now n.ke
 
 abbrev pub Stands : Tables → Notes → List ℕ → ℕ → Type 0
 Stands t n area at = Standing t.ins.now t.starts.now t.marks.now t.depths.now t.s.now n.keys n.sizes n.places area at
+
+-- w, of l levels, was written from `at` on, and what is noted stands; or, if r is none, w ends past the limit
+pub record EmittedBy (t : Tables) (w : List ℕ) (l at limit : ℕ) (before after : List ℕ) (notes : Notes) (r : Option Emission) : Type 0 where
+  pub over : r ≡ None → limit < at + length w
+  pub wrote : (e : Emission) → r ≡ Some e → Wrote w at limit before after e.end
+  pub levels : (e : Emission) → r ≡ Some e → e.levels ≡ few_levels l
+  pub standing : (e : Emission) → r ≡ Some e → Stands t notes after e.end

@@ -1,10 +1,12 @@
 -- What a state writes on an input tree, byte by byte: the marks of its right-hand side in order, and for each call what the state called writes; and how many levels that has.
-use Rattle.std.specs.Prelude.{ℕ, suc, ◌+◌, ◌-◌, ◌*◌, ◌/◌, ◌%◌, ◌^◌, ◌<◌, ◌≤◌, min, max, List, [], ◌∷◌, ◌++◌, ◌≡◌, length, get_or, take, drop}
+use Rattle.std.specs.Prelude.{ℕ, suc, ◌+◌, ◌-◌, ◌*◌, ◌/◌, ◌%◌, ◌<◌, ◌≤◌, min, max, Option, Some, None, Result, List, [], ◌∷◌, ◌++◌, ◌≡◌, length, get_or, take, drop}
 use Rattle.std.proofs.Math.Seq.{slice}
 use Rattle.std.proofs.lemmas.List.Edits.{sets}
 use Rattle.theory.specs.Size.{levels}
 use Rattle.theory.specs.Term.{Tree, Terms, var, node, none, more, count}
 use Rattle.trees.specs.Code.{Mark}
+use Rattle.trees.specs.Refusal.{outcome_of, done, check, Judged}
+use Rattle.trees.specs.declared.refusal.Refusal.{Refusal}
 use Rattle.theory.specs.Inner.Forests.{letters_all}
 use Rattle.formats.specs.Inner.Layout.{pairs, mark_at, body_number, body_count}
 use Rattle.trees.specs.Inner.Symbols.{trees, tree}
@@ -149,25 +151,17 @@ pub record Depths (bytes depths : List ℕ) : Type 0 where
   pub few_marks : length bytes ≤ 16384
   pub all_depths : length depths ≡ 8192
 
--- counting goes from `at` up to the limit, which is not inside an area of this length
-pub record Limits (room at limit : ℕ) : Type 0 where
-  pub low : at ≤ limit
-  pub inside : room ≤ limit
-  pub small : limit + 1 < 2 ^ 64
+-- n more than `have`: where that ends, or none, where it is past the limit
+pub record Counted (have n limit : ℕ) (r : Option ℕ) : Type 0 where
+  pub over : r ≡ None → limit < have + n
+  pub end : (m : ℕ) → r ≡ Some m → (m ≡ have + n) × (m ≤ limit)
 
--- w was written from `at` on, if there was room for it: r is where it ends, or one past the limit
+-- w was written from `at` on, if there was room for it: r is where it ends, which is not past the limit
 pub record Wrote (w : List ℕ) (at limit : ℕ) (before after : List ℕ) (r : ℕ) : Type 0 where
-  pub end : r ≡ min (at + length w) (limit + 1)
+  pub end : r ≡ at + length w
+  pub low : r ≤ limit
   pub wrote : at + length w ≤ length before → after ≡ sets before at w
 
--- something of l levels was counted, which ends at `end`: they are right unless that is past the limit
-pub record Levelled (l limit end levels : ℕ) : Type 0 where
-  pub few : levels ≤ 257
-  pub right : end ≤ limit → levels ≡ few_levels l
-
--- w, of l levels, was written from the start of the area, if there is room for it and there are few levels: how much that is, or more than there is room for, and the levels
-pub record Emitted (w : List ℕ) (l : ℕ) (before after : List ℕ) (end levels : ℕ) : Type 0 where
-  pub fits : end ≤ length before → (end ≡ length w) × (levels ≡ few_levels l)
-  pub wrote : end ≤ length before → levels ≤ 256 → after ≡ sets before 0 w
-  pub full : length before < end → (length before < length w) × (after ≡ before)
-  pub deep : 256 < levels → after ≡ before
+-- w, of l levels, was written from the start of the area, and r is how long it is; or there is no room for it, or it has too many levels
+abbrev pub Emitted : List ℕ → ℕ → List ℕ → List ℕ → Result ℕ Refusal → Type 0
+Emitted w l before after r = Judged (after ≡ before) (λ k. (k ≡ length w) × (after ≡ sets before 0 w)) (check 6 (length w ≤ length before) (check 10 (l ≤ 256) done)) (outcome_of r)

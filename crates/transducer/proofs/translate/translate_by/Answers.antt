@@ -5,7 +5,7 @@ use mathlib.Core.Path.{refl, ◌∙◌}
 use lib.ListN.{length-replicate}
 use Rattle.std.proofs.lemmas.Result.{err_from_is_err_and}
 use Rattle.trees.proofs.Tried.{none_refused, some_given}
-use Rattle.transducer.proofs.Translating.{starts_fit, not_tree, can_walk, bodies_there, depths_fit, too_long, too_deep, all_written}
+use Rattle.transducer.proofs.Translating.{starts_fit, not_tree, can_walk, bodies_there, depths_fit, parts_translate}
 use Rattle.transducer.proofs.translate.translate_by.Goals as goal
 
 pub fill_starts-requires : goal.fill_starts-requires
@@ -19,29 +19,17 @@ fill_depths-requires c =
     let F = c.fill_starts in
     (bodies_there c.requires c.input_ranks-ins.ensures c.measure_all.ensures (some_given _ c.ok_or.ensures.value c.in_ok-tree.was) F.new.starts F.ensures.starts (F.auto.starts ∙ length-replicate {A = ℕ} 2050 0) _ refl c.output_ranks.ensures, length-replicate {A = ℕ} 8192 0)
 
-pub emit-w-requires : goal.emit-w-requires
-emit-w-requires c =
+pub emit-requires : goal.emit-requires
+emit-requires c =
     let F = c.fill_starts in
     let E = c.fill_ends in
     (can_walk c.requires c.input_ranks-ins.ensures c.measure_all.ensures (some_given _ c.ok_or.ensures.value c.in_ok-tree.was) F.new.starts F.ensures.starts (F.auto.starts ∙ length-replicate {A = ℕ} 2050 0) c.from-to.result c.from-to.ensures E.ensures (E.auto.ends ∙ length-replicate {A = ℕ} 4096 0), depths_fit c.requires c.fill_depths.ensures.long)
-
-pub returns-then-w-out : goal.returns-then-w-out
-returns-then-w-out c =
-    let F = c.fill_starts in
-    let D = c.fill_depths in
-    too_long c.requires c.input_ranks-ins.ensures c.measure_all.ensures (some_given _ c.ok_or.ensures.value c.in_ok-tree.was) F.new.starts F.ensures.starts (F.auto.starts ∙ length-replicate {A = ℕ} 2050 0) c.from-to.result c.from-to.ensures c.output_ranks.ensures D.new.depths D.ensures.noted c.emit-w.ensures (omega (arith, c.if-w-out.true))
-
-pub returns-then-w-gt256 : goal.returns-then-w-gt256
-returns-then-w-gt256 c =
-    let F = c.fill_starts in
-    let D = c.fill_depths in
-    too_deep c.requires c.input_ranks-ins.ensures c.measure_all.ensures (some_given _ c.ok_or.ensures.value c.in_ok-tree.was) F.new.starts F.ensures.starts (F.auto.starts ∙ length-replicate {A = ℕ} 2050 0) c.from-to.result c.from-to.ensures c.output_ranks.ensures D.new.depths D.ensures.noted c.emit-w.ensures (omega (arith, c.if-w-out.false)) (omega (arith, c.if-w-gt256.true))
 
 pub returns : goal.returns
 returns c =
     let F = c.fill_starts in
     let D = c.fill_depths in
-    all_written c.requires c.input_ranks-ins.ensures c.measure_all.ensures (some_given _ c.ok_or.ensures.value c.in_ok-tree.was) F.new.starts F.ensures.starts (F.auto.starts ∙ length-replicate {A = ℕ} 2050 0) c.from-to.result c.from-to.ensures c.output_ranks.ensures D.new.depths D.ensures.noted c.emit-w.ensures (omega (arith, c.if-w-out.false)) (omega (arith, c.if-w-gt256.false))
+    parts_translate c.requires c.input_ranks-ins.ensures c.measure_all.ensures (some_given _ c.ok_or.ensures.value c.in_ok-tree.was) F.new.starts F.ensures.starts (F.auto.starts ∙ length-replicate {A = ℕ} 2050 0) c.from-to.result c.from-to.ensures c.output_ranks.ensures D.new.depths D.ensures.noted c.emit.result c.emit.ensures
 
 pub returns-in_err-tree : goal.returns-in_err-tree
 returns-in_err-tree c =

@@ -12,4 +12,4 @@ abbrev pub decreases-walk : goal.decreases-walk
 decreases-walk l = levels_times_marks l.left (l.to - l.from)
 
 abbrev pub invariant-walk-loop-j : goal.invariant-walk-loop-j
-invariant-walk-loop-j l = Filling (walked_by l.self l.below l.from l.to) l.at l.limit l.initial.out (walked_by l.self l.below l.j l.to) l.end l.out × Deepening (walked_levels_by l.self l.below l.from l.to) (walked_levels_by l.self l.below l.j l.to) l.limit l.end l.levels × Stands l.self l.notes l.out l.end
+invariant-walk-loop-j l = Filling (walked_by l.self l.below l.from l.to) l.at l.limit l.initial.out (walked_by l.self l.below l.j l.to) l.end l.out × Deepening (walked_levels_by l.self l.below l.from l.to) (walked_levels_by l.self l.below l.j l.to) l.levels × Stands l.self l.notes l.out l.end
