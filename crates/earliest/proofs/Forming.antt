@@ -36,7 +36,7 @@ use Rattle.forms.specs.Answers.{FileOf}
 use Rattle.discovery.specs.Inner.Discovering.{Discovers}
 use Rattle.discovery.proofs.Stages.{numbers_wf}
 use Rattle.earliest.specs.Answers.{form_check, EarliestFile, MakesForm}
-use Rattle.forms.specs.Inner.Writing.{WritesFound}
+use Rattle.forms.specs.Inner.Writing.{WritesForm, WritesFound}
 use Rattle.earliest.specs.Inner.Discovering.{Formable, FormOfTable}
 use Rattle.discovery.specs.Inner.Bodies.{AllFollow}
 use Rattle.earliest.specs.Inner.Letters.{earliest, Expanding}
@@ -162,13 +162,22 @@ module _ {stock counts bytes starts out : List ℕ} {n : ℕ} {found : Option �
   earliest_made = record { over = B.over; within = early_file; layout = B.layout; packed = B.packed; made = earliest_of }
 
 -- ---- the file of the form that was found
+-- a form with a property is answered, where no form is over the limits but one whose earliest form is
+module _ (Good : ℕ → List ℕ → List ℕ → Type 0) {stock counts bytes starts out before after : List ℕ} {n : ℕ} where
+  pub found_file : (found : Option ℕ) {r : Result Form Refusal} → WritesFound stock found starts out before after r
+      → (found ≡ None → (k : ℕ) (counts' bytes' : List ℕ) → EarliestOf stock n counts bytes k counts' bytes' → ⊥)
+      → ((k : ℕ) → found ≡ Some k → (size : ℕ) (W : WritesForm stock starts out k before after size) → Good k W.counts W.marks × ((k' : ℕ) × ((counts' : List ℕ) × ((bytes' : List ℕ) × EarliestOf stock n counts bytes k' counts' bytes'))))
+      → FormsFile Good stock n counts bytes before after r
+  found_file (Some k) W over form =
+      let w = W.form k refl in
+      let f = w.written in
+      let g = form k refl w.size f in
+      rw w.answer (pass g.1 (accept (f.counts, (f.marks, (g.0, record { marks = omega (arith, w.many, f.long); size = f.size; wrote = f.wrote })))))
+  found_file None W over form = let w = W.over refl in rw w.0 (refuse (λ x. over refl x.0 x.1.0 x.1.1.0 x.1.1.1) w.1)
+
 -- the contract of `form_file`
 pub form_file : {Parts : List ℕ → ℕ → List ℕ → List ℕ → ℕ → List ℕ → List ℕ → Type 0} {stock counts bytes starts out before after : List ℕ} {n : ℕ} (found : Option ℕ) {r : Result Form Refusal} → FormMade Parts stock n counts bytes starts out found → WritesFound stock found starts out before after r → FormsFile (Parts stock n counts bytes) stock n counts bytes before after r
-form_file (Some k) B W =
-    let w = W.form k refl in
-    let f = w.written in
-    rw w.answer (pass (B.within k refl) (accept (f.counts, (f.marks, (B.made k refl f.counts f.marks f.form f.encodes f.same, record { marks = omega (arith, w.many, f.long); size = f.size; wrote = f.wrote })))))
-form_file None B W = let w = W.over refl in rw w.0 (refuse (λ x. B.over refl x.0 x.1.0 x.1.1.0 x.1.1.1) w.1)
+form_file {Parts} {stock} {counts} {bytes} {n = n} found B W = found_file (Parts stock n counts bytes) found W B.over (λ k e size f. (B.made k e f.counts f.marks f.form f.encodes f.same, B.within k e))
 
 -- ---- of a file: what is answered of its parts is answered of it
 module _ {stock sheet ins counts bytes : List ℕ} {n : ℕ} (O : Opened stock sheet n ins counts bytes) where
