@@ -12,7 +12,7 @@ use mathlib.Core.List.{List, [], ◌∷◌, ◌++◌}
 use mathlib.Core.Option.{some, some-injective}
 use borrow.Author.Tests.{lt-ltb, le-ltb, ltb-false}
 use lib.Dec.{ltb}
-use lib.ListN.{length, get_or, get_elem?, take, set, length-set, length-append, get_or-append, length-map}
+use lib.ListN.{length, get_or, get_elem?, take, set, replicate, length-set, length-replicate, length-append, get_or-append, length-map}
 use lib.Seq.{sets, get_or-set_same, get_or-set_other, take-suc, take-suc-set, length-take-le, get_or-append-add}
 use Rattle.theory.specs.Inner.ReadCalls.{ReadCalls, no_call, one_call}
 use Rattle.theory.specs.Registry.{found, added}
@@ -49,6 +49,21 @@ take_get (y ∷ l) (suc n) ℕ.zero e = (omega arith, some-injective _ _ e)
 take_get (y ∷ l) (suc n) (suc i) e = let r = take_get l n i e in (omega arith, r.1)
 
 -- ---- the states met
+getD_zero : (n i : ℕ) → ◌≡◌ {A = ℕ} (get_or (replicate n 0) i 0) 0
+getD_zero ℕ.zero i = refl
+getD_zero (suc n) ℕ.zero = refl
+getD_zero (suc n) (suc i) = getD_zero n i
+
+-- none at first
+pub queue_none : (n w : ℕ) → n ≡ 192 → Queue (replicate n 0) (replicate w 0) 0
+queue_none n w e = record {
+  long = omega (arith, length-replicate {A = ℕ} n 0);
+  few = omega arith;
+  small = λ k l. absurd (omega arith);
+  number = λ k l. absurd (omega arith);
+  back = λ c l. absurd (omega (arith, getD_zero w c));
+}
+
 module _ {list place : List ℕ} {met : ℕ} (Q : Queue list place met) where
   -- there are no more of them than places, since no two have one place
   pub queue_few : met ≤ length place
