@@ -26,9 +26,9 @@
  * with an `out` of its own, and caplune_body.
  *
  * Stack. All work memory is local. Bytes of stack of one call, measured on x86-64 (docs/AREAS.md, which has the
- * local arrays of each function): translate 209,351, symbol_at 69,895 and read_tree 57,431 on a chain of 512 levels,
- * shorter 122,691, commit 121,443, enter 121,427, question 121,427, compare 105,027, clean 100,611, earliest_form
- * 66,595, join 52,407, read_xml 16,671, write_xml 12,575, is_linear 9,159; the others under 4,600. Mind this where a
+ * local arrays of each function): translate 184,823, symbol_at 69,863 and read_tree 57,463 on a chain of 512 levels,
+ * shorter 129,015, commit 127,767, enter 127,751, question 127,719, compare 111,351, clean 107,079, earliest_form
+ * 68,727, join 54,871, read_xml 12,623, is_linear 9,095, write_xml 8,511; the others under 4,600. Mind this where a
  * thread's stack is made small.
  */
 #ifndef CAPLUNE_H
