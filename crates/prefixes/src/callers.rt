@@ -33,7 +33,7 @@ pub(crate) fn find_callers(tables: &Tables, n: usize) -> [u128; 128]
 
 // The flags that are set of 128: in this round and in the next.
 #[derive(Clone, Copy, Debug, PartialEq, Eq)]
-pub(crate) struct Flags {
+pub struct Flags {
     pub round: u128,
     pub next: u128,
 }

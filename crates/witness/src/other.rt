@@ -124,7 +124,7 @@ fn put_step(
 
 // How many steps a path has, and the root symbol at its end.
 #[derive(Clone, Copy, Debug, PartialEq, Eq)]
-pub(crate) struct PathEnd {
+pub struct PathEnd {
     pub count: usize,
     pub symbol: usize,
 }

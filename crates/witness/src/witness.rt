@@ -22,7 +22,7 @@ struct Mark {
 // Below a clash: the child that matters, 0 if none does, the number of steps of its tree, and the root symbols of the two outputs.
 // Stays: 0 for no child, as in the two bytes of a step.
 #[derive(Clone, Copy, Debug, PartialEq, Eq)]
-struct Bottom {
+pub struct Bottom {
     pub child: usize,
     pub count: usize,
     pub left: usize,
@@ -31,7 +31,7 @@ struct Bottom {
 
 // Where the tree of a clash stands in its buffer, and the root symbols of the two outputs.
 #[derive(Drop)]
-struct Rooted {
+pub struct Rooted {
     pub span: Span,
     pub left: usize,
     pub right: usize,
@@ -39,14 +39,14 @@ struct Rooted {
 
 // Where the tree stands in its buffer, and where the address begins.
 #[derive(Drop)]
-struct Placed {
+pub struct Placed {
     pub span: Span,
     pub at: usize,
 }
 
 // The same, and the two symbols at the address.
 #[derive(Drop)]
-struct Traced {
+pub struct Traced {
     pub span: Span,
     pub at: usize,
     pub left: usize,
