@@ -26,7 +26,7 @@ was_stock : (from to : Form) (stock s area area' : List ℕ) (r : Result ℕ Ref
 unfolding Holds
 was_stock from to stock s area area' r n C e = (accepted_holds (rw e at C)).0.0
 
--- what an output tree is outcome_of to
+-- what an output tree is converted to
 gives : (from to : Form) (stock : List ℕ) → Alphabets stock → Distinct from (outputs stock) → (s area area' : List ℕ) (r : Result ℕ Refusal) → Converts from to stock s area area' r → (t : Tree) → InForm from stock s t → length (to t) ≤ length area → Gave r area' (to t)
 gives from to stock A D s area area' r C t F h =
     let w = converted_so from to stock A D s area area' r C t F h in

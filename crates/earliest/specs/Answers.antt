@@ -24,7 +24,7 @@ pub record EarliestFile (stock s : List ℕ) (k : ℕ) (counts bytes : List ℕ)
 abbrev pub form_check : List ℕ → List ℕ → Checks → Checks
 form_check stock s rest = check 7 ((k : ℕ) × ((counts : List ℕ) × ((bytes : List ℕ) × EarliestFile stock s k counts bytes))) rest
 
--- ---- a form of the transducer of the file s, as a file: Form says which k, counts and marks are the form's; refusal 7 where the earliest form is over the limits of a file
+-- ---- a form of the transducer of the file s, as a file: Is says which k, counts and marks are the form's; refusal 7 where the earliest form is over the limits of a file
 abbrev pub MakesForm : (ℕ → List ℕ → List ℕ → Type 0) → List ℕ → List ℕ → List ℕ → List ℕ → Result Form Refusal → Type 0
 MakesForm Is stock s before after r =
     Judged (after ≡ before) (λ (v : Form). (counts : List ℕ) × ((bytes : List ℕ) × (Is v.states counts bytes × FileOf v counts bytes before after)))

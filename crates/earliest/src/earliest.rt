@@ -12,7 +12,7 @@ use trees::alphabet::{input_ranks, output_ranks};
 use trees::refusal::Refusal;
 
 // The earliest form of the transducer whose n, counts and marks these are: `starts` says where its bodies start in `out`.
-// What stands in both behind the last body is scratch, and all of it after `Over`.
+// What stands in both behind the last body is scratch, and all of it where the answer is `None`.
 pub fn form_of_parts(
     stock: &[u8],
     n: usize,

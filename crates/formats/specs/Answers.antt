@@ -1,4 +1,4 @@
--- What the reader and the writer of a transducer's file answer: for each enum the values and numbers of document 01, and the promise about it.
+-- What the reader and the writer of a transducer's file answer: the promise about the values, or the refusal.
 use Rattle.std.specs.Prelude.{Result, ℕ, ◌≤◌, List, ◌≡◌, length}
 use Rattle.trees.specs.declared.refusal.Refusal.{Refusal}
 use Rattle.trees.specs.Refusal.{outcome_of, done, check, Judged, Handed}

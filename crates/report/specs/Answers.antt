@@ -56,13 +56,13 @@ pub record Lines (stock s s' text : List ℕ) : Type 0 where
   pub judged : Judged (Unit {0}) (Report stock s s') (pair_check stock s s') outcome
   pub says : text ≡ printed outcome
 
--- how many bytes were written, or the refusal of the area
--- the area begins with the text, and keeps what stands behind it
+-- n bytes were written: the area begins with the text, and keeps what stands behind it
 pub record Prints (stock s s' area area' : List ℕ) (n : ℕ) : Type 0 where
   pub text : List ℕ
   pub lines : Lines stock s s' text
   pub size : n ≡ length text
   pub wrote : area' ≡ sets area 0 text
 
+-- how many bytes were written, or the refusal of the area
 abbrev pub Reports : List ℕ → List ℕ → List ℕ → List ℕ → List ℕ → Result ℕ Refusal → Type 0
 Reports stock s s' area area' r = Judged (area' ≡ area) (Prints stock s s' area area') (check 1 (text_area ≤ length area) done) (outcome_of r)

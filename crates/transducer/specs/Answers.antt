@@ -1,4 +1,4 @@
--- What translation answers: the values and numbers of document 01, and the promise about it.
+-- What translation answers: the promise about the value, or the refusal.
 use Rattle.std.specs.Prelude.{Result, ℕ, ◌≤◌, List, ◌≡◌, length}
 use Rattle.trees.specs.declared.refusal.Refusal.{Refusal}
 use Rattle.trees.specs.Refusal.{outcome_of, Checks, done, check, Judged}
@@ -11,7 +11,6 @@ use Rattle.formats.specs.Sheet.{sheet_check}
 use Rattle.trees.specs.Tree.{tree_check}
 use Rattle.transducer.specs.Output.{Output}
 
--- ---- translating: the number of symbols of the output tree, with whose code the area then begins; the rest of the area stays
 -- refusal 6
 abbrev pub room_check : List ℕ → List ℕ → List ℕ → List ℕ → Checks → Checks
 room_check stock sheet design area rest = check 6 ((t : Tree) × (Output stock sheet design t × (size t ≤ length area))) rest
@@ -20,6 +19,7 @@ room_check stock sheet design area rest = check 6 ((t : Tree) × (Output stock s
 abbrev pub levels_check : List ℕ → List ℕ → List ℕ → Checks → Checks
 levels_check stock sheet design rest = check 10 ((t : Tree) × (Output stock sheet design t × (levels t ≤ 256))) rest
 
+-- translating: the number of symbols of the output tree, with whose code the area then begins; the rest of the area stays
 abbrev pub Translates : List ℕ → List ℕ → List ℕ → List ℕ → List ℕ → Result ℕ Refusal → Type 0
 Translates stock sheet design before after r =
     Judged (after ≡ before) (λ k. (t : Tree) × (Output stock sheet design t × (k ≡ size t) × (after ≡ sets before 0 (code t))))

@@ -38,7 +38,7 @@ xml_distinct outs l t u O P e = code_distinct outs t u O P (sym (code_from outs 
 
 -- ---- any conversion between two forms
 module _ (from to : Form) (stock : List ℕ) (A : Alphabets stock) where
-  -- an output tree is outcome_of where the area is long enough
+  -- an output tree is converted where the area is long enough
   pub conversion : (s area : List ℕ) (t : Tree) → InForm from stock s t → length (to t) ≤ length area → Converts from to stock s area (sets area 0 (to t)) (Ok (length (to t)))
   conversion s area t F h = pass A (pass (t, F) (pass (t, (F, h)) (accept (t, (F, refl, refl)))))
 

@@ -22,8 +22,7 @@ abbrev pub forms_check : Form → Form → List ℕ → List ℕ → List ℕ �
 forms_check from to stock s area others =
     check 11 ((t : Tree) × InForm from stock s t) (check 12 ((t : Tree) × (InForm from stock s t × (length (to t) ≤ length area))) others)
 
--- the length of the result, or the number of the refusal
--- the area begins with the output tree in the other form, and keeps what stands behind it
+-- the length of the output tree in the other form, with which the area then begins; the rest of the area stays
 abbrev pub Converts : Form → Form → List ℕ → List ℕ → List ℕ → List ℕ → Result ℕ Refusal → Type 0
 Converts from to stock s area area' r =
     Judged (area' ≡ area) (λ n. (t : Tree) × (InForm from stock s t × (n ≡ length (to t)) × (area' ≡ sets area 0 (to t))))
