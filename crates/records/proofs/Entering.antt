@@ -18,7 +18,7 @@ use Rattle.theory.proofs.Terms.{conflict}
 use Rattle.trees.specs.Alphabets.{inputs, outputs}
 use Rattle.formats.specs.Sheet.{longest, file, sheet_check}
 use Rattle.trees.specs.declared.refusal.Refusal.{Refusal}
-use Rattle.trees.specs.declared.refusal.Refusal.TheVariants.{FullRegistry, BadRegistry, OtherNumber}
+use Rattle.trees.specs.declared.refusal.Refusal.TheVariants.{ShortArea, FullRegistry, BadRegistry, OtherNumber}
 use Rattle.trees.proofs.Judging.{refuse, pass, accept, accepted_holds, refused_early}
 use Rattle.formats.proofs.Sheets.{encodes_counted, file_short}
 use Rattle.earliest.specs.Answers.{form_check}
@@ -27,7 +27,7 @@ use Rattle.canonical.specs.Answers.{NormalFile, Cleans}
 use Rattle.canonical.proofs.Laws.{clean_exact, sheets_alike, cleaned, all_alike}
 use Rattle.records.specs.Answers.{CleanFile, Lowest, NotHeld, HasPlace, Next, Gets, Gives, entry_check, Enters, Would, Questions, RegistersBy}
 use Rattle.records.specs.Book.{answers_of, too_many, record_at, body, tally, Chained}
-use Rattle.records.specs.Inner.Steps.{Placed, Ready, Numbers, Cleaned, Asks, chosen, claimed_by, counted_entry, added_entry, Places}
+use Rattle.records.specs.Inner.Steps.{Placed, Ready, Numbers, Cleaned, Asks, TakesFile, chosen, claimed_by, counted_entry, added_entry, Places}
 use Rattle.records.specs.declared.book.Entry.{Entry}
 use Rattle.records.specs.declared.book.Head.{Head}
 use Rattle.records.specs.declared.book.Record.{Record}
@@ -192,6 +192,12 @@ refused_by {s} {h} {rs} {area} (Some m) q E = refused_early (entry_check s h rs 
 -- and that of a question
 pub unanswered : {s : List ℕ} {h : Head} {rs : List Record} {area : List ℕ} {h' : Head} {rs' : List Record} {area' before : List ℕ} (q : Refusal) → longest ≤ length before → Enters s h rs area h' rs' area' (Err q) → Questions s h rs area before before (Err q)
 unanswered {s} {h} {rs} {area} q l E = pass l (refused_early (entry_check s h rs area done) done refl E)
+
+-- before which the editor's area is too short
+pub too_short : {s : List ℕ} {h : Head} {rs : List Record} {area before : List ℕ} (q : Refusal) → TakesFile before (Err q) → Questions s h rs area before before (Err q)
+too_short {s} {h} {rs} {area} {before} q w =
+    let E : Questions s h rs area before before (Err ShortArea) = refuse (λ g. omega (arith, w.1)) refl in
+    rw w.0 E
 
 -- ---- a record counts at most as much as all
 tally_more : (rs : List Record) (i n : ℕ) → i < n → (record_at rs i).count ≤ tally rs n

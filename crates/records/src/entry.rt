@@ -4,7 +4,7 @@ ghost use Rattle.std.proofs.lemmas.List.Edits.{sets};
 ghost use Rattle.formats.specs.Sheet.{longest};
 ghost use Rattle.records.specs.Answers.{Room, Questions};
 ghost use Rattle.records.specs.Book.{answers_of, too_many, counted_head, Chained};
-ghost use Rattle.records.specs.Inner.Steps.{Finds, Ready, Numbers, Cleaned, Asks, any_number, this_number, claimed_by, counted_entry, added_entry, Places};
+ghost use Rattle.records.specs.Inner.Steps.{Finds, Ready, Numbers, Cleaned, Asks, TakesFile, any_number, this_number, claimed_by, counted_entry, added_entry, Places};
 ghost use Rattle.records.specs.declared.book.Record.{Record as Records};
 
 use crate::book::{Entry, Foretold, Head, Record, Submission};
@@ -114,6 +114,16 @@ fn count(h: Head, n: usize, r: Record) -> Entry
     }
 }
 
+// The editor's area takes every clean file; else refusal 1.
+pub fn takes_file(out: &[u8]) -> Result<(), Refusal>
+    ensures { TakesFile out.now result }
+{
+    if out.len() < 20483 {
+        return Err(Refusal::ShortArea);
+    }
+    Ok(())
+}
+
 // The end of a question, after the search for the clean file `bytes`.
 pub fn reply(
     h: Head,
@@ -122,9 +132,10 @@ pub fn reply(
     bytes: &[u8],
     out: &mut [u8],
 ) -> Result<Foretold, Refusal>
-    requires { Ready h (length area.now) × (length bytes.now ≤ longest) × (longest ≤ length out.old) }
+    requires { Ready h (length area.now) × (length bytes.now ≤ longest) }
     ensures { (s : List ℕ) (rs : List Records) → Cleaned s h rs area.now bytes.now → Finds h.held rs area.now bytes.now found → Questions s h rs area.now out.old out.new result }
 {
+    takes_file(out)?;
     let number = number_for(h, found, area, bytes)?;
     copy_at(bytes, out, 0);
     Ok(Foretold {

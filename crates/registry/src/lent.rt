@@ -5,7 +5,7 @@ ghost use Rattle.records.specs.Book.{no_record, stock_record};
 ghost use Rattle.records.specs.Inner.Steps.{Placed, Finds};
 
 use records::book::{Foretold, Head, Record, Submission};
-use records::entry::{ask, place, reply};
+use records::entry::{ask, place, reply, takes_file};
 use records::making::{held_body, start};
 use records::search::body_of;
 use trees::refusal::Refusal;
@@ -71,9 +71,7 @@ pub fn question<'r, 'a, 's, 'o>(
 ) -> Result<Foretold, Refusal>
     ensures { Questions sheet.now head records.now area.now out.old out.new result }
 {
-    if out.len() < 20483 {
-        return Err(Refusal::ShortArea);
-    }
+    takes_file(out)?;
     let mut file = [0u8; 20483];
     let size = ask(head, records, area, sheet, &mut file)?;
     let bytes = &file[..size];

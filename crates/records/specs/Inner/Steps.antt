@@ -3,9 +3,9 @@ use Rattle.std.specs.Prelude.{Err, None, Ok, Option, Result, Some, ℕ, ◌+◌,
 use Rattle.std.proofs.lemmas.List.Edits.{sets}
 use Rattle.trees.specs.Alphabets.{alphabet_check}
 use Rattle.trees.specs.Refusal.{outcome_of, check, done, Holds, Judged}
-use Rattle.formats.specs.Sheet.{sheet_check}
+use Rattle.formats.specs.Sheet.{longest, sheet_check}
 use Rattle.trees.specs.declared.refusal.Refusal.{Refusal}
-use Rattle.trees.specs.declared.refusal.Refusal.TheVariants.{FullRegistry, OtherNumber}
+use Rattle.trees.specs.declared.refusal.Refusal.TheVariants.{ShortArea, FullRegistry, OtherNumber}
 use Rattle.earliest.specs.Answers.{form_check}
 use Rattle.records.specs.Answers.{CleanFile, Lowest, NotHeld, HasPlace, Gets, Enters, Registers}
 use Rattle.records.specs.Book.{new_head, body_record, counted_record, counted_head, grown_head, record_at, body, total, Chained}
@@ -45,6 +45,11 @@ Asks s h rs area w (Ok size) = (size ≤ length w) × Cleaned s h rs area (take 
 Asks s h rs area w (Err q) = Enters s h rs area h rs area (Err q)
 
 -- ---- the question
+-- the editor's area takes every clean file, or refusal 1
+abbrev pub TakesFile : List ℕ → Result (Unit {0}) Refusal → Type 0
+TakesFile out (Ok v) = longest ≤ length out
+TakesFile out (Err q) = (q ≡ ShortArea) × (length out < longest)
+
 -- what giving a number asks of the head, where the area has `room` bytes
 pub record Ready (h : Head) (room : ℕ) : Type 0 where
   pub few : h.held ≤ 32
