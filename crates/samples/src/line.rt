@@ -11,11 +11,29 @@
 //     xml AREA SHOWN: a stock, a plan                plan AREA SHOWN: a stock, a text
 //
 // AREA is the length of an area, and SHOWN how many bytes of the first one are printed on a line of their own; none, if it is 0.
+ghost use Rattle.std.specs.Prelude.{◌≤◌};
+
 use crate::fault::Fault;
-use crate::reader::{Names, file, number};
+use crate::reader::{Names, Span, number};
 use crate::{answer, calls};
+use arrayvec::ArrayVec;
 use formats::file::{transducer_counts, transducer_marks};
-use std::alloc::{AllocError, Global};
+
+// The length of an area, or how many of its bytes are shown.
+#[derive(Clone, Copy)]
+struct Length {
+    bytes: usize,
+    ghost in_area: { bytes ≤ 20483 },
+}
+
+impl Length {
+    fn read(s: &[u8]) -> Option<Length> {
+        match number(s) {
+            Some(bytes @ ..=20_483) => Some(Length { bytes }),
+            _ => None,
+        }
+    }
+}
 
 #[derive(Clone, Copy)]
 enum Call {
@@ -28,39 +46,34 @@ enum Call {
     Single,
     Place,
     Sewing {
-        area: usize,
+        area: Length,
     },
     Cleaning {
-        trimmed: usize,
-        clean: usize,
+        trimmed: Length,
+        clean: Length,
         shown: usize,
     },
     Writing {
-        area: usize,
+        area: Length,
         shown: usize,
         passes: usize,
     },
     Pair {
-        design: usize,
-        place: usize,
+        design: Length,
+        place: Length,
     },
     Joining {
-        area: usize,
+        area: Length,
         shown: usize,
     },
     Xml {
-        area: usize,
+        area: Length,
         shown: usize,
     },
     Plan {
-        area: usize,
+        area: Length,
         shown: usize,
     },
-}
-
-// The length of an area, or how many of its bytes are shown.
-fn length(s: &[u8]) -> Option<usize> {
-    number(s).filter(|n| *n <= 20_483)
 }
 
 impl Call {
@@ -77,31 +90,31 @@ impl Call {
             [_, b"single", _] => Some(Call::Single),
             [_, b"place", _] => Some(Call::Place),
             [_, b"sewing", area, last] => {
-                length(last)?;
+                Length::read(last)?;
                 Some(Call::Sewing {
-                    area: length(area)?,
+                    area: Length::read(area)?,
                 })
             }
             [_, b"cleaning", trimmed, clean, shown, _] => Some(Call::Cleaning {
-                trimmed: length(trimmed)?,
-                clean: length(clean)?,
+                trimmed: Length::read(trimmed)?,
+                clean: Length::read(clean)?,
                 shown: number(shown)?,
             }),
             [_, b"writing", area, shown, passes, _] => Some(Call::Writing {
-                area: length(area)?,
-                shown: length(shown)?,
+                area: Length::read(area)?,
+                shown: Length::read(shown)?.bytes,
                 passes: number(passes)?,
             }),
             [_, word, first, second, last] => {
                 number(last)?;
-                Call::of_two(word, length(first)?, length(second)?)
+                Call::of_two(word, Length::read(first)?, Length::read(second)?)
             }
             _ => None,
         }
     }
 
     // The calls with two numbers.
-    fn of_two(word: &[u8], first: usize, second: usize) -> Option<Call> {
+    fn of_two(word: &[u8], first: Length, second: Length) -> Option<Call> {
         match word {
             b"pair" => Some(Call::Pair {
                 design: first,
@@ -109,42 +122,34 @@ impl Call {
             }),
             b"joining" => Some(Call::Joining {
                 area: first,
-                shown: second,
+                shown: second.bytes,
             }),
             b"xml" => Some(Call::Xml {
                 area: first,
-                shown: second,
+                shown: second.bytes,
             }),
             b"plan" => Some(Call::Plan {
                 area: first,
-                shown: second,
+                shown: second.bytes,
             }),
             _ => None,
         }
     }
 
-    fn read(alloc: Global, s: &[u8]) -> Result<Call, Fault> {
-        let words: Vec<&[u8]> = s.split(|b| *b == b' ').collect(alloc)?;
-        Call::of(words.as_slice()).ok_or(Fault::BadLine)
+    fn read(s: &[u8]) -> Option<Call> {
+        // No call has more words.
+        let mut words: ArrayVec<&[u8], 6> = ArrayVec::new();
+        words.extend(s.split(|b| *b == b' ')).ok()?;
+        Call::of(&words)
     }
 }
 
-// An area that is lent.
-fn lent(alloc: Global, n: usize) -> Result<Vec<u8>, AllocError> {
-    Ok(vec![in alloc; 7u8; n]?)
-}
-
-// The calls that are lent areas.
-fn answer_lent(
-    rt: &(impl Print + AllocGlobal),
-    call: Call,
-    files: &[Vec<u8>],
-) -> Result<(), Fault> {
-    let alloc = rt.alloc();
+// The calls that are lent two areas.
+fn answer_lent_two(rt: &impl Print, call: Call, files: &[&[u8]]) -> Result<(), Fault> {
+    // Stays: arrays of fixed size, since nothing is allocated, so that memory cannot run out.
+    let mut area1 = [7u8; 20_483];
+    let mut area2 = [7u8; 20_483];
     match (call, files) {
-        (Call::Sewing { area }, [stock, sheet, design]) => {
-            calls::sewing(rt, stock, sheet, design, &mut lent(alloc, area)?)?;
-        }
         (
             Call::Cleaning {
                 trimmed,
@@ -153,15 +158,27 @@ fn answer_lent(
             },
             [stock, sheet],
         ) => {
-            let mut trimmed = lent(alloc, trimmed)?;
-            calls::cleaning(
-                rt,
-                stock,
-                sheet,
-                &mut trimmed,
-                &mut lent(alloc, clean)?,
-                shown,
-            )?;
+            let trimmed = &mut area1[..trimmed.bytes];
+            let clean = &mut area2[..clean.bytes];
+            calls::cleaning(rt, stock, sheet, trimmed, clean, shown)?;
+        }
+        (Call::Pair { design, place }, [stock, first, second]) => {
+            let design = &mut area1[..design.bytes];
+            let place = &mut area2[..place.bytes];
+            calls::pair(rt, stock, first, second, design, place)?;
+        }
+        _ => return Err(Fault::BadLine),
+    }
+    Ok(())
+}
+
+// The calls that are lent an area.
+fn answer_lent(rt: &impl Print, call: Call, files: &[&[u8]]) -> Result<(), Fault> {
+    // Stays: an array of fixed size, since nothing is allocated, so that memory cannot run out.
+    let mut lent = [7u8; 20_483];
+    match (call, files) {
+        (Call::Sewing { area }, [stock, sheet, design]) => {
+            calls::sewing(rt, stock, sheet, design, &mut lent[..area.bytes])?;
         }
         (
             Call::Writing {
@@ -171,47 +188,25 @@ fn answer_lent(
             },
             [stock, counts, marks],
         ) => {
-            calls::writing(
-                rt,
-                stock,
-                counts,
-                marks,
-                passes,
-                &mut lent(alloc, area)?,
-                shown,
-            )?;
-        }
-        (Call::Pair { design, place }, [stock, first, second]) => {
-            let mut design = lent(alloc, design)?;
-            calls::pair(
-                rt,
-                stock,
-                first,
-                second,
-                &mut design,
-                &mut lent(alloc, place)?,
-            )?;
+            let area = &mut lent[..area.bytes];
+            calls::writing(rt, stock, counts, marks, passes, area, shown)?;
         }
         (Call::Joining { area, shown }, [first, second, sheet1, sheet2]) => {
-            let mut area = lent(alloc, area)?;
-            calls::joining(rt, first, second, sheet1, sheet2, &mut area, shown)?;
+            let area = &mut lent[..area.bytes];
+            calls::joining(rt, first, second, sheet1, sheet2, area, shown)?;
         }
         (Call::Xml { area, shown }, [stock, plan]) => {
-            calls::xml(rt, stock, plan, &mut lent(alloc, area)?, shown)?;
+            calls::xml(rt, stock, plan, &mut lent[..area.bytes], shown)?;
         }
         (Call::Plan { area, shown }, [stock, text]) => {
-            calls::plan(rt, stock, text, &mut lent(alloc, area)?, shown)?;
+            calls::plan(rt, stock, text, &mut lent[..area.bytes], shown)?;
         }
         _ => return Err(Fault::BadLine),
     }
     Ok(())
 }
 
-fn answer_call(
-    rt: &(impl Print + AllocGlobal),
-    call: Call,
-    files: &[Vec<u8>],
-) -> Result<(), Fault> {
+fn answer_call(rt: &impl Print, call: Call, files: &[&[u8]]) -> Result<(), Fault> {
     match (call, files) {
         (Call::Stock, [stock]) => calls::stock(rt, stock)?,
         (Call::Design, [stock, design]) => calls::design(rt, stock, design)?,
@@ -222,43 +217,49 @@ fn answer_call(
         (Call::Place, [stock, sheet, design, place]) => {
             calls::place(rt, stock, sheet, design, place)?
         }
+        (Call::Cleaning { .. } | Call::Pair { .. }, _) => return answer_lent_two(rt, call, files),
         _ => return answer_lent(rt, call, files),
     }
     Ok(())
 }
 
 // The call and the files that stand behind the first bar of a line.
-fn asked(alloc: Global, s: &[u8], names: &Names) -> Result<(Call, Vec<Vec<u8>>), Fault> {
+fn asked(s: &[u8], names: &mut Names) -> Result<(Call, ArrayVec<Span, 4>), Fault> {
     let mut parts = s.split(|b| *b == b'|');
-    let call = Call::read(alloc, parts.next().unwrap_or(b""))?;
-    let mut files = Vec::new(alloc);
-    let mut room = names.room;
-    for part in parts {
-        let bytes = file(alloc, part, names)?;
-        room = room.checked_sub(bytes.len()).ok_or(Fault::BadLine)?;
-        files.push(bytes)?;
+    let call = Call::read(parts.next().unwrap_or(b"")).ok_or(Fault::BadLine)?;
+    // No call has more files; they are counted before one is read.
+    let mut texts: ArrayVec<&[u8], 4> = ArrayVec::new();
+    texts.extend(parts).map_err(|_| Fault::BadLine)?;
+    names.begin_line();
+    let mut files = ArrayVec::new();
+    for text in texts.as_slice() {
+        files.push(names.add_file(text)?);
     }
     Ok((call, files))
 }
 
+fn bytes_of<'a>(files: &ArrayVec<Span, 4>, names: &'a Names) -> ArrayVec<&'a [u8], 4> {
+    let mut bytes = ArrayVec::new();
+    for file in files.as_slice() {
+        bytes.push(names.bytes(*file));
+    }
+    bytes
+}
+
 // Reads a line and answers. One that names bytes prints nothing.
-pub(crate) fn answer_line(
-    rt: &(impl Print + AllocGlobal),
-    s: &[u8],
-    names: &mut Names,
-) -> Result<(), Fault> {
+pub(crate) fn answer_line(rt: &impl Print, s: &[u8], names: &mut Names) -> Result<(), Fault> {
     if s.is_empty() || s.starts_with(b"#") {
         return Ok(());
     }
     let mut parts = s.splitn(2, |b| *b == b'|');
     let label = parts.next().unwrap_or(s);
-    let asked = asked(rt.alloc(), parts.next().unwrap_or(b""), names);
+    let asked = asked(parts.next().unwrap_or(b""), names);
     if let Ok((Call::Is, files)) = &asked
-        && let [bytes] = files.as_slice()
+        && let [file] = files.as_slice()
     {
-        return names.name(rt.alloc(), s[0], bytes);
+        return names.name(s[0], *file);
     }
     rt.write_all(label)?;
     let (call, files) = asked?;
-    answer_call(rt, call, files.as_slice())
+    answer_call(rt, call, &bytes_of(&files, names))
 }

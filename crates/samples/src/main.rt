@@ -10,13 +10,15 @@ mod fault;
 mod line;
 mod reader;
 
+ghost use Rattle.std.specs.Prelude.{◌≤◌, length};
+
 use crate::fault::Fault;
 use crate::reader::Names;
-use std::io::{self, ErrorKind, Read};
+use std::io::{self, Read};
 
 // The cases, line by line. A line may name bytes, which those behind it use.
-fn run(rt: &(impl Print + AllocGlobal), text: &[u8]) -> io::Result<()> {
-    let mut names = Names::new(rt.alloc());
+fn run(rt: &impl Print, text: &[u8]) -> io::Result<()> {
+    let mut names = Names::new();
     for s in text.split(|b| *b == b'\n') {
         match line::answer_line(rt, s, &mut names) {
             Ok(()) => {}
@@ -27,12 +29,24 @@ fn run(rt: &(impl Print + AllocGlobal), text: &[u8]) -> io::Result<()> {
     Ok(())
 }
 
-fn main(rt: HostRuntime) -> io::Result<()> {
-    let mut text = Vec::new(rt.alloc());
-    match rt.reader().take(65_536).read_to_end(&mut text) {
-        Err(e) if e.kind() == ErrorKind::OutOfMemory => return Err(e),
-        // What came before a read that failed is answered.
-        _ => {}
+// Reads the input into `text`, as far as it goes and the text has room, and answers how many bytes came: those before a read that fails.
+fn read_text(input: &mut impl Read, text: &mut [u8]) -> usize
+    ensures { result ≤ length text.new }
+{
+    let mut done = 0;
+    // Stays: a `while`, since a read may give fewer bytes than there are; std's `read_to_end` reads into what it allocates.
+    while done < text.len() {
+        match input.read(&mut text[done..]) {
+            Ok(0) | Err(_) => return done,
+            Ok(n) => done += n,
+        }
     }
-    run(&rt, text.as_slice())
+    done
+}
+
+fn main(rt: HostRuntime) -> io::Result<()> {
+    // Stays: an array of fixed size, since nothing is allocated, so that memory cannot run out.
+    let mut text = [0u8; 65_536];
+    let n = read_text(&mut rt.reader(), &mut text);
+    run(&rt, &text[..n])
 }

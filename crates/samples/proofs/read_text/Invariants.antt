@@ -1,0 +1,9 @@
+-- `read_text` ends: what is left of the text falls with each read that gives something. Assumes nothing.
+use Rattle.std.proofs.Common.{length, ◌≤◌, ◌-◌}
+use Rattle.samples.proofs.read_text.Given as goal
+
+abbrev pub invariant-loop-done : goal.invariant-loop-done
+invariant-loop-done g l = l.done ≤ length l.text
+
+abbrev pub decreases-loop-done : goal.decreases-loop-done
+decreases-loop-done g l = length l.text - l.done
