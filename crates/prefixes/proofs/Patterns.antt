@@ -1,17 +1,23 @@
 -- Laws of patterns as bytes: what a byte says where a pattern begins, where the pattern ends, and what two patterns share.
 -- Assumes nothing.
-use Prim.Native.Nat.{ℕ, suc, ◌+◌, ◌-◌, ◌≤◌, ◌<◌}
+use Prim.Native.Nat.{ℕ, suc, min, ◌+◌, ◌-◌, ◌≤◌, ◌<◌}
+use native.Mathlib.Decide.{dec_lt}
 use native.Mathlib.Numerals.{add-one}
 use native.Mathlib.Omega.{arith}
-use mathlib.Core.Bool.{Bool, true, false, ◌||◌}
-use mathlib.Core.Logic.{◌↔◌}
+use mathlib.Core.Bool.{Bool, true, false, cond, ◌||◌}
+use mathlib.Core.Logic.{◌↔◌, by_cases}
 use mathlib.Core.Path.{◌≡◌, refl, sym, ap, ap₂, ◌∙◌}
 use mathlib.Core.List.{List, [], ◌∷◌, ◌++◌, append_assoc, append-nil}
 use Rattle.std.proofs.Math.Bool.{or-true, or-false}
-use Rattle.std.proofs.lemmas.List.{get_or_past}
+use Rattle.std.proofs.lemmas.Bool.Decides.{Decides-eqb}
+use Rattle.std.proofs.lemmas.Bool.{eq-eqb}
+use Rattle.std.proofs.lemmas.List.{drop_more, get_or-drop, get_or_past, take-append-drop}
+use Rattle.std.proofs.lemmas.List.Sums.{common_prefix_len-le}
+use Rattle.std.proofs.lemmas.Slice.Eq.{starts_is}
+use Rattle.std.specs.List.{starts_with, common_prefix_len}
 use lib.Dec.{leb, ltb, eqb}
 use lib.ListN.{length, get_or, drop, take, set, length-drop, length-set, drop_of_length-le}
-use lib.Seq.{drop-drop, drop-set-lt, take-suc-set}
+use lib.Seq.{drop-drop, drop-set-lt, set-get_or, take-suc-set, length-take-le}
 use borrow.Author.Tests.{ltb-true, ltb-false, lt-ltb, le-ltb, leb-true, eqb-true}
 use Rattle.theory.specs.Term.{var, node, Terms, none, more, count}
 use Rattle.theory.specs.Lcp.{lcp, lcps, Patterns}
@@ -23,8 +29,9 @@ use Rattle.trees.specs.Inner.Decode.{firsts, rests, node_if, put, forest}
 use Rattle.trees.specs.Refusal.{Decides}
 use Rattle.trees.proofs.Codes.{single}
 use Rattle.trees.proofs.Forest.{count_firsts, count_rests, all_drop}
+use Rattle.trees.proofs.Stock.{to_end}
 use Rattle.prefixes.specs.Inner.Patterns.{top, top_if, top_of, pattern_code, IsPattern, read_pattern, Ended, CutPattern}
-use Rattle.prefixes.proofs.Ends.{taken, letter_put, Ranks}
+use Rattle.prefixes.proofs.Ends.{taken, letter_put, letter_inside, Ranks}
 
 -- the patterns that stand from position p on
 abbrev pub patterns_at : List ℕ → List ℕ → ℕ → Patterns
@@ -263,3 +270,99 @@ module _ {outs before y x : List ℕ} {i j w : ℕ} {cut : Bool} (M : Cutting ou
         let b : patterns_at outs x i' ≡ rests 1 (patterns_at outs x i) = E.behind in
         let c : patterns_at outs y j' ≡ rests 1 (patterns_at outs y j) = E'.behind in
         next_turn i' j' top E.further E.inside (rw (b, c) (other_byte B C n M.paired)) (rw (b, c) (told_other cut B (lcps_other B C n) M.told))
+
+-- ---- letters that are equal
+-- how many letters at the front of two words are equal
+abbrev pub equal : List ℕ → List ℕ → ℕ
+equal x y = common_prefix_len eqb x y
+
+-- those of a word before both, and those behind it
+equal_more : (p s t : List ℕ) → equal (p ++ s) (p ++ t) ≡ length p + equal s t
+equal_more [] s t = omega arith
+equal_more (k ∷ p) s t =
+    let e : 1 + equal (p ++ s) (p ++ t) ≡ suc (length p) + equal s t = omega (arith, equal_more p s t) in
+    ap (λ b. cond b (1 + equal (p ++ s) (p ++ t)) 0) (eq-eqb k k refl) ∙ e
+
+equal_none : (x : List ℕ) → equal x [] ≡ 0
+equal_none [] = refl
+equal_none (k ∷ x) = refl
+
+-- each of them is equal
+equal_reads : (x y : List ℕ) (t : ℕ) → t < equal x y → get_or x t 0 ≡ get_or y t 0
+equal_reads [] y t h = absurd (omega arith)
+equal_reads (k ∷ x) [] t h = absurd (omega arith)
+equal_reads (k ∷ x) (l ∷ y) t h = by_test (equal_reads x y) (eqb k l) refl t h
+  where
+    by_test : ((t : ℕ) → t < equal x y → get_or x t 0 ≡ get_or y t 0) → (b : Bool) → eqb k l ≡ b → (t : ℕ) → t < cond b (1 + equal x y) 0 → get_or (k ∷ x) t 0 ≡ get_or (l ∷ y) t 0
+    by_test below true e ℕ.zero h = eqb-true k l e
+    by_test below true e (suc t) h = below t (omega arith)
+    by_test below false e t h = absurd (omega arith)
+
+-- the first is
+equal_some : (x y : List ℕ) (i j : ℕ) → i < length x → j < length y → get_or x i 0 ≡ get_or y j 0 → 0 < equal (drop i x) (drop j y)
+equal_some x y i j g h e =
+    let q : equal (drop i x) (drop j y) ≡ 1 + equal (drop (i + 1) x) (drop (j + 1) y) = ap₂ equal (drop_more x i 0 g) (drop_more y j 0 h) ∙ ap (λ b. cond b (1 + equal (drop (i + 1) x) (drop (j + 1) y)) 0) (eq-eqb _ _ e) in
+    omega (arith, q)
+
+-- from position n on: m letters that the test of a whole word finds equal
+pub equal_word : (x y : List ℕ) (n m : ℕ) {r : Bool} → n + m ≤ length x → n + m ≤ length y → r ≡ starts_with eqb (take (n + m - n) (drop n y)) (take (n + m - n) (drop n x)) → r ≡ true → equal (drop n x) (drop n y) ≡ m + equal (drop (n + m) x) (drop (n + m) y)
+equal_word x y n m {r} g h v e =
+    let k : n + m - n ≡ m = omega arith in
+    let word = take m (drop n x) in
+    let other = take m (drop n y) in
+    let long : length word ≡ m = length-take-le m (drop n x) (omega (arith, length-drop n x)) in
+    let wide : length other ≡ m = length-take-le m (drop n y) (omega (arith, length-drop n y)) in
+    let found : other ≡ word ++ drop (length word) other = (starts_is Decides-eqb other word r (rw k at v)).0 e in
+    let none : drop (length word) other ≡ [] = drop_of_length-le other {i = length word} (omega (arith, long, wide)) in
+    let same : other ≡ word = found ∙ ap (λ s. word ++ s) none ∙ append-nil word in
+    let first : drop n x ≡ word ++ drop (n + m) x = sym (take-append-drop m (drop n x)) ∙ ap (λ s. word ++ s) (drop-drop m n x) in
+    let second : drop n y ≡ word ++ drop (n + m) y = sym (take-append-drop m (drop n y)) ∙ ap₂ (λ s t. s ++ t) same (drop-drop m n y) in
+    ap₂ equal first second ∙ equal_more word (drop (n + m) x) (drop (n + m) y) ∙ ap (λ k. k + equal (drop (n + m) x) (drop (n + m) y)) long
+
+-- none, where one of both ends
+pub equal_end : (x y : List ℕ) (n : ℕ) → min (length x) (length y) ≤ n → equal (drop n x) (drop n y) ≡ 0
+equal_end x y n h = by_cases (dec_lt n (length x))
+    (λ l. ap (equal (drop n x)) (drop_of_length-le y {i = n} (omega arith)) ∙ equal_none (drop n x))
+    (λ l. ap (λ s. equal s (drop n y)) (drop_of_length-le x {i = n} (omega arith)))
+
+-- n letters that are equal in both, while what they share stands where they are: nothing is written
+pub same_turns : {outs before y x : List ℕ} {cut : Bool} (i j n : ℕ) → n ≤ equal (drop i x) (drop j y) → Cutting outs before y x i j i cut → Cutting outs before y x (i + n) (j + n) (i + n) cut
+same_turns i j ℕ.zero h M =
+    let e : i + 0 ≡ i = omega arith in
+    let f : j + 0 ≡ j = omega arith in
+    rw (e, f) M
+same_turns {y = y} {x} i j (suc n) h M =
+    let e : i + suc n ≡ i + n + 1 = omega arith in
+    let f : j + suc n ≡ j + n + 1 = omega arith in
+    let inside : i + n < length x = omega (arith, (common_prefix_len-le eqb (drop i x) (drop j y)).0, length-drop i x) in
+    let r : get_or x (i + n) 0 ≡ get_or y (j + n) 0 = sym (get_or-drop i x n 0) ∙ equal_reads (drop i x) (drop j y) n (omega arith) ∙ get_or-drop j y n 0 in
+    let N = same_turn (same_turns i j n (omega arith) M) inside r in
+    rw (e, f) (rw (set-get_or x (i + n) 0) at N)
+
+-- n letters from position i on of x, and from position j on of y: at least one, and no more than stand there
+pub record Run (x : List ℕ) (i : ℕ) (y : List ℕ) (j n : ℕ) : Type 0 where
+  pub some : 0 < n
+  pub first : i + n ≤ length x
+  pub second : j + n ≤ length y
+
+module _ {outs before y x : List ℕ} {i j w : ℕ} {cut : Bool} (M : Cutting outs before y x i j w cut) (more-there : i < length x) where
+  second_inside : j < length y
+  second_inside = letter_inside (top_of outs) y j (second_there M more-there)
+
+  pub run_one : Run x i y j 1
+  run_one = record { some = omega arith; first = omega arith; second = omega (arith, second_inside) }
+
+  module _ (e : get_or x i 0 ≡ get_or y j 0) where
+    -- all that are equal there
+    pub run_equal : Run x i y j (equal (take (length x - i) (drop i x)) (take (length y - j) (drop j y)))
+    run_equal =
+        let h = common_prefix_len-le eqb (drop i x) (drop j y) in
+        rw (to_end i x, to_end j y) (record {
+          some = equal_some x y i j more-there second_inside e;
+          first = omega (arith, h.0, length-drop i x);
+          second = omega (arith, h.1, length-drop j y, second_inside);
+        })
+
+    -- they stay where they stand
+    pub run_turn : w ≡ i → {n : ℕ} → n ≡ equal (take (length x - i) (drop i x)) (take (length y - j) (drop j y)) → Cutting outs before y (set x w (get_or x i 0)) (i + n) (j + n) (w + n) cut
+    run_turn s q = rw (s, q, to_end i x, to_end j y, set-get_or x i 0) (same_turns i j (equal (drop i x) (drop j y)) (omega arith) (rw s at M))

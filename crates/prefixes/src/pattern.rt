@@ -1,5 +1,6 @@
 // Patterns as bytes: a symbol, or 255 for ⊤, where anything may stand; in preorder, one byte each.
-ghost use Rattle.std.specs.Prelude.{ℕ, ◌*◌, ◌+◌, ◌≤◌, ◌<◌, true, ◌≡◌, length, Some, is_some};
+ghost use Rattle.std.specs.Prelude.{ℕ, ◌*◌, ◌+◌, ◌≤◌, ◌<◌, true, ◌≡◌, length, Some, is_some, nat_eq};
+ghost use Rattle.std.specs.List.{common_prefix_len};
 ghost use Rattle.prefixes.specs.Inner.Patterns.{IsPattern, end_of, CutPattern, size_after, Begins, Graftable, grafted};
 
 use formats::file::copy_at;
@@ -50,6 +51,23 @@ pub fn tree_end<L: Letter>(outs: &[u8], s: &[L], at: usize) -> usize
     p
 }
 
+// How many letters at the front of two words are equal.
+fn equal_letters(x: &[u8], y: &[u8]) -> usize
+    ensures { result ≡ common_prefix_len nat_eq x.now y.now }
+{
+    let len = x.len().min(y.len());
+    let mut n = 0;
+    // Stays: a `while`, which takes eight letters at a time, compared as one word of the machine, and ends where they differ.
+    while n + 8 <= len && y[n..n + 8].starts_with(&x[n..n + 8]) {
+        n += 8;
+    }
+    // Stays: a `while`, which ends at the first letter that differs.
+    while n < len && x[n] == y[n] {
+        n += 1;
+    }
+    n
+}
+
 // Cuts the pattern `x` to its largest common prefix with the pattern `y`, where it stands, and says how long that is if the cut took anything away.
 pub(crate) fn cut_pattern(outs: &[u8], x: &mut [u8], y: &[u8]) -> Option<usize>
     requires { IsPattern outs.now x.old × IsPattern outs.now y.now }
@@ -63,16 +81,23 @@ pub(crate) fn cut_pattern(outs: &[u8], x: &mut [u8], y: &[u8]) -> Option<usize>
     while i < x.len() {
         let k = x[i];
         if k == y[j] {
+            // Equal letters that stay where they stand are passed at once.
+            let n = if w == i {
+                equal_letters(&x[i..], &y[j..])
+            } else {
+                1
+            };
             x[w] = k;
-            i += 1;
-            j += 1;
+            i += n;
+            j += n;
+            w += n;
         } else {
             cut |= usize::from(k) < outs.len();
             i = tree_end(outs, x, i);
             j = tree_end(outs, y, j);
             x[w] = 255;
+            w += 1;
         }
-        w += 1;
     }
     cut.then_some(w)
 }
