@@ -5,21 +5,14 @@ use native.Mathlib.Nat.{add-zero}
 use native.Mathlib.Numerals.{add-one}
 use native.Mathlib.Omega.{arith}
 use mathlib.Core.Path.{◌≡◌, refl, sym, ap, ◌∙◌}
-use mathlib.Core.List.{List, [], ◌∷◌, ◌++◌, append_assoc}
-use lib.ListN.{length, take, drop, set, length-set, length-append}
+use mathlib.Core.List.{List, [], ◌∷◌, ◌++◌}
+use lib.ListN.{length, set, length-set, length-append}
 use lib.Seq.{sets, length-sets}
-use borrow.Rule.Slice.PartMut.{put_mid}
-use Rattle.std.proofs.lemmas.List.Edits.{paste_all, sets-eq}
-use Rattle.std.proofs.lemmas.Slice.{put_mid-paste}
 use Rattle.formats.specs.Inner.Written.{Wrote}
 
 pub sets-append : (v w l : List ℕ) (at : ℕ) → sets l at (v ++ w) ≡ sets (sets l at v) (at + length v) w
 sets-append [] w l at = rw add-zero
 sets-append (x ∷ v) w l at = let e : suc at + length v ≡ at + suc (length v) = omega arith in sets-append v w (set l at x) (suc at) ∙ ap (λ k. sets (sets (set l at x) (suc at) v) k w) e
-
--- a part of a list, where now stands what is to be written there
-pub part_written : (at k : ℕ) (area : List ℕ) {part from : List ℕ} → part ≡ from → k ≡ length from → at + length from ≤ length area → put_mid at k area part ≡ sets area at from
-part_written at k area {part} {from} e f h = put_mid-paste at k area part from (length from) e (sym f) refl ∙ paste_all area at from (length from) refl ∙ sym (append_assoc (take at area) from (drop (at + length from) area)) ∙ sym (sets-eq from area at h)
 
 -- all of `whole` goes to `start`, from `at` on; now it is written up to w, the list is `now`, and `left` is left
 pub record Writing (whole : List ℕ) (at : ℕ) (start left : List ℕ) (w : ℕ) (now : List ℕ) : Type 0 where

@@ -91,11 +91,14 @@ pub fn transducer_marks<'a>(stock: &[u8], sheet: &'a [u8]) -> &'a [u8]
 }
 
 // Copies `from` into `area`, from `at` on.
+// Stays: a loop, since std's copy of a slice is C's `memmove`, which callers in C need not have (include/caplune.h).
 pub fn copy_at(from: &[u8], area: &mut [u8], at: usize)
     requires { at + length from.now ≤ length area.old }
     ensures { area.new ≡ sets area.old at from.now }
 {
-    area[at..at + from.len()].copy_from_slice(from);
+    for (j, x) in from.iter().enumerate() {
+        area[at + j] = *x;
+    }
 }
 
 // Writes a word as it stands to `text`, from `at` on, and says which position is behind it.

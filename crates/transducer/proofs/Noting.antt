@@ -1,15 +1,16 @@
 -- What is noted of states and trees: the sizes and levels of what states write, and where it stands. Nothing at first, then one more.
 -- Assumes nothing.
 use Prim.Native.Nat.{ℕ, suc, ◌+◌, ◌-◌, ◌/◌, ◌%◌, ◌≤◌, ◌<◌}
+use native.Mathlib.Numerals.{add-one}
 use native.Mathlib.Omega.{arith}
 use mathlib.Core.Bool.{Bool, true, false}
 use mathlib.Core.Path.{◌≡◌, refl, sym, ap, ap₂, ◌∙◌}
 use mathlib.Core.List.{List, [], ◌∷◌, ◌++◌, append_assoc}
 use lib.Dec.{eqb}
 use lib.ListN.{length, get_or, set, take, drop, length-set, length-drop, replicate, length-replicate}
-use lib.Seq.{sets, sets-eq, length-sets, take_at, drop_at, length-take-le, drop-set-add, take-set-le, get_or-set_same, get_or-set_other}
+use lib.Seq.{sets, sets-eq, length-sets, take_at, drop_at, length-take-le, take-suc, get_or-drop, drop-set-add, take-set-le, get_or-set_same, get_or-set_other}
 use borrow.Author.Tests.{eqb-true, eqb-false}
-use Rattle.std.specs.List.{copy_within}
+use Rattle.formats.proofs.Writing.{sets-append}
 use Rattle.transducer.specs.Inner.Written.{applied, applied_levels, note_key, few_levels, Noted, StandsAt, Standing, Wrote}
 
 zeros : (n k : ℕ) → ◌≡◌ {A = ℕ} (get_or (replicate n 0) k 0) 0
@@ -126,13 +127,20 @@ module _ {ins starts bytes depths s : List ℕ} where
           rw y (S.stands j t o b (sym (ap (λ v. v / 512) (get_or-set_other keys k j note 0 z)) ∙ c) (omega (arith, y)))
 
 -- ---- copying from where it stands
--- n elements from one place on, copied to another
-pub copy_is : (l : List ℕ) (from to n at : ℕ) → from + n ≡ to → to ≤ length l → at + n ≤ length l → copy_within l from to at ≡ sets l at (take n (drop from l))
-copy_is l from to n at e h g =
+getD_before : (v l : List ℕ) (i at : ℕ) → i < at → get_or (sets l at v) i 0 ≡ get_or l i 0
+getD_before [] l i at h = refl
+getD_before (x ∷ v) l i at h = getD_before v (set l at x) i (suc at) (omega arith) ∙ get_or-set_other l at i x 0 (omega arith)
+
+-- k of n elements from one place on are copied to another, and one more
+pub copy_more : (l : List ℕ) (from n at k : ℕ) {m m' : List ℕ} → from + n ≤ at → at + n ≤ length l → k < n → m ≡ sets l at (take k (drop from l)) → m' ≡ set m (at + k) (get_or m (from + k) 0) → m' ≡ sets l at (take (k + 1) (drop from l))
+copy_more l from n at k {m} {m'} h g i e f =
     let D = drop from l in
-    let z : to - from ≡ n = omega arith in
-    let m : length (take n D) ≡ n = length-take-le n D (omega (arith, length-drop from l)) in
-    rw z (sym (sets-eq (take n D) l at (omega arith) ∙ ap (λ k. take at l ++ take n D ++ drop (at + k) l) m))
+    let x = get_or D k 0 in
+    let less : k < length D = omega (arith, length-drop from l) in
+    let y : get_or m (from + k) 0 ≡ x = ap (λ l. get_or l (from + k) 0) e ∙ getD_before (take k D) l (from + k) at (omega arith) ∙ sym (get_or-drop from l k 0) in
+    let z : at + length (take k D) ≡ at + k = ap (λ n. at + n) (length-take-le k D (omega arith)) in
+    let s : take k D ++ (x ∷ []) ≡ take (k + 1) D = rw add-one (sym (take-suc D k 0 less)) in
+    f ∙ ap (set m (at + k)) y ∙ ap (λ l. set l (at + k) x) e ∙ ap (λ i. set (sets l at (take k D)) i x) (sym z) ∙ sym (sets-append (take k D) (x ∷ []) l at) ∙ ap (sets l at) s
 
 -- what state q writes on the tree at p is noted at k, n symbols
 module _ {ins starts bytes depths s keys sizes places area : List ℕ} {at : ℕ} (S : Standing ins starts bytes depths s keys sizes places area at) (k q p : ℕ) {n : ℕ} (h : p < 4096) (e : get_or keys k 0 / 512 ≡ note_key q p) (z : n ≡ get_or sizes k 0) where

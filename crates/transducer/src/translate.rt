@@ -1,5 +1,6 @@
 // Translation (01: sewing): what the transducer of a file gives on an input tree.
-ghost use Rattle.std.specs.Prelude.{Option, Some, None, ◌≡◌, ◌+◌, ◌/◌, ◌%◌, ◌^◌, ◌≤◌, ◌<◌, max, length, get_or, set};
+ghost use Rattle.std.specs.Prelude.{Option, Some, None, ◌≡◌, ◌+◌, ◌/◌, ◌%◌, ◌^◌, ◌≤◌, ◌<◌, max, length, get_or, set, take, drop, replicate};
+ghost use Rattle.std.proofs.lemmas.List.Edits.{sets};
 ghost use Rattle.formats.specs.Inner.Layout.{body_number};
 ghost use Rattle.transducer.specs.Answers.{Translates};
 ghost use Rattle.transducer.specs.Inner.Machine.{Machine, TranslatesBy};
@@ -86,6 +87,18 @@ fn added(have: usize, n: usize, limit: usize) -> Option<usize>
     Some(have + n)
 }
 
+// Copies the `n` symbols from `from` on to `at`, behind them.
+// Stays: a loop, from the front. std's `copy_within` goes from the back here and takes a quarter more time, and its copy
+// of a slice is C's `memmove`, which callers in C need not have (include/caplune.h).
+fn copy_back(out: &mut [u8], from: usize, n: usize, at: usize)
+    requires { (from + n ≤ at) × (at + n ≤ length out.old) }
+    ensures { out.new ≡ sets out.old at (take n (drop from out.old)) }
+{
+    for k in 0..n {
+        out[at + k] = out[from + k];
+    }
+}
+
 // Writes one symbol at `at`, where there is room for it.
 fn put(out: &mut [u8], at: usize, x: u8)
     ensures { out.new ≡ set out.old at x }
@@ -133,7 +146,7 @@ impl Tables<'_> {
             }
             let place = notes.places[k] as usize;
             if place > 0 {
-                out.copy_within(place - n..place, at);
+                copy_back(out, place - n, n, at);
                 return Some(Emission { end, levels });
             }
         }
@@ -197,10 +210,9 @@ impl Tables<'_> {
         out: &mut [u8],
         limit: usize,
     ) -> Option<Emission>
-        requires { CanWalk self.now 0 to 0 left × NotedBy self.now notes.old }
+        requires { CanWalk self.now 0 to 0 left × NotedBy self.now notes.old × (notes.old.places ≡ replicate 4096 0) }
         ensures { EmittedBy self.now (walked_by self.now 0 0 to) (walked_levels_by self.now 0 0 to) 0 limit out.old out.new notes.new result }
     {
-        notes.places = [0; 4096];
         self.walk(0, to, 0, left, 0, notes, out, limit)
     }
 
@@ -229,6 +241,7 @@ impl Tables<'_> {
             copy_at(&short[..w.end], out, 0);
             return Ok(w.end);
         }
+        notes.places = [0; 4096];
         // It ends where it ended before: there is room for it.
         let again = self
             .fill(to, left, &mut notes, out, out.len())

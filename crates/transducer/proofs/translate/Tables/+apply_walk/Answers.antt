@@ -7,7 +7,7 @@ use lib.ListN.{length, get_or, length-set}
 use Rattle.transducer.specs.Inner.Written.{few_levels}
 use Rattle.transducer.specs.Inner.Tables.{applied_by, walked_by, applied_levels_by, walked_levels_by}
 use Rattle.transducer.proofs.Filling.{piece_more, piece_over, one_wrote, wrote_as, finish, levels_more, levels_done, emitted_some, emitted_none}
-use Rattle.transducer.proofs.Noting.{copy_is, standing_on, one_standing, size_there, no_room, copy_fits, copied_again}
+use Rattle.transducer.proofs.Noting.{standing_on, one_standing, size_there, no_room, copy_fits, copied_again}
 use Rattle.transducer.proofs.Walks.{walk_symbol, levels_symbol, to_skip, to_apply, walk_end, levels_end, body_fits, body_walk, some_left, few_noted}
 use Rattle.transducer.proofs.translate.Tables.+apply_walk.Goals as goal
 
@@ -33,11 +33,11 @@ apply-overflow_sub-place t c =
     let P = c.requires in
     (copy_fits P.1 c.slot-k.result c.args.q c.args.p (few_noted P.0.0).1 (c.if-note-key.true ∙ c.note_key-key.ensures) refl (c.added.ensures.end _ c.in_ok-end.was) c.if-end-out.false refl c.if-place-gt0.true).0
 
-pub apply-copy_within-requires-clause-in_bounds : goal.apply-copy_within-requires-clause-in_bounds
-apply-copy_within-requires-clause-in_bounds t c =
+pub apply-copy_back-requires : goal.apply-copy_back-requires
+apply-copy_back-requires t c =
     let P = c.requires in
     let f = copy_fits P.1 c.slot-k.result c.args.q c.args.p (few_noted P.0.0).1 (c.if-note-key.true ∙ c.note_key-key.ensures) refl (c.added.ensures.end _ c.in_ok-end.was) c.if-end-out.false refl c.if-place-gt0.true in
-    omega arith
+    (f.1, f.2)
 
 pub apply-returns-then-place-gt0 : goal.apply-returns-then-place-gt0
 apply-returns-then-place-gt0 t c =
@@ -47,8 +47,7 @@ apply-returns-then-place-gt0 t c =
     let h = (few_noted P.0.0).1 in
     let e = c.if-note-key.true ∙ c.note_key-key.ensures in
     let r = c.added.ensures.end _ c.in_ok-end.was in
-    let fits = copy_fits P.1 k a.q a.p h e refl r c.if-end-out.false refl c.if-place-gt0.true in
-    let n = copied_again P.1 k a.q a.p h e refl r c.if-end-out.false refl c.if-place-gt0.true (c.copy_within.ensures.after ∙ copy_is a.out.now _ _ _ a.at (omega arith) (omega arith) fits.2) in
+    let n = copied_again P.1 k a.q a.p h e refl r c.if-end-out.false refl c.if-place-gt0.true c.copy_back.ensures in
     emitted_some n.0 (P.1.noted.levels k a.q a.p h e) n.1
 
 pub apply-body_at-b-requires : goal.apply-body_at-b-requires

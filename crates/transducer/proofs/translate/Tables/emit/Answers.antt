@@ -14,7 +14,7 @@ use Rattle.transducer.proofs.translate.Tables.emit.Goals as goal
 pub fill-requires : goal.fill-requires
 fill-requires c =
     let s = c.args.self.now in
-    (c.requires, nothing_noted s.ins.now s.starts.now s.marks.now s.depths.now s.s.now)
+    (c.requires, nothing_noted s.ins.now s.starts.now s.marks.now s.depths.now s.s.now, refl)
 
 pub returns-in_err-w : goal.returns-in_err-w
 returns-in_err-w c =
@@ -42,7 +42,7 @@ returns-then-w-le8192 c =
     pass (omega (arith, W.end, c.if-w-out.false)) (pass (omega (arith, c.fill.ensures.levels _ e, c.if-w-gt256.false)) (accept (omega (arith, W.end), copied c.args.out.now W (omega (arith, c.if-w-le8192.true, length-replicate {A = ℕ} 8192 0)) c.copy_at.ensures)))
 
 pub fill-requires-2 : goal.fill-requires-2
-fill-requires-2 c = (c.requires, (c.fill.ensures.standing _ (some_given _ c.ok_or.ensures.value c.in_ok-w.was)).noted)
+fill-requires-2 c = (c.requires, (c.fill.ensures.standing _ (some_given _ c.ok_or.ensures.value c.in_ok-w.was)).noted, refl)
 
 pub returns-in_err-again : goal.returns-in_err-again
 returns-in_err-again c =
