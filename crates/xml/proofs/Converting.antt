@@ -7,7 +7,7 @@ use mathlib.Core.Bool.{Bool}
 use mathlib.Core.List.{List, ◌++◌}
 use mathlib.Core.Path.{◌≡◌, refl, sym, ap, ap₂, subst, ◌∙◌}
 use lib.ListN.{length, take, drop}
-use lib.Seq.{sets-eq}
+use lib.Seq.{sets, sets-eq}
 use Rattle.theory.specs.Size.{size}
 use Rattle.theory.specs.Term.{Tree}
 use Rattle.trees.specs.Alphabets.{Alphabets, outputs}
@@ -92,9 +92,7 @@ module _ {stock text outs table : List ℕ} {n : ℕ} (A : Alphabets stock) (o :
     pub short_area : {area : List ℕ} → length area < n → ReadsXml stock text area area (Err ShortTarget)
     short_area h = pass A (pass (P.one, both_in_form) (refuse (λ w. omega (arith, w.1.1, (collected w.1.0).1)) refl))
 
-    pub plan_read : {area area' : List ℕ} → n ≤ length area → area' ≡ take n table ++ drop n area → ReadsXml stock text area area' (Ok n)
+    pub plan_read : {area area' : List ℕ} → n ≤ length area → area' ≡ sets area 0 (take n table) → ReadsXml stock text area area' (Ok n)
     plan_read {area} h e =
         let c = collected both_in_form in
-        let k : n ≡ 0 + length (code P.one) = omega (arith, c.1) in
-        let w = e ∙ ap₂ (λ u m. u ++ drop m area) c.0 k ∙ sym (sets-eq (code P.one) area 0 (omega arith)) in
-        pass A (pass (P.one, both_in_form) (pass (P.one, (both_in_form, omega (arith, c.1))) (accept (P.one, (both_in_form, c.1, w)))))
+        pass A (pass (P.one, both_in_form) (pass (P.one, (both_in_form, omega (arith, c.1))) (accept (P.one, (both_in_form, c.1, e ∙ ap (sets area 0) c.0)))))

@@ -12,6 +12,7 @@ use crate::measure::measure_output;
 use crate::tag::{tag_size, tag_stands};
 use crate::walk::TagWalk;
 use codes::symbol::symbol_of;
+use formats::file::copy_at;
 use trees::alphabet::{alphabets_right, output_ranks};
 use trees::refusal::Refusal;
 
@@ -91,6 +92,6 @@ pub fn read_xml(stock: &[u8], text: &[u8], plan: &mut [u8]) -> Result<usize, Ref
     if plan.len() < n {
         return Err(Refusal::ShortTarget);
     }
-    plan[..n].copy_from_slice(kinds);
+    copy_at(kinds, plan, 0);
     Ok(n)
 }

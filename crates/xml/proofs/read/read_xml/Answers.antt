@@ -1,7 +1,5 @@
 -- `read_xml` meets its contract. Assumes nothing.
-use mathlib.Core.List.{◌++◌}
-use mathlib.Core.Path.{refl, ap}
-use lib.ListN.{drop}
+use mathlib.Core.Path.{refl}
 use Rattle.trees.proofs.Deciding.{refuted, held}
 use Rattle.trees.proofs.Judging.{refuse}
 use Rattle.xml.proofs.Converting.{no_text, short_area, plan_read}
@@ -17,4 +15,4 @@ pub returns-then-plan-n : goal.returns-then-plan-n
 returns-then-plan-n c = short_area (held c.alphabets_right.ensures c.if-not-alphabets_right.false-raw) c.output_ranks.ensures c.collect-n.ensures (held c.is_xml-right.ensures c.if-not-right.false-raw) c.if-plan-n.true
 
 pub returns : goal.returns
-returns c = plan_read (held c.alphabets_right.ensures c.if-not-alphabets_right.false-raw) c.output_ranks.ensures c.collect-n.ensures (held c.is_xml-right.ensures c.if-not-right.false-raw) c.if-plan-n.false (ap (λ l. l ++ drop c.collect-n.result c.args.plan.now) c.copy_from_slice.ensures.after)
+returns c = plan_read (held c.alphabets_right.ensures c.if-not-alphabets_right.false-raw) c.output_ranks.ensures c.collect-n.ensures (held c.is_xml-right.ensures c.if-not-right.false-raw) c.if-plan-n.false c.copy_at.ensures
