@@ -272,7 +272,7 @@ module _ {outs before y x : List ℕ} {i j w : ℕ} {cut : Bool} (M : Cutting ou
         next_turn i' j' top E.further E.inside (rw (b, c) (other_byte B C n M.paired)) (rw (b, c) (told_other cut B (lcps_other B C n) M.told))
 
 -- ---- letters that are equal
--- how many letters at the front of two words are equal
+-- how many letters at the front of two words are
 abbrev pub equal : List ℕ → List ℕ → ℕ
 equal x y = common_prefix_len eqb x y
 
@@ -340,21 +340,23 @@ same_turns {y = y} {x} i j (suc n) h M =
     rw (e, f) (rw (set-get_or x (i + n) 0) at N)
 
 -- n letters from position i on of x, and from position j on of y: at least one, and no more than stand there
-pub record Run (x : List ℕ) (i : ℕ) (y : List ℕ) (j n : ℕ) : Type 0 where
+pub record Within (x : List ℕ) (i : ℕ) (y : List ℕ) (j n : ℕ) : Type 0 where
   pub some : 0 < n
   pub first : i + n ≤ length x
   pub second : j + n ≤ length y
 
 module _ {outs before y x : List ℕ} {i j w : ℕ} {cut : Bool} (M : Cutting outs before y x i j w cut) (more-there : i < length x) where
+  -- the second word has one too
   second_inside : j < length y
   second_inside = letter_inside (top_of outs) y j (second_there M more-there)
 
-  pub run_one : Run x i y j 1
+  -- one letter
+  pub run_one : Within x i y j 1
   run_one = record { some = omega arith; first = omega arith; second = omega (arith, second_inside) }
 
   module _ (e : get_or x i 0 ≡ get_or y j 0) where
     -- all that are equal there
-    pub run_equal : Run x i y j (equal (take (length x - i) (drop i x)) (take (length y - j) (drop j y)))
+    pub run_equal : Within x i y j (equal (take (length x - i) (drop i x)) (take (length y - j) (drop j y)))
     run_equal =
         let h = common_prefix_len-le eqb (drop i x) (drop j y) in
         rw (to_end i x, to_end j y) (record {
