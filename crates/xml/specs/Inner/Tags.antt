@@ -19,9 +19,13 @@ tag_symbol (tags.Closing k) = k
 abbrev pub Known : Tag → Type 0
 Known t = tag_symbol t < 64
 
--- its parts, one behind the other, are its text
-abbrev pub HasParts : Tag → TagParts → Type 0
-HasParts t p = (p.symbol ≡ tag_symbol t) × (tag_text t ≡ tag p.before.now p.symbol p.behind.now)
+-- the parts of a tag, one behind the other
+abbrev pub parts_text : {B E : ℕ} → TagParts B E → List ℕ
+parts_text p = tag p.before p.symbol p.behind
+
+-- they are its text
+abbrev pub HasParts : {B E : ℕ} → Tag → TagParts B E → Type 0
+HasParts t p = (p.symbol ≡ tag_symbol t) × (tag_text t ≡ parts_text p)
 
 -- l begins with w
 abbrev pub Begins : List ℕ → List ℕ → Type 0
