@@ -26,9 +26,9 @@
  * with an `out` of its own, and caplune_body.
  *
  * Stack. All work memory is local. Bytes of stack of one call, measured on x86-64 (docs/AREAS.md, which has the
- * local arrays of each function): translate 184,823, symbol_at 69,863 and read_tree 57,463 on a chain of 512 levels,
- * shorter 129,015, commit 127,767, enter 127,751, question 127,719, compare 111,351, clean 107,079, earliest_form
- * 68,727, join 54,871, read_xml 12,623, is_linear 9,095, write_xml 8,511; the others under 4,600. Mind this where a
+ * local arrays of each function): translate 176,615, symbol_at 69,863 and read_tree 57,463 on a chain of 512 levels,
+ * shorter 128,991, commit 127,743, enter 127,727, question 127,695, compare 111,327, clean 107,055, earliest_form
+ * 68,703, join 54,887, read_xml 12,591, is_linear 9,095, write_xml 8,511; the others under 4,600. Mind this where a
  * thread's stack is made small.
  */
 #ifndef CAPLUNE_H

@@ -35,11 +35,11 @@
 //!
 //! The library has no state of its own and allocates nothing: calls from several threads at once do not touch each
 //! other, and every type here can be sent to another thread and shared. Work memory is on the stack: measured on
-//! x86-64, a call takes at most 184,823 bytes ([`Transducer::translate`] on 512 levels; [`Transducer::shorter`]
-//! 129,015, [`Registry::commit`] 127,767, [`Registry::enter`] 127,751, [`Registry::question`] 127,719,
-//! [`Transducer::compare`] 111,351, [`Transducer::normal_form`] 107,079, [`Transducer::symbol_at`] 69,863,
-//! [`Transducer::earliest_form`] 68,727, [`InputTree::read`] 57,463, [`Transducer::then`] 54,871,
-//! [`OutputTree::from_xml`] 12,623, [`OutputTree::to_xml`] 8,511;
+//! x86-64, a call takes at most 176,615 bytes ([`Transducer::translate`] on 512 levels; [`Transducer::shorter`]
+//! 128,991, [`Registry::commit`] 127,743, [`Registry::enter`] 127,727, [`Registry::question`] 127,695,
+//! [`Transducer::compare`] 111,327, [`Transducer::normal_form`] 107,055, [`Transducer::symbol_at`] 69,863,
+//! [`Transducer::earliest_form`] 68,703, [`InputTree::read`] 57,463, [`Transducer::then`] 54,887,
+//! [`OutputTree::from_xml`] 12,591, [`OutputTree::to_xml`] 8,511;
 //! docs/AREAS.md). A thread of Rust's usual 2 MiB is long enough; one of 512 KiB is too.
 
 mod alphabets;

@@ -23,7 +23,7 @@ enum Status {
     Differing = 1,
 }
 
-/// The stack of a command. The library takes at most 184,823 bytes of it (docs/AREAS.md), and what is here no levels of
+/// The stack of a command. The library takes at most 176,615 bytes of it (docs/AREAS.md), and what is here no levels of
 /// a tree; this is what systems usually give to a program.
 const STACK: usize = 8 << 20;
 
